@@ -1,0 +1,1 @@
+// Constants and interface descriptors.

@@ -1,0 +1,62 @@
+-- Document 01, "Annotations": refusal 9, at an annotation's first byte.
+-- Assumes nothing.
+use mathlib.Core.Bool.{Bool}
+use mathlib.Core.List.{List, [], _∷_}
+use Prim.Native.Nat.{ℕ, zero, suc, _+_, _-_, _%_}
+use lib.ListN.{length, getD}
+use Rattle.number.specs.Choice.{if_then_else_, _<?_, _≤?_, _=?_, _≠?_}
+use Rattle.number.specs.Number.{be}
+use Rattle.number.specs.Scan.{scan}
+use Rattle.number.specs.Part.{part}
+use Rattle.reading.specs.Got.{Got, got, bad, next}
+use Rattle.head.specs.declared.Header.{Header}
+
+-- tag 0 is empty; tag 1 has two texts
+pub data Annotation : Type 0 where
+  empty : Annotation
+  texts : List ℕ → List ℕ → Annotation
+
+unfoldable pub offAscii : List ℕ → ℕ → Bool
+offAscii s i = 128 ≤? getD s i 0
+
+-- the first byte from i on, before j, that is not below 0x80, or j
+unfoldable pub asciiEnd : List ℕ → ℕ → ℕ → ℕ
+asciiEnd s i j = scan (offAscii s) (j - i) i
+
+-- a text of the annotation at `place`: a 2-byte length and that many bytes below 0x80, before the limit
+unfoldable pub readText : ℕ → ℕ → List ℕ → ℕ → Got (List ℕ)
+readText place limit s p =
+    if limit <? p + 2 then bad 9 place else
+    if limit <? p + 2 + be 2 s p then bad 9 place else
+    if asciiEnd s (p + 2) (p + 2 + be 2 s p) <? p + 2 + be 2 s p then bad 9 place else
+    got (part s (p + 2) (p + 2 + be 2 s p)) (p + 2 + be 2 s p)
+
+-- what follows an annotation's first byte
+unfoldable pub readBody : ℕ → ℕ → List ℕ → ℕ → ℕ → Got Annotation
+readBody place limit s tag p =
+    if tag =? 0 then got empty p else
+    if tag ≠? 1 then bad 9 place else
+    next (readText place limit s p) λ x e.
+    next (readText place limit s e) λ y e.
+    got (texts x y) e
+
+-- one annotation: top bit "last", 7 bits tag; one that would start at the limit is at fault
+unfoldable pub readAnnotation : ℕ → List ℕ → ℕ → Got Annotation
+readAnnotation limit s p = if limit ≤? p then bad 9 p else readBody p limit s (getD s p 0 % 128) (p + 1)
+
+-- those from p on, at most f of them, up to the first that is marked last
+unfoldable pub annotationsWithin : ℕ → ℕ → List ℕ → ℕ → Got (List Annotation)
+annotationsWithin zero limit s p = bad 9 p
+annotationsWithin (suc f) limit s p =
+    next (readAnnotation limit s p) λ a e.
+    if 128 ≤? getD s p 0 then got (a ∷ []) e else
+    next (annotationsWithin f limit s e) λ more e.
+    got (a ∷ more) e
+
+-- Annotations start at 32. Each takes a byte at least, so there are no more than bytes.
+unfoldable pub readAnnotations : ℕ → List ℕ → Got (List Annotation)
+readAnnotations limit s = annotationsWithin limit limit s 32
+
+-- they end at or before the directory, the pool when n = 0
+unfoldable pub annotationLimit : Header → ℕ
+annotationLimit h = if h .count =? 0 then h .pool else h .directory

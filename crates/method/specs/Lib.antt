@@ -1,0 +1,3 @@
+pub mod Parameter
+pub mod Numbers
+pub mod Method

@@ -1,0 +1,53 @@
+-- Document 01, "Rules between fields": the argument numbers of types, and the result rule.
+-- Assumes nothing.
+use mathlib.Core.Bool.{Bool, true, false}
+use mathlib.Core.List.{List, [], _∷_}
+use Prim.Native.Nat.{ℕ, _/_, _%_}
+use lib.ListN.{length, getD}
+use Rattle.number.specs.Choice.{if_then_else_, _<?_, _≤?_, _=?_, _≠?_}
+use Rattle.types.specs.Types.{Ty, simple, interface, interfaceIs, array, sized, prefix}
+use Rattle.method.specs.Parameter.{Param, paramFlags, paramType}
+
+-- the prefixes of the arguments' types, by argument number
+unfoldable pub prefixes : {R : Type 0} → List (Param R) → List ℕ
+prefixes [] = []
+prefixes (x ∷ ps) = prefix (paramType x) ∷ prefixes ps
+
+-- argument number a is not below the argument count, or doesn't name a parameter of tag 14 with pointer
+unfoldable pub wrongIid : List ℕ → ℕ → Bool
+wrongIid pre a =
+    if length pre ≤? a then true else
+    if getD pre a 0 % 32 ≠? 14 then true else
+    getD pre a 0 <? 128
+
+-- argument number a is not below the argument count, or doesn't name a parameter of tag 6 without pointer
+unfoldable pub wrongSize : List ℕ → ℕ → Bool
+wrongSize pre a =
+    if length pre ≤? a then true else
+    if getD pre a 0 % 32 ≠? 6 then true else
+    128 ≤? getD pre a 0
+
+-- size and length
+unfoldable pub wrongSizes : List ℕ → ℕ → ℕ → Bool
+wrongSizes pre x y = if wrongSize pre x then true else wrongSize pre y
+
+-- of a type, inside array elements at any depth
+unfoldable pub wrongNumbers : {R : Type 0} → List ℕ → Ty R → Bool
+wrongNumbers pre (simple b) = false
+wrongNumbers pre (interface b i) = false
+wrongNumbers pre (interfaceIs b a) = wrongIid pre a
+wrongNumbers pre (array b x y t) = if wrongSizes pre x y then true else wrongNumbers pre t
+wrongNumbers pre (sized b x y) = wrongSizes pre x y
+
+-- of a method's arguments
+unfoldable pub wrongArguments : {R : Type 0} → List ℕ → List (Param R) → Bool
+wrongArguments pre [] = false
+wrongArguments pre (x ∷ ps) = if wrongNumbers pre (paramType x) then true else wrongArguments pre ps
+
+-- Unless not-XPCOM, 0x20 of the method's flags f, or the result has retval, 0x20 of its flags g, the result is tag 13 or 6 without pointer; b is its prefix.
+unfoldable pub wrongResult : ℕ → ℕ → ℕ → Bool
+wrongResult f g b =
+    if f / 32 % 2 =? 1 then false else
+    if g / 32 % 2 =? 1 then false else
+    if b =? 13 then false else
+    b ≠? 6

@@ -1,0 +1,42 @@
+-- Document 01, "Parameter": flags and a type.
+-- Assumes nothing.
+use mathlib.Core.Bool.{Bool, true, false}
+use mathlib.Core.List.{List}
+use Prim.Native.Nat.{ℕ, _+_, _/_, _%_}
+use Rattle.number.specs.Choice.{if_then_else_, _≤?_, _=?_, _≠?_}
+use Rattle.reading.specs.Got.{Got, got, bad, next, byte}
+use Rattle.reading.specs.declared.Context.{Context}
+use Rattle.types.specs.Types.{Ty, readType}
+
+pub data Param (R : Type 0) : Type 0 where
+  param : ℕ → Ty R → Param R
+  deriving Discrete as Param-discrete
+
+unfoldable pub paramFlags : {R : Type 0} → Param R → ℕ
+paramFlags (param f t) = f
+
+unfoldable pub paramType : {R : Type 0} → Param R → Ty R
+paramType (param f t) = t
+
+-- three reserved bits; with minor 0 dipper, 0x08, is reserved too
+unfoldable pub reservedParam : ℕ → ℕ → Bool
+reservedParam minor f =
+    if f % 8 ≠? 0 then true else
+    if minor =? 0 then f / 8 % 2 =? 1 else
+    false
+
+-- a result has neither in nor out; an argument with retval, 0x20, has out, 0x40
+unfoldable pub wrongParam : Bool → ℕ → Bool
+wrongParam result f =
+    if result then 64 ≤? f else
+    if f / 32 % 2 =? 1 then f / 64 % 2 =? 0 else
+    false
+
+-- an argument or, where `result` says so, a result; its type may hold eight arrays one inside another
+unfoldable pub readParam : Bool → Context → List ℕ → ℕ → Got (Param ℕ)
+readParam result c s p =
+    next (byte c s p) λ f e.
+    if reservedParam (c .minor) f then bad 14 (c .base + p) else
+    if wrongParam result f then bad 16 (c .base + p) else
+    next (readType 8 c s e) λ t e.
+    got (param f t) e

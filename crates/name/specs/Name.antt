@@ -1,0 +1,57 @@
+-- Identifiers, and the pool pointers that lead to them.
+-- Assumes nothing.
+use mathlib.Core.Bool.{Bool, true, false}
+use mathlib.Core.List.{List, [], _∷_}
+use Prim.Native.Nat.{ℕ, _+_, _-_}
+use lib.ListN.{length}
+use Rattle.number.specs.Choice.{if_then_else_, _<?_, _≤?_, _=?_}
+use Rattle.reading.specs.Got.{Got, got, bad, next, field}
+use Rattle.reading.specs.declared.Context.{Context}
+use Rattle.key.specs.Word.{wordEnd, wordAt}
+
+-- an ASCII letter, a digit or _
+unfoldable pub letter : ℕ → Bool
+letter b =
+    if b <? 48 then false else
+    if b <? 58 then true else
+    if b <? 65 then false else
+    if b <? 91 then true else
+    if b =? 95 then true else
+    if b <? 97 then false else
+    b <? 123
+
+unfoldable pub letters : List ℕ → Bool
+letters [] = true
+letters (b ∷ w) = if letter b then letters w else false
+
+-- Document 01, "Identifier", of the bytes before the zero byte: 1 to 255 letters. A name is judged whole.
+unfoldable pub isIdentifier : List ℕ → Bool
+isIdentifier w =
+    if length w =? 0 then false else
+    if 255 <? length w then false else
+    letters w
+
+-- the identifier at p; a fault is that of the pointer field at `place`
+unfoldable pub readIdentifier : List ℕ → ℕ → ℕ → Got (List ℕ)
+readIdentifier s place p =
+    if length s ≤? wordEnd s p then bad 11 place else
+    if isIdentifier (wordAt s p) then got (wordAt s p) (wordEnd s p + 1) else
+    bad 11 place
+
+-- Document 01, "Pool pointer": what the pointer q leads to, 1 being the pool's first byte, where a name must be present
+unfoldable pub follow : List ℕ → ℕ → ℕ → Got (List ℕ)
+follow s place q =
+    if q =? 0 then bad 11 place else
+    if length s <? q then bad 13 place else
+    readIdentifier s place (q - 1)
+
+-- a namespace may be absent: the default, which has no bytes
+unfoldable pub followSpace : List ℕ → ℕ → ℕ → Got (List ℕ)
+followSpace s place q = if q =? 0 then got [] 0 else follow s place q
+
+-- a name pointer of four bytes in the pool, and the identifier it leads to
+unfoldable pub readName : Context → List ℕ → ℕ → Got (List ℕ)
+readName c s p =
+    next (field 4 c s p) λ q e.
+    next (follow s (c .base + p) q) λ w _.
+    got w e

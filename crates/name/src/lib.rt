@@ -1,0 +1,1 @@
+// Identifiers, and the pool pointers that lead to them.

@@ -1,0 +1,4 @@
+pub mod Choice
+pub mod Number
+pub mod Scan
+pub mod Part

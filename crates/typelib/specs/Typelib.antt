@@ -1,0 +1,77 @@
+-- A whole file, in the order of document 01: 1 to 8; annotations; the directory; descriptors; 18; 19.
+-- Assumes nothing.
+use mathlib.Core.List.{List}
+use mathlib.Core.Option.{Option}
+use Prim.Native.Nat.{ℕ, _+_, _*_}
+use lib.ListN.{length, drop}
+use Rattle.number.specs.Choice.{if_then_else_, _<?_}
+use Rattle.reading.specs.Got.{Got, got, bad, next, many}
+use Rattle.reading.specs.declared.Context.{Context}
+use Rattle.head.specs.declared.Header.{Header}
+use Rattle.head.specs.Header.{readHeader}
+use Rattle.head.specs.Annotation.{Annotation, readAnnotations, annotationLimit}
+use Rattle.directory.specs.Directory.{Row, readDirectory}
+use Rattle.descriptor.specs.Descriptor.{Descriptor}
+use Rattle.typelib.specs.Entry.{Entry, readOwn, entriesOf}
+use Rattle.typelib.specs.Across.{firstRepeated, firstCircling}
+use Rattle.typelib.specs.declared.Verdict.{Verdict}
+use Rattle.typelib.specs.declared.Verdict.the-variants.{Accepted, Refused}
+
+-- what is read before the descriptors
+pub data Front : Type 0 where
+  front : Header → List Annotation → List Row → Front
+
+-- the pool runs to the file's end
+unfoldable pub poolOf : Header → List ℕ → List ℕ
+poolOf h s = drop (h .pool) s
+
+-- what the file says to every record
+unfoldable pub contextOf : Header → Context
+contextOf h = record { base = h .pool; minor = h .minor; count = h .count }
+
+-- header, annotations, directory
+unfoldable pub readFront : List ℕ → Got Front
+readFront s =
+    next (readHeader s) λ h _.
+    next (readAnnotations (annotationLimit h) s) λ notes _.
+    next (readDirectory s (poolOf h s) (h .count) (h .directory)) λ rows _.
+    got (front h notes rows) (length s)
+
+-- the descriptors, in directory order
+unfoldable pub readDescriptors : Header → List ℕ → Got (List (Option (Descriptor ℕ)))
+readDescriptors h s = many (readOwn (contextOf h) s (poolOf h s)) (h .count) (h .directory)
+
+pub data Typelib : Type 0 where
+  typelib : Header → List Annotation → List (Entry ℕ) → Typelib
+
+unfoldable pub headerOf : Typelib → Header
+headerOf (typelib h notes es) = h
+
+unfoldable pub notesOf : Typelib → List Annotation
+notesOf (typelib h notes es) = notes
+
+unfoldable pub entriesIn : Typelib → List (Entry ℕ)
+entriesIn (typelib h notes es) = es
+
+-- the rules across entries; entry places are file offsets
+unfoldable pub ruleEntries : Header → List Annotation → List (Entry ℕ) → ℕ → Got Typelib
+ruleEntries h notes es e =
+    if firstRepeated es (h .count) <? h .count then bad 18 (h .directory + 28 * firstRepeated es (h .count)) else
+    if firstCircling es (h .count) <? h .count then bad 19 (h .directory + 28 * firstCircling es (h .count)) else
+    got (typelib h notes es) e
+
+-- what follows the front
+unfoldable pub readBehind : List ℕ → Front → ℕ → Got Typelib
+readBehind s (front h notes rows) e =
+    next (readDescriptors h s) λ ds _.
+    ruleEntries h notes (entriesOf rows ds) e
+
+unfoldable pub readTypelib : List ℕ → Got Typelib
+readTypelib s =
+    next (readFront s) λ f e.
+    readBehind s f e
+
+-- the answer of the check, with document 01's number and place for a refusal, n for an accepted file
+unfoldable pub verdictOf : Got Typelib → Verdict
+verdictOf (got t e) = Accepted (headerOf t .count)
+verdictOf (bad n q) = Refused (record { no = n; place = q })
