@@ -231,7 +231,7 @@ impl<'a> Typelib<'a> {
                 passed[index - 1] = walk;
                 index = usize::from(parents[index - 1]);
             }
-            if i < index && passed[index - 1] == walk {
+            if index != 0 && passed[index - 1] == walk {
                 return refused(19, self.entry(i));
             }
         }
@@ -421,14 +421,14 @@ impl<'a> Reader<'_, 'a> {
         if !good {
             return refused(16, place);
         }
-        let prefix = self.lib.file.get(self.at).copied().unwrap_or(0);
-        self.type_(named)?;
+        let prefix = self.type_(named)?;
         Ok(Parameter { flags, prefix })
     }
 
-    /// Type, with the elements of its arrays.
+    /// Type, with the elements of its arrays. Gives the outermost prefix.
     #[inline]
-    fn type_(&mut self, named: &mut Named) -> Result<(), Refusal> {
+    fn type_(&mut self, named: &mut Named) -> Result<u8, Refusal> {
+        let start = self.at;
         let mut arrays = 0;
         loop {
             let place = self.at;
@@ -464,7 +464,7 @@ impl<'a> Reader<'_, 'a> {
                 }
                 _ => {}
             }
-            return Ok(());
+            return Ok(self.lib.file[start]);
         }
     }
 

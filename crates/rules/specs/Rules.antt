@@ -1,0 +1,204 @@
+-- The rules of document 01 on a decoded file, each as a predicate that can be read by itself; none is a test of the reader.
+-- `minor` is the file's minor version, n its number of interfaces.
+-- Assumes nothing.
+use mathlib.Core.Path.{_≡_}
+use mathlib.Core.Logic.{_⊎_}
+use mathlib.Core.List.{List, [], _∷_}
+use mathlib.Core.Option.{Option, none, some}
+use Prim.Native.Nat.{ℕ, zero, suc, _+_, _-_, _*_, _/_, _%_, _≤_, _<_}
+use lib.ListN.{length, getD}
+use Rattle.key.specs.Key.{Key, key}
+use Rattle.types.specs.Types.{Ty, simple, interface, interfaceIs, array, sized, prefix}
+use Rattle.method.specs.Parameter.{Param, param, paramFlags, paramType}
+use Rattle.method.specs.Method.{Signature, signature, Method, method, methodFlags, methodName, noMethod}
+use Rattle.descriptor.specs.Constant.{Constant, constant}
+use Rattle.descriptor.specs.Descriptor.{Descriptor, descriptor}
+use Rattle.typelib.specs.Entry.{Entry, entry, entryKey, entryIid, entryDescriptor, noEntry}
+use Rattle.typelib.specs.Across.{above}
+
+-- every element
+abbrev pub All : {X : Type 0} → (X → Type 0) → List X → Type 0
+All P [] = Unit {0}
+All P (x ∷ xs) = P x × All P xs
+
+-- ---- identifiers
+
+-- an ASCII letter, a digit or _
+abbrev pub Letter : ℕ → Type 0
+Letter b = ((48 ≤ b) × (b ≤ 57)) ⊎ (((65 ≤ b) × (b ≤ 90)) ⊎ ((b ≡ 95) ⊎ ((97 ≤ b) × (b ≤ 122))))
+
+pub record Identifier (w : List ℕ) : Type 0 where
+  pub some : 1 ≤ length w
+  pub few : length w ≤ 255
+  pub letters : All Letter w
+
+-- ---- types
+
+pub record PrefixRule (minor b : ℕ) : Type 0 where
+  -- 23 to 31 are reserved, and with minor 0 tag 15
+  pub known : b % 32 ≤ 22
+  pub astring : b % 32 ≡ 15 → minor ≡ 0 → ⊥
+  -- unique and reference need pointer
+  pub unique : b / 64 % 2 ≡ 1 → 128 ≤ b
+  pub reference : b / 32 % 2 ≡ 1 → 128 ≤ b
+  -- tags 16 to 22 need pointer
+  pub pointer : 16 ≤ b % 32 → 128 ≤ b
+
+-- an index of the directory
+abbrev pub InDirectory : ℕ → ℕ → Type 0
+InDirectory n i = (1 ≤ i) × (i ≤ n)
+
+-- prefixes and indexes, inside array elements at any depth
+abbrev pub TypeRule : ℕ → ℕ → Ty ℕ → Type 0
+TypeRule minor n (simple b) = PrefixRule minor b
+TypeRule minor n (interface b i) = PrefixRule minor b × InDirectory n i
+TypeRule minor n (interfaceIs b a) = PrefixRule minor b
+TypeRule minor n (array b x y t) = PrefixRule minor b × TypeRule minor n t
+TypeRule minor n (sized b x y) = PrefixRule minor b
+
+-- arrays one inside another
+abbrev pub nesting : {R : Type 0} → Ty R → ℕ
+nesting (simple b) = 0
+nesting (interface b i) = 0
+nesting (interfaceIs b a) = 0
+nesting (array b x y t) = suc (nesting t)
+nesting (sized b x y) = 0
+
+-- ---- parameters and methods
+
+-- reserved bits are zero; with minor 0 also 0x08
+pub record FlagRule (minor f : ℕ) : Type 0 where
+  pub reserved : f % 8 ≡ 0
+  pub dipper : minor ≡ 0 → f / 8 % 2 ≡ 0
+
+-- a parameter's flags and type, apart from what an argument and a result may be
+pub record ParamRule (minor n : ℕ) (x : Param ℕ) : Type 0 where
+  pub flags : FlagRule minor (paramFlags x)
+  pub type : TypeRule minor n (paramType x)
+  pub nested : nesting (paramType x) ≤ 8
+
+-- an argument with retval has out
+abbrev pub ArgumentRule : ℕ → ℕ → Param ℕ → Type 0
+ArgumentRule minor n x = ParamRule minor n x × (paramFlags x / 32 % 2 ≡ 1 → paramFlags x / 64 % 2 ≡ 1)
+
+-- a result has neither in nor out
+abbrev pub ResultRule : ℕ → ℕ → Param ℕ → Type 0
+ResultRule minor n x = ParamRule minor n x × (paramFlags x / 128 % 2 ≡ 0) × (paramFlags x / 64 % 2 ≡ 0)
+
+-- what stands past the arguments
+abbrev pub prefixAt : List (Param ℕ) → ℕ → ℕ
+prefixAt ps a = prefix (paramType (getD ps a (param 0 (simple 0))))
+
+-- argument number a names a parameter of tag 14 with pointer
+abbrev pub NamesIid : List (Param ℕ) → ℕ → Type 0
+NamesIid ps a = (a < length ps) × (prefixAt ps a % 32 ≡ 14) × (128 ≤ prefixAt ps a)
+
+-- argument number a names a parameter of tag 6 without pointer
+abbrev pub NamesSize : List (Param ℕ) → ℕ → Type 0
+NamesSize ps a = (a < length ps) × (prefixAt ps a % 32 ≡ 6) × (prefixAt ps a < 128)
+
+-- of a type, inside array elements at any depth
+abbrev pub NumbersRule : List (Param ℕ) → Ty ℕ → Type 0
+NumbersRule ps (simple b) = Unit {0}
+NumbersRule ps (interface b i) = Unit {0}
+NumbersRule ps (interfaceIs b a) = NamesIid ps a
+NumbersRule ps (array b x y t) = NamesSize ps x × NamesSize ps y × NumbersRule ps t
+NumbersRule ps (sized b x y) = NamesSize ps x × NamesSize ps y
+
+pub record SignatureRule (minor n f : ℕ) (ps : List (Param ℕ)) (r : Param ℕ) : Type 0 where
+  pub arguments : All (ArgumentRule minor n) ps
+  pub result : ResultRule minor n r
+  pub numbers : All (λ x. NumbersRule ps (paramType x)) ps
+  pub resultNumbers : NumbersRule ps (paramType r)
+  -- unless not-XPCOM or the result has retval, the result is tag 13 or 6 without pointer
+  pub resultKind : (f / 32 % 2 ≡ 1) ⊎ ((paramFlags r / 32 % 2 ≡ 1) ⊎ ((prefix (paramType r) ≡ 13) ⊎ (prefix (paramType r) ≡ 6)))
+
+abbrev pub MethodRule : ℕ → ℕ → Method ℕ → Type 0
+MethodRule minor n (method f w (signature ps r)) = (f % 8 ≡ 0) × Identifier w × SignatureRule minor n f ps r
+
+-- ---- constants and descriptors
+
+-- type byte exactly 1, 2, 5 or 6
+abbrev pub ConstantRule : Constant → Type 0
+ConstantRule (constant w k v) = Identifier w × ((k ≡ 1) ⊎ ((k ≡ 2) ⊎ ((k ≡ 5) ⊎ (k ≡ 6))))
+
+abbrev pub flagsOf : List (Method ℕ) → ℕ → ℕ
+flagsOf ms i = methodFlags (getD ms i noMethod)
+
+abbrev pub nameOf : List (Method ℕ) → ℕ → List ℕ
+nameOf ms i = methodName (getD ms i noMethod)
+
+-- one interface has at most one constructor
+abbrev pub OneConstructor : List (Method ℕ) → Type 0
+OneConstructor ms = (i j : ℕ) → i < length ms → j < length ms → flagsOf ms i / 16 % 2 ≡ 1 → flagsOf ms j / 16 % 2 ≡ 1 → i ≡ j
+
+-- whenever own method i is a getter and own method j a setter of the same name, j = i + 1
+abbrev pub GetterPairs : List (Method ℕ) → Type 0
+GetterPairs ms = (i j : ℕ) → i < length ms → j < length ms → flagsOf ms i / 128 % 2 ≡ 1 → flagsOf ms j / 64 % 2 ≡ 1 → nameOf ms i ≡ nameOf ms j → j ≡ i + 1
+
+abbrev pub ParentRule : ℕ → Option ℕ → Type 0
+ParentRule n none = Unit {0}
+ParentRule n (some i) = InDirectory n i
+
+pub record DescriptorRules (minor n : ℕ) (up : Option ℕ) (ms : List (Method ℕ)) (ks : List Constant) (f : ℕ) : Type 0 where
+  pub parent : ParentRule n up
+  pub fewMethods : length ms ≤ 1024
+  pub methods : All (MethodRule minor n) ms
+  pub fewConstants : length ks ≤ 1024
+  pub constants : All ConstantRule ks
+  -- six reserved bits, with minor 0 also 0x40
+  pub reserved : f % 64 ≡ 0
+  pub function : minor ≡ 0 → f / 64 % 2 ≡ 0
+  pub constructors : OneConstructor ms
+  pub pairs : GetterPairs ms
+
+abbrev pub DescriptorRule : ℕ → ℕ → Descriptor ℕ → Type 0
+DescriptorRule minor n (descriptor up ms ks f) = DescriptorRules minor n up ms ks f
+
+-- ---- entries
+
+-- the default namespace has no bytes
+abbrev pub SpaceRule : List ℕ → Type 0
+SpaceRule v = (v ≡ []) ⊎ Identifier v
+
+-- a descriptor needs a nonzero IID
+abbrev pub OwnRule : ℕ → ℕ → ℕ → Option (Descriptor ℕ) → Type 0
+OwnRule minor n i none = Unit {0}
+OwnRule minor n i (some d) = (i ≡ 0 → ⊥) × DescriptorRule minor n d
+
+abbrev pub EntryRule : ℕ → ℕ → Entry ℕ → Type 0
+EntryRule minor n (entry (key v w) i d) = Identifier w × SpaceRule v × OwnRule minor n i d
+
+abbrev pub iidOf : List (Entry ℕ) → ℕ → ℕ
+iidOf es i = entryIid (getD es i noEntry)
+
+abbrev pub keyOf : List (Entry ℕ) → ℕ → Key
+keyOf es i = entryKey (getD es i noEntry)
+
+-- IIDs never fall, and only zero IIDs may be equal
+abbrev pub InOrder : List (Entry ℕ) → Type 0
+InOrder es = (i j : ℕ) → i < j → j < length es → (iidOf es i ≡ 0) ⊎ (iidOf es i < iidOf es j)
+
+-- keys are unique
+abbrev pub UniqueKeys : List (Entry ℕ) → Type 0
+UniqueKeys es = (i j : ℕ) → i < j → j < length es → keyOf es i ≡ keyOf es j → ⊥
+
+-- the index above that of an entry, counted from 1; 0 above an entry without parent, above an unresolved one, and above 0
+abbrev pub up : List (Entry ℕ) → ℕ → ℕ
+up es zero = 0
+up es (suc i) = above (entryDescriptor (getD es i noEntry))
+
+-- k steps up
+abbrev pub climb : ℕ → List (Entry ℕ) → ℕ → ℕ
+climb zero es i = i
+climb (suc k) es i = climb k es (up es i)
+
+-- no parent chain returns to an entry it has passed: where it comes to the same index twice, it has ended
+abbrev pub NoCycle : List (Entry ℕ) → Type 0
+NoCycle es = (i a b : ℕ) → i < length es → a < b → climb a es (i + 1) ≡ climb b es (i + 1) → climb a es (i + 1) ≡ 0
+
+pub record EntriesRule (minor n : ℕ) (es : List (Entry ℕ)) : Type 0 where
+  pub each : All (EntryRule minor n) es
+  pub order : InOrder es
+  pub keys : UniqueKeys es
+  pub chains : NoCycle es

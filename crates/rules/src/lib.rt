@@ -1,0 +1,1 @@
+// What accepting a file means: which values its bytes show, and which rules a value obeys. Definitions and theorems only.

@@ -1,0 +1,509 @@
+//! Good typelibs of every shape, from fixed seeds.
+
+use crate::builder::*;
+use crate::check::{MAX_CONSTANTS, MAX_FILE, MAX_IDENTIFIER, MAX_INTERFACES, MAX_METHODS};
+use crate::rng::Rng;
+use std::collections::{HashMap, HashSet};
+
+/// The largest counts of a random typelib.
+#[derive(Clone, Copy)]
+pub struct Size {
+    pub entries: usize,
+    pub methods: usize,
+    pub arguments: usize,
+    pub constants: usize,
+    pub name: usize,
+}
+
+pub const SMALL: Size = Size { entries: 3, methods: 3, arguments: 4, constants: 2, name: 4 };
+pub const MEDIUM: Size = Size { entries: 12, methods: 6, arguments: 6, constants: 4, name: 12 };
+pub const LARGE: Size = Size { entries: 60, methods: 12, arguments: 10, constants: 8, name: 40 };
+
+const LETTERS: &[u8; 63] = b"ABCDEFGHIJKLMNOPQRSTUVWXYZabcdefghijklmnopqrstuvwxyz0123456789_";
+
+pub fn identifier(rng: &mut Rng, longest: usize) -> Vec<u8> {
+    let length = match rng.below(100) {
+        0 => MAX_IDENTIFIER,
+        1..=10 => 1,
+        _ => rng.range(1, longest),
+    };
+    (0..length).map(|_| *rng.pick(LETTERS)).collect()
+}
+
+/// An IID that ends in the number.
+pub fn iid(number: u64) -> [u8; 16] {
+    let mut iid = [0; 16];
+    iid[8..].copy_from_slice(&number.to_be_bytes());
+    iid
+}
+
+fn iids(rng: &mut Rng, count: usize) -> Vec<[u8; 16]> {
+    let mut set = HashSet::new();
+    let style = rng.below(4);
+    while set.len() < count {
+        let mut id = iid(1 + rng.below(4 * count) as u64);
+        match style {
+            0 => id.iter_mut().for_each(|b| *b = rng.byte()),
+            1 => id.reverse(),
+            2 => id[..8].fill(0xff),
+            _ => {}
+        }
+        if id != [0; 16] {
+            set.insert(id);
+        }
+    }
+    let mut sorted: Vec<_> = set.into_iter().collect();
+    sorted.sort_unstable();
+    sorted
+}
+
+/// What the types of one method may use.
+struct Scope<'a> {
+    minor: u8,
+    n: usize,
+    iids: &'a [u8],
+    sizes: &'a [u8],
+}
+
+impl Scope<'_> {
+    /// Pointer, unique and reference as the tag allows.
+    fn prefix(&self, rng: &mut Rng, tag: u8) -> u8 {
+        if tag < 16 && rng.percent(60) {
+            return tag;
+        }
+        let more = if rng.percent(60) { 0 } else { rng.byte() & (UNIQUE | REFERENCE) };
+        tag | POINTER | more
+    }
+
+    fn allows(&self, tag: u8) -> bool {
+        match tag {
+            15 => self.minor == 1,
+            INTERFACE => self.n > 0,
+            INTERFACE_IS => !self.iids.is_empty(),
+            20..=22 => !self.sizes.is_empty(),
+            _ => true,
+        }
+    }
+
+    fn of(&self, rng: &mut Rng) -> Type {
+        let mut arrays = Vec::new();
+        if self.allows(ARRAY) && rng.percent(25) {
+            let depth = if rng.percent(20) { 8 } else { rng.range(1, 4) };
+            for _ in 0..depth {
+                let prefix = self.prefix(rng, ARRAY);
+                arrays.push([prefix, *rng.pick(self.sizes), *rng.pick(self.sizes)]);
+            }
+        }
+        let tag = loop {
+            let tag = rng.below(23) as u8;
+            if tag != ARRAY && self.allows(tag) {
+                break tag;
+            }
+        };
+        let tail = match tag {
+            INTERFACE => {
+                let [high, low] = (rng.range(1, self.n) as u16).to_be_bytes();
+                [high, low, 0]
+            }
+            INTERFACE_IS => [*rng.pick(self.iids), 0, 0],
+            21 | 22 => [*rng.pick(self.sizes), *rng.pick(self.sizes), 0],
+            _ => [0; 3],
+        };
+        Type { arrays, leaf: self.prefix(rng, tag), tail }
+    }
+}
+
+fn argument_flags(rng: &mut Rng, minor: u8) -> u8 {
+    let dipper = if minor == 1 { DIPPER } else { 0 };
+    let mut flags = rng.byte() & (IN | OUT | SHARED | dipper);
+    if flags & OUT != 0 && rng.percent(30) {
+        flags |= RETVAL;
+    }
+    flags
+}
+
+pub fn method(
+    rng: &mut Rng,
+    minor: u8,
+    n: usize,
+    flags: u8,
+    name: &[u8],
+    arguments: usize,
+) -> Method {
+    // Some arguments are there to be named by the numbers of others, before or after them.
+    let mut kinds = Vec::new();
+    let (mut iids, mut sizes) = (Vec::new(), Vec::new());
+    for number in 0..arguments as u8 {
+        let kind = rng.below(5);
+        match kind {
+            0 => iids.push(number),
+            1 => sizes.push(number),
+            _ => {}
+        }
+        kinds.push(kind);
+    }
+    let scope = Scope { minor, n, iids: &iids, sizes: &sizes };
+    let mut list = Vec::new();
+    for kind in kinds {
+        let of = match kind {
+            0 => Type::simple(IID | POINTER | (rng.byte() & (UNIQUE | REFERENCE))),
+            1 => Type::simple(UINT32),
+            _ => scope.of(rng),
+        };
+        list.push(Parameter::new(argument_flags(rng, minor), of));
+    }
+    let dipper = if minor == 1 { DIPPER } else { 0 };
+    let mut result_flags = rng.byte() & rng.byte() & (RETVAL | SHARED | dipper);
+    if rng.percent(50) {
+        result_flags = 0;
+    }
+    let free = flags & NOT_XPCOM != 0 || result_flags & RETVAL != 0;
+    let of = match free {
+        true => scope.of(rng),
+        false => Type::simple(*rng.pick(&[VOID, UINT32, UINT32])),
+    };
+    Method::new(flags, name, list, Parameter::new(result_flags, of))
+}
+
+fn descriptor(
+    rng: &mut Rng,
+    minor: u8,
+    n: usize,
+    size: Size,
+    words: &[Vec<u8>],
+    parent: u16,
+) -> Descriptor {
+    let mut d = Descriptor { parent, ..Descriptor::default() };
+    // What each accessor name is used for: GETTER, SETTER or both as a pair.
+    let mut used: HashMap<Vec<u8>, u8> = HashMap::new();
+    let mut constructor = rng.percent(30);
+    let count = rng.range(0, size.methods);
+    while d.methods.len() < count {
+        let name = rng.pick(words).clone();
+        let mut flags = rng.byte() & rng.byte() & (NOT_XPCOM | HIDDEN);
+        let kind = rng.below(6);
+        let before = used.get(&name).copied().unwrap_or(0);
+        let mut pair = false;
+        match kind {
+            0 if before & SETTER == 0 => flags |= GETTER,
+            1 if before & GETTER == 0 => flags |= SETTER,
+            2 if before == 0 => {
+                flags |= GETTER;
+                pair = true;
+            }
+            _ => {}
+        }
+        if constructor && rng.percent(30) {
+            flags |= CONSTRUCTOR;
+            constructor = false;
+        }
+        if flags & (GETTER | SETTER) != 0 {
+            *used.entry(name.clone()).or_default() |= flags & (GETTER | SETTER);
+        }
+        let arguments = rng.range(0, size.arguments);
+        d.methods.push(method(rng, minor, n, flags, &name, arguments));
+        if pair {
+            *used.entry(name.clone()).or_default() |= SETTER;
+            let arguments = rng.range(0, 2);
+            d.methods.push(method(rng, minor, n, SETTER, &name, arguments));
+        }
+    }
+    for _ in 0..rng.range(0, size.constants) {
+        let value = *rng.pick(&[0, 1, 0x7fff, 0x8000, 0xffff, 0x7fff_ffff, 0x8000_0000, u32::MAX]);
+        d.constants.push(Constant::new(rng.pick(words), *rng.pick(&[1, 2, 5, 6]), value));
+    }
+    d.flags = rng.byte() & if minor == 1 { 0xc0 } else { 0x80 };
+    d
+}
+
+pub fn annotations(rng: &mut Rng) -> Vec<Annotation> {
+    let text = |rng: &mut Rng| {
+        let length = rng.below(6);
+        (0..length).map(|_| rng.byte() & 0x7f).collect()
+    };
+    let count = if rng.percent(60) { 1 } else { rng.range(1, 5) };
+    let mut list = Vec::new();
+    for _ in 0..count {
+        list.push(match rng.percent(60) {
+            true => Annotation::Empty,
+            false => Annotation::Texts(text(rng), text(rng)),
+        });
+    }
+    list
+}
+
+/// A good typelib of up to the given size, in a random layout.
+pub fn random(rng: &mut Rng, size: Size) -> Typelib {
+    let minor = u8::from(rng.percent(70));
+    let n = rng.range(0, size.entries);
+    let zeros = if rng.percent(50) { 0 } else { rng.range(0, n) };
+    let words: Vec<_> = (0..8).map(|_| identifier(rng, size.name)).collect();
+
+    let mut lib = Typelib {
+        minor,
+        annotations: annotations(rng),
+        directory_gap: if rng.percent(80) { 0 } else { rng.below(9) },
+        pool_gap: if rng.percent(80) { 0 } else { rng.below(9) },
+        record_gap: if rng.percent(80) { 0 } else { rng.below(4) },
+        tail: if rng.percent(80) { 0 } else { rng.below(9) },
+        junk: if rng.percent(50) { 0 } else { rng.next() >> 1 },
+        order: *rng.pick(&[Order::Entries, Order::NamesFirst, Order::NamesLast, Order::Shuffled]),
+        sharing: *rng.pick(&[Sharing::None, Sharing::None, Sharing::Equal, Sharing::Overlap]),
+        ..Typelib::default()
+    };
+
+    let mut keys = HashSet::new();
+    let ids = iids(rng, n - zeros);
+    let mut descriptors = 0;
+    for i in 0..n {
+        let (namespace, name) = loop {
+            let word = |rng: &mut Rng| match rng.percent(50) {
+                true => rng.pick(&words).clone(),
+                false => identifier(rng, size.name),
+            };
+            let namespace = rng.percent(40).then(|| word(rng));
+            let key = (namespace, word(rng));
+            if keys.insert(key.clone()) {
+                break key;
+            }
+        };
+        let iid = if i < zeros { [0; 16] } else { ids[i - zeros] };
+        let mut descriptor = None;
+        if i >= zeros && rng.percent(85) {
+            if descriptors == 0 || rng.percent(85) {
+                descriptors += 1;
+                descriptor = Some(descriptors - 1);
+            } else {
+                descriptor = Some(rng.below(descriptors));
+            }
+        }
+        lib.entries.push(Entry { iid, name, namespace, descriptor });
+    }
+    // A descriptor's parent is unresolved or has a lower descriptor, so that chains end.
+    let mut renumbered: Vec<usize> = (0..descriptors).collect();
+    rng.shuffle(&mut renumbered);
+    for entry in &mut lib.entries {
+        entry.descriptor = entry.descriptor.map(|d| renumbered[d]);
+    }
+    for d in 0..descriptors {
+        let may_be = |i: &usize| lib.entries[i - 1].descriptor.is_none_or(|other| other < d);
+        let parents: Vec<usize> = (1..=n).filter(may_be).collect();
+        let parent = match parents.is_empty() || rng.percent(40) {
+            true => 0,
+            false => *rng.pick(&parents) as u16,
+        };
+        lib.descriptors.push(descriptor(rng, minor, n, size, &words, parent));
+    }
+    lib
+}
+
+/// One entry with IID 1 and name `A`, directory at 36, pool at 64.
+pub fn single(descriptor: Descriptor) -> Typelib {
+    let entry = Entry { iid: iid(1), name: b"A".to_vec(), namespace: None, descriptor: Some(0) };
+    Typelib { entries: vec![entry], descriptors: vec![descriptor], ..Typelib::default() }
+}
+
+/// Entries `E0`, `E1`, .. with IIDs from 1, unresolved.
+pub fn entries(count: usize) -> Vec<Entry> {
+    let entry = |i: usize| Entry {
+        iid: iid(i as u64 + 1),
+        name: format!("E{i}").into_bytes(),
+        namespace: None,
+        descriptor: None,
+    };
+    (0..count).map(entry).collect()
+}
+
+/// Appends unused bytes up to the given length.
+pub fn filled_to(lib: &Typelib, length: usize) -> Typelib {
+    let mut filled = lib.clone();
+    filled.tail += length - lib.bytes().len();
+    filled
+}
+
+/// P1, P2 and P3 of document 01.
+pub fn marked() -> [Vec<u8>; 3] {
+    let p1 = Typelib { pool_gap: 3, ..Typelib::default() }.bytes();
+    let tank = Entry { iid: [0; 16], name: b"Tank".to_vec(), namespace: None, descriptor: None };
+    let p2 = Typelib { entries: vec![tank], ..Typelib::default() }.bytes();
+    let constants = vec![Constant::new(b"K", 1, 0xfffe)];
+    let p3 = single(Descriptor { constants, flags: 0x80, ..Descriptor::default() }).bytes();
+    [p1, p2, p3]
+}
+
+/// Methods each of which ends in a descriptor's head, so that as many descriptors as methods
+/// overlap: the one that starts in method i's last four bytes has the methods after i.
+///
+/// The head is the last argument `00 00` and the result `00 t` of a not-XPCOM method: parent 0
+/// and t methods, t being the result's tag; so there are at most 15 methods after the first.
+/// Gives the descriptors' places and the file; entry i + 2 leads to the head in method i.
+pub fn overlapping_heads(rng: &mut Rng, count: usize) -> Vec<u8> {
+    assert!((1..=16).contains(&count));
+    let mut methods = Vec::new();
+    for i in 0..count {
+        let mut arguments = Vec::new();
+        for _ in 0..rng.below(3) {
+            arguments.push(Parameter::new(argument_flags(rng, 1), Type::simple(UINT32)));
+        }
+        arguments.push(Parameter::new(0, Type::simple(0)));
+        let result = Parameter::new(0, Type::simple((count - 1 - i) as u8));
+        let flags = NOT_XPCOM | (rng.byte() & HIDDEN);
+        methods.push(Method::new(flags, &identifier(rng, 5), arguments, result));
+    }
+    let constants = vec![Constant::new(b"Z", 6, rng.next() as u32); rng.below(3)];
+    let outer = Descriptor { parent: 0, methods, constants, flags: 0xc0 };
+    let mut lib = Typelib { entries: entries(count + 1), ..Typelib::default() };
+    lib.entries[0].descriptor = Some(lib.add(outer));
+    lib.order = *rng.pick(&[Order::Entries, Order::NamesFirst, Order::NamesLast]);
+    let built = lib.build();
+    let mut bytes = built.bytes.clone();
+    for i in 0..count {
+        let head = built.placed[0].methods[i + 1] - 4;
+        let pointer = (head - built.pool + 1) as u32;
+        bytes[built.entry(i + 1) + 24..][..4].copy_from_slice(&pointer.to_be_bytes());
+    }
+    bytes
+}
+
+/// Good typelibs at the edges of what is allowed.
+pub fn special() -> Vec<Typelib> {
+    let mut all = Vec::new();
+    let empty = Typelib::default();
+    let rng = &mut Rng::new(1);
+
+    // 33 bytes, and no entries with gaps, annotations and an unused pool.
+    all.push(empty.clone());
+    for tail in [0, 1, 2, 3, 100] {
+        for pool_gap in [0, 1, 5, 1000] {
+            all.push(Typelib { tail, pool_gap, junk: 5, ..empty.clone() });
+        }
+    }
+    let text = |length: usize| vec![b'x'; length];
+    for (first, second) in [(0, 0), (0, 1), (1, 0), (127, 128), (65_535, 0), (300, 65_535)] {
+        let annotations = vec![Annotation::Texts(text(first), text(second)), Annotation::Empty];
+        all.push(Typelib { annotations: annotations.clone(), ..empty.clone() });
+        all.push(Typelib { annotations, entries: entries(2), ..empty.clone() });
+    }
+    all.push(Typelib { annotations: vec![Annotation::Empty; 1000], ..empty.clone() });
+
+    // The directory farther on.
+    for directory_gap in [1, 2, 7, 63, 64, 1000] {
+        all.push(Typelib { directory_gap, junk: 9, entries: entries(3), ..empty.clone() });
+    }
+
+    // Identifiers of 1 and 255 bytes, also as namespaces; keys that join to the same text.
+    let mut names = Typelib { entries: entries(6), ..empty.clone() };
+    names.entries[0].name = text(MAX_IDENTIFIER);
+    names.entries[1].name = text(1);
+    names.entries[1].namespace = Some(text(MAX_IDENTIFIER));
+    names.entries[2].namespace = Some(b"ab".to_vec());
+    names.entries[2].name = b"c".to_vec();
+    names.entries[3].namespace = Some(b"a".to_vec());
+    names.entries[3].name = b"bc".to_vec();
+    names.entries[4].name = b"abc".to_vec();
+    names.entries[5].namespace = Some(b"c".to_vec());
+    names.entries[5].name = b"ab".to_vec();
+    for sharing in [Sharing::None, Sharing::Equal, Sharing::Overlap] {
+        all.push(Typelib { sharing, ..names.clone() });
+    }
+    all.push(filled_to(&names, 60_000));
+
+    // The greatest counts.
+    let mut many = Typelib { entries: entries(MAX_INTERFACES), ..empty.clone() };
+    all.push(many.clone());
+    all.push(filled_to(&many, MAX_FILE));
+    many.entries[..500].iter_mut().for_each(|entry| entry.iid = [0; 16]);
+    all.push(many.clone());
+    for i in 500..MAX_INTERFACES {
+        let parent = if i == 500 { 7 } else { i as u16 };
+        let d = many.add(Descriptor { parent, ..Descriptor::default() });
+        many.entries[i].descriptor = Some(d);
+    }
+    all.push(many.clone());
+    many.sharing = Sharing::Equal;
+    all.push(many);
+    let methods = vec![Method::plain(0, b"m"); MAX_METHODS];
+    let constants = vec![Constant::new(b"k", 2, 7); MAX_CONSTANTS];
+    for sharing in [Sharing::None, Sharing::Equal] {
+        let methods_only = Descriptor { methods: methods.clone(), ..Descriptor::default() };
+        all.push(Typelib { sharing, ..single(methods_only) });
+        let constants_only = Descriptor { constants: constants.clone(), ..Descriptor::default() };
+        all.push(Typelib { sharing, ..single(constants_only) });
+    }
+    let both = Descriptor { methods, constants, ..Descriptor::default() };
+    all.push(filled_to(&single(both), MAX_FILE));
+    all.push(filled_to(&empty, MAX_FILE));
+    all.push(filled_to(&empty, MAX_FILE - 1));
+    all.push(Typelib { pool_gap: MAX_FILE - 33, ..empty.clone() });
+
+    // Many accessors: pairs one after another, then getters and setters without partner.
+    let mut accessors = Vec::new();
+    for i in 0..300 {
+        let name = format!("attribute{i}").into_bytes();
+        accessors.push(Method::plain(GETTER, &name));
+        accessors.push(Method::plain(SETTER, &name));
+    }
+    accessors.extend(vec![Method::plain(GETTER, b"read"); 200]);
+    accessors.extend(vec![Method::plain(SETTER, b"write"); 200]);
+    all.push(single(Descriptor { methods: accessors, ..Descriptor::default() }));
+
+    // 255 arguments, eight arrays, numbers that name the last argument.
+    let mut arguments = Vec::new();
+    for i in 0..254 {
+        let of = match i % 4 {
+            0 => Type::nested(8, 254, POINTER | 21, [254, 254, 0]),
+            1 => Type::nested(i % 9, 254, POINTER | INTERFACE, [0, 1, 0]),
+            2 => Type::with(POINTER | INTERFACE_IS, [3, 0, 0]),
+            _ => Type::simple(POINTER | IID),
+        };
+        arguments.push(Parameter::new(IN, of));
+    }
+    arguments.push(Parameter::new(IN, Type::simple(UINT32)));
+    let result = Parameter::new(RETVAL, Type::nested(8, 254, 15, [0; 3]));
+    let wide = Method::new(0, b"wide", arguments, result);
+    all.push(single(Descriptor { methods: vec![wide; 3], ..Descriptor::default() }));
+
+    // Every tag, plain and in arrays, as argument and as result.
+    for minor in [0, 1] {
+        for tag in (0..=22).filter(|&tag| tag != 15 || minor == 1) {
+            let prefix = if tag >= 16 { POINTER | tag } else { tag };
+            let tail = match tag {
+                INTERFACE => [0, 1, 0],
+                INTERFACE_IS => [1, 0, 0],
+                _ => [2, 2, 0],
+            };
+            let depths = if tag == ARRAY { 0..=7 } else { 0..=8 };
+            let mut methods = Vec::new();
+            for depth in depths {
+                let of = Type::nested(depth, 2, prefix, tail);
+                let iid = Parameter::new(IN, Type::simple(POINTER | IID));
+                let size = Parameter::new(IN, Type::simple(UINT32));
+                let arguments = vec![Parameter::new(IN | OUT, of.clone()), iid, size];
+                let result = Parameter::new(0, of);
+                methods.push(Method::new(NOT_XPCOM, b"f", arguments, result));
+            }
+            let d = Descriptor { methods, ..Descriptor::default() };
+            all.push(Typelib { minor, ..single(d) });
+        }
+    }
+
+    // A long chain of parents in both directions.
+    for down in [false, true] {
+        let count = 200;
+        let mut chain = Typelib { entries: entries(count), ..empty.clone() };
+        for i in 0..count {
+            let parent = match down {
+                false => i,
+                true if i + 1 == count => 0,
+                true => i + 2,
+            };
+            let d = chain.add(Descriptor { parent: parent as u16, ..Descriptor::default() });
+            chain.entries[i].descriptor = Some(d);
+        }
+        all.push(chain);
+    }
+    for _ in 0..6 {
+        all.push(random(rng, LARGE));
+    }
+    all
+}
