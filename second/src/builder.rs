@@ -194,6 +194,8 @@ pub struct Typelib {
     /// Seed of the bytes in gaps; 0 makes them zero.
     pub junk: u64,
     pub order: Order,
+    /// A descriptor that stands last in the pool, whatever the order of the others.
+    pub last: Option<usize>,
     pub sharing: Sharing,
     pub entries: Vec<Entry>,
     pub descriptors: Vec<Descriptor>,
@@ -210,6 +212,7 @@ impl Default for Typelib {
             tail: 0,
             junk: 0,
             order: Order::Entries,
+            last: None,
             sharing: Sharing::None,
             entries: Vec::new(),
             descriptors: Vec::new(),
@@ -556,6 +559,10 @@ impl Typelib {
             Order::NamesFirst => records.sort_by_key(|r| !is_name(r)),
             Order::NamesLast => records.sort_by_key(is_name),
             Order::Shuffled => rng.shuffle(&mut records),
+        }
+        if self.last.is_some() {
+            let is_last = |r: &Record| matches!(r, Record::Descriptor(d) if Some(*d) == self.last);
+            records.sort_by_key(is_last);
         }
 
         let mut pool = Pool {

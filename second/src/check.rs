@@ -185,10 +185,10 @@ impl<'a> Typelib<'a> {
         let Some(at) = self.target(field)? else {
             return refused(11, field);
         };
-        let rest = &self.file[at..];
-        let mut letters = rest.iter().take(MAX_IDENTIFIER + 1);
-        match letters.position(|&b| !LETTERS[usize::from(b)]) {
-            Some(length) if length > 0 && rest[length] == 0 => Ok(&rest[..length]),
+        let end = self.file.len().min(at + MAX_IDENTIFIER + 1);
+        let bytes = &self.file[at..end];
+        match bytes.iter().position(|&b| !LETTERS[usize::from(b)]) {
+            Some(length) if length > 0 && bytes[length] == 0 => Ok(&bytes[..length]),
             _ => refused(11, field),
         }
     }
@@ -204,7 +204,7 @@ impl<'a> Typelib<'a> {
                 continue;
             };
             if good.insert(start) {
-                Reader { lib: self, at: start }.descriptor(&mut accessors)?;
+                Reader { lib: self, file: self.file, at: start }.descriptor(&mut accessors)?;
             }
             parents.push(u16::from_be_bytes([self.file[start], self.file[start + 1]]));
         }
@@ -279,21 +279,10 @@ struct Named {
     sizes: Numbers,
 }
 
-#[derive(Clone, Copy, PartialEq, Eq)]
-enum Role {
-    Argument,
-    Result,
-}
-
-/// What stays of a parameter: its flags and its outermost prefix.
-struct Parameter {
-    flags: u8,
-    prefix: u8,
-}
-
 /// Reads records in the pool from left to right.
 struct Reader<'l, 'a> {
     lib: &'l Typelib<'a>,
+    file: &'a [u8],
     at: usize,
 }
 
@@ -302,7 +291,7 @@ impl<'a> Reader<'_, 'a> {
     #[inline]
     fn field(&mut self, length: usize) -> Result<usize, Refusal> {
         let place = self.at;
-        if self.lib.file.len() - place < length {
+        if self.file.len() - place < length {
             return refused(13, place);
         }
         self.at = place + length;
@@ -311,14 +300,20 @@ impl<'a> Reader<'_, 'a> {
 
     #[inline]
     fn byte(&mut self) -> Result<u8, Refusal> {
-        let place = self.field(1)?;
-        Ok(self.lib.file[place])
+        let place = self.at;
+        match self.file.get(place) {
+            Some(&byte) => {
+                self.at = place + 1;
+                Ok(byte)
+            }
+            None => refused(13, place),
+        }
     }
 
     #[inline]
     fn pair(&mut self) -> Result<u16, Refusal> {
         let place = self.field(2)?;
-        Ok(u16::from_be_bytes([self.lib.file[place], self.lib.file[place + 1]]))
+        Ok(u16::from_be_bytes([self.file[place], self.file[place + 1]]))
     }
 
     #[inline]
@@ -385,44 +380,54 @@ impl<'a> Reader<'_, 'a> {
         let mut iids = Numbers::default();
         let mut sizes = Numbers::default();
         for number in 0..self.byte()? {
-            let prefix = self.parameter(Role::Argument, &mut named)?.prefix;
+            let prefix = self.argument(&mut named)?;
             match (prefix & 0x1f, prefix & 0x80 != 0) {
                 (14, true) => iids.insert(number),
                 (6, false) => sizes.insert(number),
                 _ => {}
             }
         }
-        let result = self.parameter(Role::Result, &mut named)?;
-        let free_result = flags & 0x20 != 0 || result.flags & 0x20 != 0;
-        let plain_result = result.prefix == 13 || result.prefix == 6;
-        if !(named.iids.within(&iids)
-            && named.sizes.within(&sizes)
-            && (free_result || plain_result))
-        {
+        let (result_flags, result) = self.result(&mut named)?;
+        let numbers_stand = named.iids.within(&iids) && named.sizes.within(&sizes);
+        let free_result = flags & 0x20 != 0 || result_flags & 0x20 != 0;
+        if !numbers_stand || !(free_result || result == 13 || result == 6) {
             return refused(16, start);
         }
         Ok((flags, name))
     }
 
-    /// Parameter: an argument or a result.
+    /// A parameter's flags, as far as arguments and results have the same rules.
     #[inline]
-    fn parameter(&mut self, role: Role, named: &mut Named) -> Result<Parameter, Refusal> {
+    fn parameter_flags(&mut self) -> Result<u8, Refusal> {
         let place = self.at;
         let flags = self.byte()?;
         let reserved = if self.lib.minor == 0 { 0x0f } else { 0x07 };
         if flags & reserved != 0 {
             return refused(14, place);
         }
-        let (is_in, is_out, is_retval) = (flags & 0x80 != 0, flags & 0x40 != 0, flags & 0x20 != 0);
-        let good = match role {
-            Role::Argument => is_out || !is_retval,
-            Role::Result => !is_in && !is_out,
-        };
-        if !good {
+        Ok(flags)
+    }
+
+    /// Parameter as an argument: its outermost prefix.
+    #[inline]
+    fn argument(&mut self, named: &mut Named) -> Result<u8, Refusal> {
+        let place = self.at;
+        let flags = self.parameter_flags()?;
+        if flags & 0x20 != 0 && flags & 0x40 == 0 {
             return refused(16, place);
         }
-        let prefix = self.type_(named)?;
-        Ok(Parameter { flags, prefix })
+        self.type_(named)
+    }
+
+    /// Parameter as a result: its flags and its outermost prefix.
+    #[inline]
+    fn result(&mut self, named: &mut Named) -> Result<(u8, u8), Refusal> {
+        let place = self.at;
+        let flags = self.parameter_flags()?;
+        if flags & 0xc0 != 0 {
+            return refused(16, place);
+        }
+        Ok((flags, self.type_(named)?))
     }
 
     /// Type, with the elements of its arrays. Gives the outermost prefix.
@@ -464,7 +469,7 @@ impl<'a> Reader<'_, 'a> {
                 }
                 _ => {}
             }
-            return Ok(self.lib.file[start]);
+            return Ok(self.file[start]);
         }
     }
 

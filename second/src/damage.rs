@@ -23,8 +23,9 @@ const CHAINS: u8 = 19;
 pub struct Damage {
     what: &'static str,
     patches: Vec<(usize, Vec<u8>)>,
-    /// A pointer field that must keep leading to the damaged bytes.
-    needs: Option<usize>,
+    /// Fields on which the fault rests: pointers to the damaged bytes, those copied to other
+    /// places, neighbouring IIDs.
+    needs: Vec<usize>,
     refusal: Refusal,
     rank: Rank,
 }
@@ -46,7 +47,7 @@ impl Damage {
     /// The ranges that another damage must leave alone.
     fn ranges(&self) -> impl Iterator<Item = (usize, usize)> + '_ {
         let patched = self.patches.iter().map(|(at, new)| (*at, at + new.len()));
-        patched.chain(self.needs.map(|at| (at, at + 4)))
+        patched.chain(self.needs.iter().map(|at| (*at, at + 4)))
     }
 
     fn apart(&self, other: &Damage) -> bool {
@@ -90,7 +91,14 @@ impl Collector<'_> {
         patches: Vec<(usize, Vec<u8>)>,
     ) {
         let refusal = Refusal { number, place };
-        self.all.push(Damage { what, patches, needs: None, refusal, rank });
+        self.all.push(Damage { what, patches, needs: Vec::new(), refusal, rank });
+    }
+
+    /// Fields that the last damage needs as they are.
+    fn need(&mut self, fields: &[usize]) {
+        if let Some(damage) = self.all.last_mut() {
+            damage.needs.extend_from_slice(fields);
+        }
     }
 
     fn header(&mut self) {
@@ -201,7 +209,8 @@ impl Collector<'_> {
                         }
                     }
                     // The first text fits, but not the length of the second.
-                    let second = b.spots[..i].iter().any(|s| s.field == AnnotationLength && s.of == spot.of);
+                    let second =
+                        b.spots[..i].iter().any(|s| s.field == AnnotationLength && s.of == spot.of);
                     if !second {
                         for new in [room, room.saturating_sub(1)] {
                             if new <= 0xffff {
@@ -221,6 +230,7 @@ impl Collector<'_> {
                         if new > 0 {
                             let new = (new as u32).to_be_bytes().to_vec();
                             self.add("12 zero IID", 12, at, rank, vec![(at, new)]);
+                            self.need(&[b.entry(spot.of)]);
                         }
                     }
                 } else {
@@ -336,9 +346,11 @@ impl Collector<'_> {
         }
         for patch in equal {
             self.add("10 equal", 10, at, rank, vec![patch]);
+            self.need(&[at - 28, at]);
         }
         for patch in falls {
             self.add("10 falls", 10, at, rank, vec![patch]);
+            self.need(&[at - 28, at]);
         }
         let after_zero = i == 0 || b.bytes[at - 28..at - 12] == [0; 16];
         if own != [0; 16] && after_zero && self.lib.entries[i].descriptor.is_some() {
@@ -360,23 +372,9 @@ impl Collector<'_> {
             self.add("11 bad byte", 11, field, rank, vec![(spot.at + k, vec![byte])]);
         }
         self.add("11 empty", 11, field, rank, vec![(spot.at, vec![0])]);
-        let room = self.built.bytes.len() - spot.at;
-        if room > MAX_IDENTIFIER {
-            // 256 letters and more, over whatever stands behind.
-            let letters = MAX_IDENTIFIER + 1 + self.rng.below(room - MAX_IDENTIFIER);
-            let patch = vec![(spot.at, vec![b'q'; letters.min(300)])];
-            if self.lib.order == Order::NamesLast && spot.at > self.last_fixed() {
-                self.add("11 too long", 11, field, rank, patch);
-            }
-        }
         for damage in &mut self.all[first..] {
-            damage.needs = Some(field);
+            damage.needs = vec![field];
         }
-    }
-
-    /// The end of the last descriptor in the pool.
-    fn last_fixed(&self) -> usize {
-        self.built.placed.iter().map(|placed| placed.flags).max().unwrap_or(self.built.pool)
     }
 
     fn prefix(&mut self, spot: Spot, rank: Rank) {
@@ -412,7 +410,8 @@ impl Collector<'_> {
             let method = &method[spot.method];
             let free = (method.flags | method.result.flags) & 0x20 != 0;
             if !free {
-                for new in [0, 4, 5, 7, 10, 12, 14, 0x80, 0x86, 0x8d, 0x8e, 0x90, 0x91, 0xe6, 0xcd] {
+                for new in [0, 4, 5, 7, 10, 12, 14, 0x80, 0x86, 0x8d, 0x8e, 0x90, 0x91, 0xe6, 0xcd]
+                {
                     self.method_fault("16 result rule", spot, patch(new));
                 }
                 if self.lib.minor == 1 {
@@ -461,6 +460,7 @@ impl Collector<'_> {
                 let pointers = b.bytes[b.entry(earlier) + 16..][..8].to_vec();
                 let patch = vec![(b.entry(i) + 16, pointers)];
                 self.add("18 key", 18, b.entry(i), (KEYS, i, 0, 0), patch);
+                self.need(&[b.entry(earlier) + 16, b.entry(earlier) + 20]);
             }
         }
     }
@@ -475,8 +475,7 @@ impl Collector<'_> {
         let flags = |i: usize, more: u8| (placed.methods[i], vec![methods[i].flags | more]);
         let name = |i: usize| b.bytes[placed.methods[i] + 1..][..4].to_vec();
         let rename = |i: usize, from: usize| (placed.methods[i] + 1, name(from));
-        for i in 0..count {
-            let method = &methods[i];
+        for (i, method) in methods.iter().enumerate() {
             let result = method.result.of.prefix();
             let plain = result == VOID || result == UINT32;
             if method.flags & NOT_XPCOM != 0 && method.result.flags & RETVAL == 0 && !plain {
@@ -498,6 +497,7 @@ impl Collector<'_> {
                 if j != i + 1 {
                     let pair = vec![flags(i, GETTER), flags(j, SETTER), rename(j, i)];
                     self.add("16 getter pair apart", 16, placed.at, rank, pair);
+                    self.need(&[placed.methods[i] + 1]);
                 } else if j + 1 < count {
                     let three = vec![
                         flags(i, GETTER),
@@ -507,6 +507,7 @@ impl Collector<'_> {
                         rename(j + 1, i),
                     ];
                     self.add("16 getter, getter, setter", 16, placed.at, rank, three);
+                    self.need(&[placed.methods[i] + 1]);
                 }
             }
         }
@@ -516,23 +517,22 @@ impl Collector<'_> {
     fn parents(&mut self) {
         let b = self.built;
         let entries = &self.lib.entries;
-        for d in 0..b.placed.len() {
-            if b.placed[d].entry == usize::MAX {
-                continue;
-            }
-            for i in 0..b.n {
-                let mut changed: Vec<u16> = self.lib.descriptors.iter().map(|d| d.parent).collect();
-                changed[d] = i as u16 + 1;
-                let parents: Vec<usize> = entries
-                    .iter()
-                    .map(|entry| entry.descriptor.map_or(0, |d| usize::from(changed[d])))
-                    .collect();
-                if let Some(lowest) = lowest_endless(&parents) {
-                    let own = entries[i].descriptor == Some(d);
-                    let what = if own { "19 own parent" } else { "19 cycle" };
-                    let patch = vec![(b.placed[d].at, changed[d].to_be_bytes().to_vec())];
-                    self.add(what, 19, b.entry(lowest), (CHAINS, lowest, 0, 0), patch);
-                }
+        let used = |d: &usize| b.placed[*d].entry != usize::MAX;
+        let mut trials: Vec<(usize, usize)> = Vec::new();
+        for d in (0..b.placed.len()).filter(used) {
+            trials.extend((0..b.n).map(|i| (d, i)));
+        }
+        self.rng.shuffle(&mut trials);
+        for (d, i) in trials.into_iter().take(500) {
+            let mut changed: Vec<u16> = self.lib.descriptors.iter().map(|d| d.parent).collect();
+            changed[d] = i as u16 + 1;
+            let parent = |entry: &Entry| entry.descriptor.map_or(0, |d| usize::from(changed[d]));
+            let parents: Vec<usize> = entries.iter().map(parent).collect();
+            if let Some(lowest) = lowest_endless(&parents) {
+                let own = entries[i].descriptor == Some(d);
+                let what = if own { "19 own parent" } else { "19 cycle" };
+                let patch = vec![(b.placed[d].at, changed[d].to_be_bytes().to_vec())];
+                self.add(what, 19, b.entry(lowest), (CHAINS, lowest, 0, 0), patch);
             }
         }
     }
@@ -561,18 +561,19 @@ fn set_length(bytes: &mut [u8]) {
     bytes[20..24].copy_from_slice(&length);
 }
 
-/// Every known fault alone, and `pairs` times two at once: the one met first is given.
-pub fn single_and_paired(lib: &Typelib, seed: u64, pairs: usize, sink: &mut Sink) {
+/// Known faults alone, up to `singles`, and `pairs` times two at once: the one met first is given.
+pub fn single_and_paired(lib: &Typelib, seed: u64, singles: usize, pairs: usize, sink: &mut Sink) {
     let built = lib.build();
     let good = &built.bytes;
-    let all = damages(lib, &built, seed);
+    let mut all = damages(lib, &built, seed);
     let mut bytes = good.clone();
-    for damage in &all {
+    let mut rng = Rng::new(seed);
+    rng.shuffle(&mut all);
+    for damage in all.iter().take(singles) {
         damage.apply(&mut bytes);
         sink(&bytes, Some(Err(damage.refusal)), damage.what);
         damage.undo(&mut bytes, good);
     }
-    let mut rng = Rng::new(seed);
     for _ in 0..pairs {
         let (a, b) = (rng.pick(&all), rng.pick(&all));
         if !a.apart(b) {
@@ -610,34 +611,39 @@ fn field_label(field: Field) -> &'static str {
     }
 }
 
-/// Cuts inside the record that stands last in the pool, the length field set to the rest.
+/// Cuts inside the record that stands last in the pool, the length field set to the rest: every
+/// descriptor in turn, then a name.
 pub fn cut_last_record(lib: &Typelib, sink: &mut Sink) {
-    assert!(lib.sharing == Sharing::None);
-    let built = Typelib { tail: 0, ..lib.clone() }.build();
-    let end = built.bytes.len();
-    let mut cut = |length: usize, number: u32, place: usize, what: &'static str| {
-        let mut bytes = built.bytes[..length].to_vec();
+    let lib = Typelib { tail: 0, sharing: Sharing::None, ..lib.clone() };
+    let mut cut = |good: &[u8], length: usize, number: u32, place: usize, what: &'static str| {
+        let mut bytes = good[..length].to_vec();
         set_length(&mut bytes);
         sink(&bytes, refused(number, place), what);
     };
-    for (d, placed) in built.placed.iter().enumerate() {
-        if placed.flags + 1 != end || placed.entry == usize::MAX {
+    for d in 0..lib.descriptors.len() {
+        let order = Order::NamesFirst;
+        let built = Typelib { order, last: Some(d), ..lib.clone() }.build();
+        let good = &built.bytes;
+        let placed = &built.placed[d];
+        if placed.entry == usize::MAX {
             continue;
         }
-        cut(placed.at, 13, built.entry(placed.entry) + 24, "13 descriptor cut away");
-        for length in placed.at + 1..end {
-            let in_it = |s: &&Spot| s.of == d && s.at >= placed.at && s.field != Field::Identifier;
-            let misses = |s: &&Spot| s.at + s.length > length;
-            let spot = built.spots.iter().filter(in_it).find(misses).unwrap();
-            cut(length, 13, spot.at, field_label(spot.field));
+        cut(good, placed.at, 13, built.entry(placed.entry) + 24, "13 descriptor cut away");
+        let inside = |s: &&Spot| s.of == d && s.at >= placed.at && s.field != Field::Identifier;
+        let fields: Vec<_> = built.spots.iter().filter(inside).collect();
+        for length in placed.at + 1..good.len() {
+            let spot = fields.iter().find(|spot| spot.at + spot.length > length).unwrap();
+            cut(good, length, 13, spot.at, field_label(spot.field));
         }
     }
+    let built = Typelib { order: Order::NamesLast, ..lib }.build();
+    let end = built.bytes.len();
     for spot in built.spots.iter().filter(|spot| spot.field == Field::Identifier) {
         if spot.at + spot.length + 1 == end {
             let field = built.spots[spot.of].at;
-            cut(spot.at, 13, field, "13 name cut away");
+            cut(&built.bytes, spot.at, 13, field, "13 name cut away");
             for length in spot.at + 1..end {
-                cut(length, 11, field, "11 unfinished");
+                cut(&built.bytes, length, 11, field, "11 unfinished");
             }
         }
     }
@@ -795,8 +801,8 @@ pub fn headers(rng: &mut Rng, sink: &mut Sink) {
     for _ in 0..200 {
         let mut bytes = p1[..32].to_vec();
         set_length(&mut bytes);
-        for at in 24..32 {
-            bytes[at] = rng.byte() & if rng.percent(50) { 0 } else { 0xff };
+        for byte in &mut bytes[24..32] {
+            *byte = if rng.percent(50) { 0 } else { rng.byte() };
         }
         bytes[31] = *rng.pick(&[0, 31, 32, 33, 36]);
         bytes[19] = rng.below(3) as u8;
@@ -817,7 +823,8 @@ pub fn headers(rng: &mut Rng, sink: &mut Sink) {
         let length = good.len() as u32;
         for n in [0_u16, 1, 2, 3, 1024, 1025, 0xffff] {
             for directory in [0, 4, 32, 33, 34, 36, 40, 64, 0xffff_ffe4, 0xffff_fffc, length] {
-                for pool in [0, 31, 32, 33, 36, 37, 63, 64, 65, length - 1, length, length + 1, !0] {
+                for pool in [0, 31, 32, 33, 36, 37, 63, 64, 65, length - 1, length, length + 1, !0]
+                {
                     let mut bytes = good.clone();
                     bytes[18..20].copy_from_slice(&n.to_be_bytes());
                     bytes[24..28].copy_from_slice(&directory.to_be_bytes());
@@ -833,7 +840,8 @@ pub fn headers(rng: &mut Rng, sink: &mut Sink) {
 pub fn short_annotations(sink: &mut Sink) {
     let alphabet = [0x00, 0x80, 0x01, 0x81, 0x02, 0x7f, 0xff];
     for n in [0, 1] {
-        let lib = Typelib { entries: entries(n), directory_gap: 1, pool_gap: 4, ..Typelib::default() };
+        let lib =
+            Typelib { entries: entries(n), directory_gap: 1, pool_gap: 4, ..Typelib::default() };
         let built = lib.build();
         let mut bytes = built.bytes.clone();
         let room = built.limit() - 32;
@@ -882,7 +890,8 @@ fn one_prefix(minor: u8, flags: u8, depth: usize, prefix: u8, in_result: bool, s
         Parameter::new(IN, Type::simple(UINT32)),
     ];
     let method = Method::new(flags, b"f", arguments, Parameter::new(0, result));
-    let lib = Typelib { minor, ..single(Descriptor { methods: vec![method], ..Descriptor::default() }) };
+    let lib =
+        Typelib { minor, ..single(Descriptor { methods: vec![method], ..Descriptor::default() }) };
     let built = lib.build();
     let field = if in_result { Field::ResultPrefix } else { Field::ArgumentPrefix };
     let it = |spot: &&Spot| spot.field == field && usize::from(spot.more) == depth;
@@ -934,10 +943,18 @@ pub fn numbers(sink: &mut Sink) {
                 }
                 for depth in [0, 1, 3, 7] {
                     let of = Type::nested(depth, 1, POINTER | tag, [first, second, 0]);
-                    let as_argument =
-                        Method::new(0, b"f", others(of.clone()), Parameter::new(0, Type::simple(VOID)));
-                    let as_result =
-                        Method::new(NOT_XPCOM, b"f", others(Type::simple(1)), Parameter::new(0, of));
+                    let as_argument = Method::new(
+                        0,
+                        b"f",
+                        others(of.clone()),
+                        Parameter::new(0, Type::simple(VOID)),
+                    );
+                    let as_result = Method::new(
+                        NOT_XPCOM,
+                        b"f",
+                        others(Type::simple(1)),
+                        Parameter::new(0, of),
+                    );
                     for method in [as_argument, as_result] {
                         let methods = vec![Method::plain(0, b"e"), method];
                         let built = single(Descriptor { methods, ..Descriptor::default() }).build();
@@ -953,26 +970,418 @@ pub fn numbers(sink: &mut Sink) {
     }
 }
 
-/// Rows of up to five methods out of getters, setters, both, plain and constructors, two names.
-pub fn accessors(sink: &mut Sink) {
-    let kinds = [GETTER, SETTER, GETTER | SETTER, 0, GETTER | CONSTRUCTOR, CONSTRUCTOR];
-    let names: [&[u8]; 2] = [b"x", b"xy"];
-    for (length, kinds) in [(1, 6), (2, 6), (3, 6), (4, 4), (5, 3)] {
-        let choices: usize = 2 * kinds_count(kinds);
-        for code in 0..choices.pow(length) {
-            let mut row = Vec::new();
-            let mut rest = code;
-            for _ in 0..length {
-                let choice = rest % choices;
-                row.push((kind_of(choice / 2), names[choice % 2]));
-                rest /= choices;
+/// Every number against methods of many counts of arguments, of which one can be named.
+pub fn wide_numbers(sink: &mut Sink) {
+    for count in [1, 2, 63, 64, 65, 127, 128, 129, 191, 192, 193, 254, 255] {
+        for named in [0, count / 2, count - 1] {
+            for number in 0..=255_u8 {
+                let iid_is = (count + usize::from(number)) % 2 == 0;
+                let (target, of) = match iid_is {
+                    true => (POINTER | IID, Type::with(POINTER | INTERFACE_IS, [number, 0, 0])),
+                    false => (UINT32, Type::with(POINTER | 22, [named as u8, number, 0])),
+                };
+                let mut arguments = vec![Parameter::new(IN, Type::simple(1)); count];
+                arguments[named] = Parameter::new(IN, Type::simple(target));
+                let method = Method::new(0, b"f", arguments, Parameter::new(RETVAL, of));
+                let methods = vec![method];
+                let built = single(Descriptor { methods, ..Descriptor::default() }).build();
+                let expected = match usize::from(number) == named {
+                    true => Some(Ok(1)),
+                    false => refused(16, built.placed[0].methods[0]),
+                };
+                sink(&built.bytes, expected, "numbers among many arguments");
             }
-            accessor_row(&row, sink);
         }
     }
-    fn kinds_count(kinds: usize) -> usize {
-        kinds
+}
+
+/// IIDs that differ in one byte first, whatever follows it.
+pub fn iids(sink: &mut Sink) {
+    let good = Typelib { entries: entries(2), ..Typelib::default() }.build();
+    let mut bytes = good.bytes.clone();
+    for at in 0..16 {
+        for (a, b) in [(0, 1), (1, 0), (0x7f, 0x80), (0x80, 0x7f), (0, 0xff), (0xff, 0), (5, 5)] {
+            for (rest_a, rest_b) in [(0, 0), (0, 0xff), (0xff, 0), (7, 7)] {
+                let (mut first, mut second) = ([0; 16], [0; 16]);
+                first[at..].fill(rest_a);
+                second[at..].fill(rest_b);
+                first[at] = a;
+                second[at] = b;
+                bytes[good.entry(0)..][..16].copy_from_slice(&first);
+                bytes[good.entry(1)..][..16].copy_from_slice(&second);
+                let rises = first < second || first == [0; 16] && second == [0; 16];
+                let expected = if rises { Some(Ok(2)) } else { refused(10, good.entry(1)) };
+                sink(&bytes, expected, "two IIDs");
+            }
+        }
     }
-    let kind_of = |k: usize| kinds[k];
-    let _ = kind_of;
+}
+
+/// Rows of up to five methods out of getters, setters, both, plain and constructors, two names.
+pub fn accessors(rng: &mut Rng, sink: &mut Sink) {
+    let kinds = [GETTER, SETTER, 0, GETTER | SETTER, CONSTRUCTOR, GETTER | CONSTRUCTOR];
+    let names: [&[u8]; 2] = [b"x", b"xy"];
+    for (length, kinds) in
+        [(1, &kinds[..]), (2, &kinds), (3, &kinds), (4, &kinds[..4]), (5, &kinds[..2])]
+    {
+        let choices = 2 * kinds.len();
+        for mut code in 0..choices.pow(length) {
+            let mut row = Vec::new();
+            for _ in 0..length {
+                row.push((kinds[code % choices / 2], names[code % 2]));
+                code /= choices;
+            }
+            accessor_row(&row, Sharing::None, sink);
+        }
+    }
+    // Longer rows, in which most names are used by one kind only.
+    let words: Vec<String> =
+        (0..40).map(|i| format!("{}{i}", "long_common_start".repeat(i % 3))).collect();
+    for _ in 0..2_000 {
+        let length = rng.range(6, 40);
+        let mut row = Vec::new();
+        while row.len() < length {
+            let word = rng.below(40);
+            let name = words[word].as_bytes();
+            match rng.below(100) {
+                0 => row.push((*rng.pick(&kinds), name)),
+                1..60 => row.push(([GETTER, SETTER, 0][word % 3], name)),
+                _ if row.iter().any(|&(_, other)| other == name) => {}
+                _ => row.extend([(GETTER, name), (SETTER, name)]),
+            }
+        }
+        accessor_row(&row, *rng.pick(&[Sharing::None, Sharing::Equal]), sink);
+    }
+}
+
+fn accessor_row(row: &[(u8, &[u8])], sharing: Sharing, sink: &mut Sink) {
+    let methods = row.iter().map(|&(flags, name)| Method::plain(flags, name)).collect();
+    let d = Descriptor { methods, ..Descriptor::default() };
+    let built = Typelib { sharing, ..single(d) }.build();
+    let constructors = row.iter().filter(|(flags, _)| flags & CONSTRUCTOR != 0).count();
+    let mut good = constructors <= 1;
+    for (i, (first, name)) in row.iter().enumerate() {
+        for (j, (second, other)) in row.iter().enumerate() {
+            if first & GETTER != 0 && second & SETTER != 0 && name == other && j != i + 1 {
+                good = false;
+            }
+        }
+    }
+    let expected = if good { Some(Ok(1)) } else { refused(16, built.placed[0].at) };
+    sink(&built.bytes, expected, "row of accessors");
+}
+
+/// Names of 255 letters, and of one and more too many.
+pub fn long_names(lib: &Typelib, sink: &mut Sink) {
+    let mut lib = Typelib { sharing: Sharing::None, ..lib.clone() };
+    let count = names(&mut lib).len();
+    for i in 0..count {
+        for length in [MAX_IDENTIFIER, MAX_IDENTIFIER + 1, MAX_IDENTIFIER + 2, 511, 512] {
+            let name = vec![b'q'; length];
+            let old = std::mem::replace(names(&mut lib)[i], name);
+            let built = lib.build();
+            let long = |spot: &&Spot| spot.field == Field::Identifier && spot.length == length;
+            let expected = match built.spots.iter().find(long) {
+                Some(spot) if length > MAX_IDENTIFIER => refused(11, built.spots[spot.of].at),
+                _ => Some(Ok(built.n)),
+            };
+            sink(
+                &built.bytes,
+                expected,
+                if length > MAX_IDENTIFIER { "11 too long" } else { "longest name" },
+            );
+            *names(&mut lib)[i] = old;
+        }
+    }
+}
+
+/// All names of a typelib.
+fn names(lib: &mut Typelib) -> Vec<&mut Vec<u8>> {
+    let mut all = Vec::new();
+    for entry in &mut lib.entries {
+        all.push(&mut entry.name);
+        all.extend(&mut entry.namespace);
+    }
+    for d in &mut lib.descriptors {
+        all.extend(d.methods.iter_mut().map(|method| &mut method.name));
+        all.extend(d.constants.iter_mut().map(|constant| &mut constant.name));
+    }
+    all
+}
+
+/// Counts one too large, with as many records as they say.
+pub fn sizes(sink: &mut Sink) {
+    let too_many = Typelib { entries: entries(MAX_INTERFACES + 1), ..Typelib::default() };
+    sink(&too_many.bytes(), refused(7, 18), "7 count");
+    for sharing in [Sharing::None, Sharing::Equal] {
+        let methods = vec![Method::plain(0, b"m"); 1025];
+        let constants = vec![Constant::new(b"k", 1, 7); 1025];
+        let methods = Descriptor { methods, ..Descriptor::default() };
+        let constants = Descriptor { constants, ..Descriptor::default() };
+        for (d, field, what) in [
+            (methods, Field::MethodCount, "17 methods"),
+            (constants, Field::ConstantCount, "17 constants"),
+        ] {
+            let built = Typelib { sharing, ..single(d) }.build();
+            let at = built.spots.iter().find(|spot| spot.field == field).unwrap().at;
+            sink(&built.bytes, refused(17, at), what);
+        }
+    }
+    for depth in 7..=20 {
+        for position in 0..4 {
+            let mut arguments = vec![Parameter::new(IN, Type::simple(UINT32)); 4];
+            let deep = Type::nested(depth, 0, 3, [0; 3]);
+            let mut result = Type::nested(8, 0, 3, [0; 3]);
+            match position {
+                0 => result = deep,
+                _ => arguments[position] = Parameter::new(OUT, deep),
+            }
+            let result = Parameter::new(RETVAL, result);
+            let method = Method::new(0, b"deep", arguments, result);
+            let methods = vec![method];
+            let built = single(Descriptor { methods, ..Descriptor::default() }).build();
+            let ninth = built.spots.iter().find(|spot| {
+                matches!(spot.field, Field::ArgumentPrefix | Field::ResultPrefix)
+                    && spot.more == 8
+                    && built.bytes[spot.at] & 0x1f == ARRAY
+            });
+            let expected = match ninth {
+                Some(spot) => refused(17, spot.at),
+                None => Some(Ok(1)),
+            };
+            sink(&built.bytes, expected, "nesting");
+        }
+    }
+}
+
+/// Keys that return in all sorts of patterns.
+pub fn keys(rng: &mut Rng, sink: &mut Sink) {
+    let keys: [(Option<&str>, &str); 10] = [
+        (None, "A"),
+        (None, "B"),
+        (Some("A"), "B"),
+        (Some("B"), "A"),
+        (Some("A"), "A"),
+        (None, "AB"),
+        (Some("AB"), "A"),
+        (Some("A"), "BA"),
+        (None, "a"),
+        (Some("_"), "0"),
+    ];
+    let mut patterns = vec![vec![0, 1, 1, 0], vec![0, 1, 0, 1], vec![2, 3, 2], vec![0, 0, 0]];
+    for _ in 0..6_000 {
+        let length = rng.range(1, 12);
+        let kinds = rng.range(1, 10);
+        patterns.push((0..length).map(|_| rng.below(kinds)).collect());
+    }
+    for pattern in patterns {
+        let mut lib = Typelib { entries: entries(pattern.len()), ..Typelib::default() };
+        lib.sharing = *rng.pick(&[Sharing::None, Sharing::Equal, Sharing::Overlap]);
+        lib.directory_gap = rng.below(3);
+        let zeros = rng.below(pattern.len() + 1);
+        for (i, &key) in pattern.iter().enumerate() {
+            let entry = &mut lib.entries[i];
+            entry.namespace = keys[key].0.map(|namespace| namespace.into());
+            entry.name = keys[key].1.into();
+            if i < zeros {
+                entry.iid = [0; 16];
+            }
+        }
+        let built = lib.build();
+        let again = (0..pattern.len()).find(|&i| pattern[..i].contains(&pattern[i]));
+        let expected = match again {
+            Some(i) => refused(18, built.entry(i)),
+            None => Some(Ok(built.n)),
+        };
+        sink(&built.bytes, expected, "pattern of keys");
+    }
+}
+
+/// Parents in all small patterns and in larger random ones.
+pub fn chains(rng: &mut Rng, sink: &mut Sink) {
+    for n in 1..=4_usize {
+        for mut code in 0..(n + 2).pow(n as u32) {
+            // n + 1 stands for an unresolved entry.
+            let mut parents = Vec::new();
+            for _ in 0..n {
+                parents.push(code % (n + 2));
+                code /= n + 2;
+            }
+            chain(&parents, sink);
+        }
+    }
+    for round in 0..3_000 {
+        let n = rng.range(5, 60);
+        let mut parents: Vec<usize> = (0..n).map(|i| rng.below(i + 1)).collect();
+        match round % 4 {
+            0 => parents = (0..n).map(|_| rng.below(n + 2)).collect(),
+            // One long cycle, or one chain into it.
+            1 => parents = (0..n).map(|i| (i + 1) % n + 1).collect(),
+            2 => parents[rng.below(n)] = rng.range(1, n),
+            _ => parents.iter_mut().for_each(|p| *p = if *p == 0 { 0 } else { n + 1 - *p }),
+        }
+        if round % 4 == 3 {
+            parents.reverse();
+        }
+        if rng.percent(30) {
+            parents[rng.below(n)] = n + 1;
+        }
+        chain(&parents, sink);
+    }
+}
+
+fn chain(parents: &[usize], sink: &mut Sink) {
+    let n = parents.len();
+    let mut lib = Typelib { entries: entries(n), ..Typelib::default() };
+    let mut ends = parents.to_vec();
+    for (i, &parent) in parents.iter().enumerate() {
+        if parent <= n {
+            let d = lib.add(Descriptor { parent: parent as u16, ..Descriptor::default() });
+            lib.entries[i].descriptor = Some(d);
+        } else {
+            ends[i] = 0;
+        }
+    }
+    let built = lib.build();
+    let expected = match lowest_endless(&ends) {
+        Some(i) => refused(19, built.entry(i)),
+        None => Some(Ok(n)),
+    };
+    sink(&built.bytes, expected, "pattern of parents");
+}
+
+/// Descriptors of bytes drawn at random, mostly small.
+pub fn random_pools(rounds: usize, rng: &mut Rng, sink: &mut Sink) {
+    let built = single(Descriptor::default()).build();
+    for _ in 0..rounds {
+        let mut bytes = built.bytes[..built.pool].to_vec();
+        bytes.extend_from_slice(b"A\0");
+        bytes.extend([0, rng.below(3) as u8, 0, rng.below(3) as u8]);
+        for _ in 0..rng.below(60) {
+            let small = [0, 0, 0, 0, 1, 1, 2, 6, 13, 14, 0x80, 0x8e, 0x92, 0x93, 0x94, 0x95, 0x40];
+            bytes.push(if rng.percent(97) { *rng.pick(&small) } else { rng.byte() });
+        }
+        bytes[17] = rng.below(2) as u8;
+        set_length(&mut bytes);
+        sink(&bytes, None, "random pool");
+    }
+}
+
+/// Hands every generated file to the sink, good and damaged.
+pub fn everything(sink: &mut Sink) {
+    let rng = &mut Rng::new(2);
+    for good in generate::marked() {
+        sink(&good, Some(Ok(usize::from(good[19]))), "marked");
+        all_bytes(&good, sink);
+        edges(&good, sink);
+        cuts(&good, sink);
+    }
+    for lib in generate::special() {
+        sink(&lib.bytes(), Some(Ok(lib.entries.len())), "special");
+    }
+    headers(rng, sink);
+    short_annotations(sink);
+    prefixes(sink);
+    numbers(sink);
+    wide_numbers(sink);
+    iids(sink);
+    accessors(rng, sink);
+    sizes(sink);
+    keys(rng, sink);
+    chains(rng, sink);
+    random_pools(20_000, rng, sink);
+
+    // Good files of all sizes; the smaller ones are damaged in every way.
+    for round in 0..12_000 {
+        let size = match round % 8 {
+            0..6 => generate::SMALL,
+            6 => generate::MEDIUM,
+            _ if round % 80 == 7 => generate::LARGE,
+            _ => generate::MEDIUM,
+        };
+        let lib = generate::random(rng, size);
+        let bytes = lib.bytes();
+        sink(&bytes, Some(Ok(lib.entries.len())), "random");
+        if round % 4 == 0 {
+            scrambled(&bytes, 20, rng, sink);
+        }
+    }
+    for round in 0..60 {
+        let bytes = generate::overlapping_heads(rng, 1 + round % 16);
+        sink(&bytes, Some(Ok(2 + round % 16)), "overlapping heads");
+        scrambled(&bytes, 50, rng, sink);
+        if round == 3 {
+            all_bytes(&bytes, sink);
+        }
+    }
+    for (minor, order) in [
+        (1, Order::Entries),
+        (1, Order::NamesFirst),
+        (1, Order::NamesLast),
+        (0, Order::NamesFirst),
+        (0, Order::Shuffled),
+    ] {
+        let lib = generate::rich(minor, order);
+        let built = lib.build();
+        sink(&built.bytes, Some(Ok(7)), "rich");
+        single_and_paired(&lib, 7, usize::MAX, 20_000, sink);
+        cut_last_record(&lib, sink);
+        long_names(&lib, sink);
+        cuts(&built.bytes, sink);
+        scrambled(&built.bytes, 5_000, rng, sink);
+        edges(&built.bytes, sink);
+        if order == Order::NamesFirst {
+            all_bytes(&built.bytes, sink);
+            pointers(&built, sink);
+        }
+    }
+    for round in 0..120 {
+        let size = if round % 6 == 5 { generate::MEDIUM } else { generate::SMALL };
+        let mut lib = generate::random(rng, size);
+        while lib.descriptors.iter().all(|d| d.methods.len() < 2) || lib.bytes().len() > 6_000 {
+            lib = generate::random(rng, size);
+        }
+        let built = lib.build();
+        if built.bytes.len() < 1_000 && round % 2 == 0 {
+            cuts(&built.bytes, sink);
+            edges(&built.bytes, sink);
+            pointers(&built, sink);
+        }
+        if built.bytes.len() < 600 && round % 10 == 0 {
+            all_bytes(&built.bytes, sink);
+        }
+        if round % 4 == 0 {
+            long_names(&lib, sink);
+        }
+        lib.sharing = Sharing::None;
+        single_and_paired(&lib, round, 4_000, 3_000, sink);
+        cut_last_record(&lib, sink);
+    }
+    // Far places: large files, of which a check reads much before it meets the fault.
+    for round in 0..8 {
+        let mut lib = generate::random(rng, generate::LARGE);
+        lib.sharing = Sharing::None;
+        single_and_paired(&lib, round, 400, 400, sink);
+    }
+    let rich = generate::rich(1, Order::NamesFirst);
+    let to_the_end = MAX_FILE - rich.bytes().len();
+    for lib in [
+        Typelib { directory_gap: 20_000, pool_gap: 70_001, junk: 3, ..rich.clone() },
+        Typelib { record_gap: 40_000, junk: 4, ..generate::rich(0, Order::Shuffled) },
+        Typelib { pool_gap: to_the_end, ..rich },
+    ] {
+        sink(&lib.bytes(), Some(Ok(7)), "far");
+        single_and_paired(&lib, 5, 1_500, 500, sink);
+    }
+    let text = |length: usize| vec![b'~'; length];
+    for (first, second) in [(300, 65_535), (65_535, 256)] {
+        let annotations = vec![Annotation::Texts(text(first), text(second)), Annotation::Empty];
+        let lib = Typelib { annotations, entries: entries(2), ..Typelib::default() };
+        single_and_paired(&lib, 6, 300, 100, sink);
+    }
+    for count in [200, 1023, MAX_INTERFACES] {
+        let lib = generate::wide(rng, count);
+        sink(&lib.bytes(), Some(Ok(count)), "wide");
+        single_and_paired(&lib, 3, 400, 400, sink);
+    }
 }

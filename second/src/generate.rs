@@ -210,7 +210,8 @@ fn descriptor(
     }
     for _ in 0..rng.range(0, size.constants) {
         let value = *rng.pick(&[0, 1, 0x7fff, 0x8000, 0xffff, 0x7fff_ffff, 0x8000_0000, u32::MAX]);
-        d.constants.push(Constant::new(rng.pick(words), *rng.pick(&[1, 2, 5, 6]), value));
+        let name = &words[rng.below(words.len())];
+        d.constants.push(Constant::new(name, *rng.pick(&[1, 2, 5, 6]), value));
     }
     d.flags = rng.byte() & if minor == 1 { 0xc0 } else { 0x80 };
     d
@@ -246,7 +247,7 @@ pub fn random(rng: &mut Rng, size: Size) -> Typelib {
         pool_gap: if rng.percent(80) { 0 } else { rng.below(9) },
         record_gap: if rng.percent(80) { 0 } else { rng.below(4) },
         tail: if rng.percent(80) { 0 } else { rng.below(9) },
-        junk: if rng.percent(50) { 0 } else { rng.next() >> 1 },
+        junk: if rng.percent(50) { 0 } else { rng.number() >> 1 },
         order: *rng.pick(&[Order::Entries, Order::NamesFirst, Order::NamesLast, Order::Shuffled]),
         sharing: *rng.pick(&[Sharing::None, Sharing::None, Sharing::Equal, Sharing::Overlap]),
         ..Typelib::default()
@@ -331,12 +332,88 @@ pub fn marked() -> [Vec<u8>; 3] {
     [p1, p2, p3]
 }
 
+/// A typelib with every kind of field in few bytes.
+pub fn rich(minor: u8, order: Order) -> Typelib {
+    let argument = |flags: u8, of: Type| Parameter::new(flags, of);
+    let void = || Parameter::new(0, Type::simple(VOID));
+    let mut lib = Typelib { minor, order, entries: entries(7), ..Typelib::default() };
+    lib.annotations = vec![
+        Annotation::Empty,
+        Annotation::Texts(b"by hand".to_vec(), b"1.0".to_vec()),
+        Annotation::Texts(Vec::new(), b"x".to_vec()),
+    ];
+    for (entry, number) in lib.entries.iter_mut().zip([0, 0, 5, 6, 0x1_0000, 0x1_0001, u64::MAX]) {
+        entry.iid = iid(number);
+    }
+    lib.entries[1].namespace = Some(b"n".to_vec());
+    lib.entries[1].name = b"E0".to_vec();
+    lib.entries[5].namespace = Some(b"ns_2".to_vec());
+
+    let constants = vec![
+        Constant::new(b"SHORT", 1, 0x8000),
+        Constant::new(b"LONG", 2, 0x7fff_ffff),
+        Constant::new(b"USHORT", 5, 0xffff),
+        Constant::new(b"ULONG", 6, 0xffff_ffff),
+    ];
+    let methods = vec![Method::plain(0, b"release"), Method::plain(HIDDEN, b"release")];
+    let root = lib.add(Descriptor { parent: 0, methods, constants, flags: 0x80 });
+
+    let sized = vec![
+        argument(IN, Type::with(POINTER | INTERFACE_IS, [3, 0, 0])),
+        argument(IN | SHARED, Type::nested(8, 2, POINTER | INTERFACE_IS, [3, 0, 0])),
+        argument(IN, Type::simple(UINT32)),
+        argument(IN, Type::simple(IID | POINTER | REFERENCE)),
+        argument(OUT | RETVAL, Type::nested(2, 5, POINTER | INTERFACE, [0, 7, 0])),
+        argument(IN | OUT, Type::simple(UINT32)),
+        argument(IN, Type::with(POINTER | 21, [2, 5, 0])),
+        argument(OUT, Type::with(POINTER | UNIQUE | 22, [5, 5, 0])),
+    ];
+    let numbers =
+        vec![argument(IN, Type::simple(UINT32)), argument(IN, Type::simple(IID | POINTER))];
+    let other = Parameter::new(0, Type::nested(8, 0, POINTER | INTERFACE_IS, [1, 0, 0]));
+    let interface = Parameter::new(RETVAL, Type::with(POINTER | INTERFACE, [0, 4, 0]));
+    let value = |flags: u8| vec![argument(flags, Type::simple(10))];
+    let methods = vec![
+        Method::new(GETTER, b"size", value(OUT | RETVAL), void()),
+        Method::new(SETTER, b"size", value(IN), Parameter::new(0, Type::simple(UINT32))),
+        Method::new(0, b"fill", sized, void()),
+        Method::new(NOT_XPCOM, b"pick", numbers, other),
+        Method::new(CONSTRUCTOR, b"make", Vec::new(), interface),
+        Method::new(GETTER, b"kind", value(OUT), void()),
+    ];
+    let constants = vec![Constant::new(b"K", 5, 3)];
+    let child = lib.add(Descriptor { parent: 4, methods, constants, flags: 0 });
+    let above_unresolved = lib.add(Descriptor { parent: 3, flags: 0x80, ..Descriptor::default() });
+    for (entry, d) in [(3, root), (4, child), (5, child), (6, above_unresolved)] {
+        lib.entries[entry].descriptor = Some(d);
+    }
+    lib
+}
+
+/// Many entries with little in each: small random descriptors, namespaces, unresolved ones.
+pub fn wide(rng: &mut Rng, count: usize) -> Typelib {
+    let size = Size { entries: 0, methods: 2, arguments: 3, constants: 1, name: 6 };
+    let words: Vec<_> = (0..30).map(|_| identifier(rng, 8)).collect();
+    let mut lib = Typelib { entries: entries(count), ..Typelib::default() };
+    for i in 0..count {
+        let parent = rng.below(i + 1) as u16;
+        if rng.percent(80) {
+            let d = descriptor(rng, 1, count, size, &words, parent);
+            lib.entries[i].descriptor = Some(lib.add(d));
+        }
+        if rng.percent(50) {
+            lib.entries[i].namespace = Some(rng.pick(&words).clone());
+        }
+    }
+    lib
+}
+
 /// Methods each of which ends in a descriptor's head, so that as many descriptors as methods
 /// overlap: the one that starts in method i's last four bytes has the methods after i.
 ///
 /// The head is the last argument `00 00` and the result `00 t` of a not-XPCOM method: parent 0
 /// and t methods, t being the result's tag; so there are at most 15 methods after the first.
-/// Gives the descriptors' places and the file; entry i + 2 leads to the head in method i.
+/// The first entry leads to the outermost descriptor, the entry after it to the first head.
 pub fn overlapping_heads(rng: &mut Rng, count: usize) -> Vec<u8> {
     assert!((1..=16).contains(&count));
     let mut methods = Vec::new();
@@ -350,7 +427,7 @@ pub fn overlapping_heads(rng: &mut Rng, count: usize) -> Vec<u8> {
         let flags = NOT_XPCOM | (rng.byte() & HIDDEN);
         methods.push(Method::new(flags, &identifier(rng, 5), arguments, result));
     }
-    let constants = vec![Constant::new(b"Z", 6, rng.next() as u32); rng.below(3)];
+    let constants = vec![Constant::new(b"Z", 6, rng.number() as u32); rng.below(3)];
     let outer = Descriptor { parent: 0, methods, constants, flags: 0xc0 };
     let mut lib = Typelib { entries: entries(count + 1), ..Typelib::default() };
     lib.entries[0].descriptor = Some(lib.add(outer));

@@ -13,3 +13,5 @@ pub mod rng;
 
 /// What a check answers.
 pub type Answer = Result<usize, check::Refusal>;
+
+pub type Check = fn(&[u8]) -> Answer;

@@ -1,1 +1,3 @@
 // Constants and interface descriptors.
+mod constant;
+mod pairs;

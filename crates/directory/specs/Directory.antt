@@ -1,7 +1,7 @@
 -- Document 01, "Directory entry": refusals 10, 11, 13 and 12, in this order for each entry.
 -- Assumes nothing.
 use mathlib.Core.Bool.{Bool, false}
-use mathlib.Core.List.{List}
+use mathlib.Core.List.{List, []}
 use Prim.Native.Nat.{ℕ, _+_, _-_}
 use Rattle.number.specs.Choice.{if_then_else_, _≤?_, _=?_}
 use Rattle.number.specs.Number.{be}
@@ -12,6 +12,10 @@ use Rattle.key.specs.Key.{Key, key}
 -- an entry as the directory has it: IID, as one number of 16 bytes; key; descriptor pointer
 pub data Row : Type 0 where
   row : ℕ → Key → ℕ → Row
+
+-- no entry: what a list of entries gives past its end
+unfoldable pub noRow : Row
+noRow = row 0 (key [] []) 0
 
 unfoldable pub rowIid : Row → ℕ
 rowIid (row i k q) = i

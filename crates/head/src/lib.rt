@@ -1,6 +1,13 @@
 // The header and the annotations.
 use reading::Refusal;
 
+mod annotation;
+mod fields;
+
+pub use annotation::annotation_limit;
+pub use annotation::read_annotations;
+pub use fields::read_header;
+
 // What an accepted header says.
 pub struct Header {
     pub minor: u8,

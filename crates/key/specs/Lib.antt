@@ -1,3 +1,5 @@
 pub mod Word
 pub mod Key
 pub mod First
+pub mod Pointer
+pub mod Table

@@ -31,6 +31,10 @@ isIdentifier w =
     if 255 <? length w then false else
     letters w
 
+-- how far the zero byte of an identifier at p is looked for: 256 bytes, or up to the end of s
+unfoldable pub searchEnd : List ℕ → ℕ → ℕ
+searchEnd s p = if 256 <? length s - p then p + 256 else length s
+
 -- the identifier at p; a fault is that of the pointer field at `place`
 unfoldable pub readIdentifier : List ℕ → ℕ → ℕ → Got (List ℕ)
 readIdentifier s place p =

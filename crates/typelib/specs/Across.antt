@@ -6,37 +6,42 @@ use mathlib.Core.Option.{Option, none, some}
 use Prim.Native.Nat.{ℕ, zero, suc, _+_, _-_}
 use Rattle.number.specs.Choice.{if_then_else_, _<?_, _=?_}
 use Rattle.number.specs.Scan.{scan}
+use Rattle.key.specs.Key.{Key}
 use Rattle.key.specs.First.{firstSame}
 use Rattle.descriptor.specs.Descriptor.{Descriptor, parentOf}
 use Rattle.typelib.specs.Entry.{Entry, keysIn, descriptorIn}
 
--- the key of entry i, counted from 0, stood earlier
-unfoldable pub repeated : List (Entry ℕ) → ℕ → Bool
-repeated es i = firstSame (keysIn es) i <? i
+-- of keys by index from 0, that of i stood earlier
+unfoldable pub repeated : (ℕ → Key) → ℕ → Bool
+repeated K i = firstSame K i <? i
 
 -- the lowest of n entries whose key stood earlier, or n
 unfoldable pub firstRepeated : List (Entry ℕ) → ℕ → ℕ
-firstRepeated es n = scan (repeated es) n 0
+firstRepeated es n = scan (repeated (keysIn es)) n 0
 
 -- the index of a parent, counted from 1; 0 is none
 unfoldable pub parentIndex : Option ℕ → ℕ
 parentIndex none = 0
 parentIndex (some i) = i
 
--- Above an entry stands its parent. An unresolved entry ends a chain.
+-- An unresolved entry ends a chain.
 unfoldable pub above : Option (Descriptor ℕ) → ℕ
 above none = 0
 above (some d) = parentIndex (parentOf d)
 
--- the chain from the entry of index i, counted from 1, ends within so many steps
-unfoldable pub chainEnds : ℕ → List (Entry ℕ) → ℕ → Bool
-chainEnds zero es i = i =? 0
-chainEnds (suc left) es i = if i =? 0 then true else chainEnds left es (above (descriptorIn es (i - 1)))
+-- above entry i, counted from 0, stands the entry of this index, counted from 1
+unfoldable pub aboveIn : List (Entry ℕ) → ℕ → ℕ
+aboveIn es i = above (descriptorIn es i)
 
--- the chain from entry i, counted from 0, does not end: of n entries, it would return to one it has passed
-unfoldable pub circles : List (Entry ℕ) → ℕ → ℕ → Bool
-circles es n i = not (chainEnds n es (i + 1))
+-- where `up` tells what stands above each entry, the chain from the entry of index i, counted from 1, ends within so many steps
+unfoldable pub chainEnds : ℕ → (ℕ → ℕ) → ℕ → Bool
+chainEnds zero up i = i =? 0
+chainEnds (suc left) up i = if i =? 0 then true else chainEnds left up (up (i - 1))
+
+-- the chain from entry i, counted from 0, does not end: among n entries it would return to one it has passed
+unfoldable pub circles : (ℕ → ℕ) → ℕ → ℕ → Bool
+circles up n i = not (chainEnds n up (i + 1))
 
 -- the lowest of n entries whose chain doesn't end, or n
 unfoldable pub firstCircling : List (Entry ℕ) → ℕ → ℕ
-firstCircling es n = scan (circles es n) n 0
+firstCircling es n = scan (circles (aboveIn es) n) n 0

@@ -1,0 +1,4 @@
+pub mod Getters
+pub mod PairLaws
+pub mod StrayLaws
+pub mod ConstantLaws

@@ -1,0 +1,46 @@
+-- The methods of an interface as tables, and the getters of each name.
+-- Assumes nothing.
+use mathlib.Core.Bool.{Bool, false}
+use mathlib.Core.List.{List}
+use Prim.Native.Nat.{ℕ, zero, suc, _+_, _-_, _<_}
+use lib.ListN.{getD}
+use Rattle.number.specs.Choice.{if_then_else_, _=?_, _≠?_}
+use Rattle.key.specs.Word.{Leads, wordAt}
+use Rattle.descriptor.specs.Rules.{isGetter, isSetter}
+
+-- what a table holds at i
+unfoldable pub cell : List ℕ → ℕ → ℕ
+cell t i = getD t i 0
+
+-- the word that pool pointer i of a table leads to
+unfoldable pub wordIn : List ℕ → List ℕ → ℕ → List ℕ
+wordIn s t i = wordAt s (getD t i 0 - 1)
+
+-- one getter more, the method n, beside what v says
+unfoldable pub oneMore : ℕ → ℕ → ℕ
+oneMore v n = if v =? 0 then n + 1 else 2000
+
+-- Of the first n methods, where g gives for each the first of its name: 0 where none of the name that starts at k is a getter;
+-- 1 more than its position where one is; 2000 where several are.
+unfoldable pub gettersOf : (ℕ → ℕ) → (ℕ → ℕ) → ℕ → ℕ → ℕ
+gettersOf f g zero k = 0
+gettersOf f g (suc n) k =
+    if isGetter f n then (
+    if g n =? k then oneMore (gettersOf f g n k) n else
+    gettersOf f g n k) else
+    gettersOf f g n k
+
+-- method j is a setter, and a getter of its name, by what t says of each name, is not just before it
+unfoldable pub strayOf : ℕ → ℕ → Bool
+strayOf v j = if v =? 0 then false else v ≠? j
+
+unfoldable pub straySetter : (ℕ → ℕ) → (ℕ → ℕ) → (ℕ → ℕ) → ℕ → Bool
+straySetter f g t j = if isSetter f j then strayOf (t (g j)) j else false
+
+-- the first n numbers of a table are positions of methods
+pub record Below (t : List ℕ) (n : ℕ) : Type 0 where
+  pub low : (i : ℕ) → i < n → getD t i 0 < 1024
+
+-- the first n pointers of a table lead to words
+pub record Led (s t : List ℕ) (n : ℕ) : Type 0 where
+  pub each : (i : ℕ) → i < n → Leads s (getD t i 0)

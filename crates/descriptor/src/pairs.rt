@@ -1,0 +1,116 @@
+// Constructors and getter pairs, from tables of the methods' flags and of the first method of each name.
+ghost use mathlib.Core.Path.{_≡_};
+ghost use Prim.Native.Nat.{_+_, _≤_, _<_, _/_, _%_};
+ghost use lib.ListN.{length, getD};
+ghost use Rattle.number.specs.Choice.{if_then_else_, _=?_};
+ghost use Rattle.number.specs.Scan.{some};
+ghost use Rattle.key.specs.First.{Filled};
+ghost use Rattle.descriptor.specs.Rules.{manyConstructors, strayPairs};
+ghost use Rattle.descriptor.specs.Tables.{Below, Led, cell, wordIn, oneMore, gettersOf, strayOf, straySetter};
+
+// 1 for the flags of a constructor, 0 for others.
+fn constructor_count(flags: u8) -> usize
+    ensures { λ r. ⌜ r ≡ (if flags / 16 % 2 =? 1 then 1 else 0) ⌝ }
+{
+    if flags / 16 % 2 == 1 {
+        return 1;
+    }
+    0
+}
+
+// Whether more than one of n methods is a constructor.
+pub fn many_constructors(flags: &[u8; 1024], n: usize) -> bool
+    requires { ⌜ (n ≤ 1024) × (1024 ≡ length (now flags)) ⌝ }
+    ensures { λ r. ⌜ r ≡ manyConstructors (cell (now (flags .entry))) n ⌝ }
+{
+    let mut k: usize = 0;
+    let mut i: usize = 0;
+    while i < n {
+        k += constructor_count(flags[i]);
+        i += 1;
+    }
+    1 < k
+}
+
+// What is known of a name's getters, with getter n beside what v says.
+fn one_more(v: u16, n: usize) -> u16
+    requires { ⌜ n < 1024 ⌝ }
+    ensures { λ r. ⌜ r ≡ oneMore v n ⌝ }
+{
+    if v == 0 {
+        return (n + 1) as u16;
+    }
+    2000
+}
+
+// Method i into the table of getters by name.
+fn note_getter(flags: &[u8; 1024], first: &[u16; 1024], i: usize, getters: &mut [u16; 1024])
+    requires { ⌜ (i < 1024) × (1024 ≡ length (now flags)) × (1024 ≡ length (now first)) × (getD (now first) i 0 < 1024) × Filled (now getters) 1024 (gettersOf (cell (now flags)) (cell (now first)) i) ⌝ }
+    ensures { λ r. ⌜ Filled (now (getters .exit)) 1024 (gettersOf (cell (now (flags .entry))) (cell (now (first .entry))) (i + 1)) ⌝ }
+{
+    if flags[i] / 128 % 2 == 1 {
+        let k = first[i] as usize;
+        getters[k] = one_more(getters[k], i);
+    }
+}
+
+// The table of getters by name, of n methods.
+pub fn note_getters(flags: &[u8; 1024], first: &[u16; 1024], n: usize, getters: &mut [u16; 1024])
+    requires { ⌜ (n ≤ 1024) × (1024 ≡ length (now flags)) × (1024 ≡ length (now first)) × Below (now first) n × Filled (now getters) 1024 (gettersOf (cell (now flags)) (cell (now first)) 0) ⌝ }
+    ensures { λ r. ⌜ Filled (now (getters .exit)) 1024 (gettersOf (cell (now (flags .entry))) (cell (now (first .entry))) n) ⌝ }
+{
+    let mut i: usize = 0;
+    while i < n {
+        note_getter(flags, first, i, getters);
+        i += 1;
+    }
+}
+
+// Whether setter j is not just behind its name's getter, v being what is known of these.
+fn stray_of(v: u16, j: usize) -> bool
+    ensures { λ r. ⌜ r ≡ strayOf v j ⌝ }
+{
+    if v == 0 {
+        return false;
+    }
+    v as usize != j
+}
+
+// Whether method j is a setter that is not just behind the getter of its name.
+fn is_stray(flags: &[u8; 1024], first: &[u16; 1024], getters: &[u16; 1024], j: usize) -> bool
+    requires { ⌜ (j < 1024) × (1024 ≡ length (now flags)) × (1024 ≡ length (now first)) × (getD (now first) j 0 < 1024) ⌝ }
+    ensures { λ r. ⌜ r ≡ straySetter (cell (now (flags .entry))) (cell (now (first .entry))) (cell (now (getters .entry))) j ⌝ }
+{
+    if flags[j] / 64 % 2 == 1 {
+        return stray_of(getters[first[j] as usize], j);
+    }
+    false
+}
+
+// Whether one of n methods is such a setter.
+pub fn stray_setter(flags: &[u8; 1024], first: &[u16; 1024], getters: &[u16; 1024], n: usize) -> bool
+    requires { ⌜ (n ≤ 1024) × (1024 ≡ length (now flags)) × (1024 ≡ length (now first)) × Below (now first) n ⌝ }
+    ensures { λ r. ⌜ r ≡ some (straySetter (cell (now (flags .entry))) (cell (now (first .entry))) (cell (now (getters .entry)))) n ⌝ }
+{
+    let mut j: usize = 0;
+    while j < n {
+        if is_stray(flags, first, getters, j) {
+            return true;
+        }
+        j += 1;
+    }
+    false
+}
+
+// Whether a getter pair is broken among n methods, whose flags and name pointers stand in tables.
+pub fn stray_pairs(pool: &[u8], flags: &[u8; 1024], names: &[u32; 1024], n: usize) -> bool
+    requires { ⌜ (n ≤ 1024) × (length (now pool) ≤ 1048576) × (1024 ≡ length (now flags)) × (1024 ≡ length (now names)) × Led (now pool) (now names) n ⌝ }
+    ensures { λ r. ⌜ r ≡ strayPairs (cell (now (flags .entry))) (wordIn (now (pool .entry)) (now (names .entry))) n ⌝ }
+{
+    let spaces = [0u32; 1024];
+    let mut first = [0u16; 1024];
+    let mut getters = [0u16; 1024];
+    key::first_same(pool, &spaces, names, n, &mut first);
+    note_getters(flags, &first, n, &mut getters);
+    stray_setter(flags, &first, &getters, n)
+}

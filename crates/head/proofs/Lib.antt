@@ -1,0 +1,4 @@
+pub mod HeadSteps
+pub mod HeaderLaws
+pub mod NoteLaws
+pub mod HeadRules

@@ -1,0 +1,12 @@
+use Rattle.number.proofs.Tools.{arith, refl, is-ne, no-ne}
+use Rattle.head.specs.Header.{lengthFault}
+use Rattle.head.proofs.fields.length_fault.Statement.{statement}
+use Rattle.head.proofs.fields.length_fault.Tie as tie
+
+pub length-fault-spec : {M : Type 1} → statement M
+unfolding lengthFault
+length-fault-spec =
+    tie.close
+    (tie.spec
+    (λ c. is-ne _ _ _ _ (λ e. omega arith) refl)
+    (λ c. no-ne _ _ _ _ (omega arith) refl))

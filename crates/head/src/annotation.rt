@@ -1,0 +1,101 @@
+// The annotations: refusal 9, at an annotation's first byte.
+ghost use mathlib.Core.Path.{_≡_};
+ghost use Prim.Native.Nat.{_≤_};
+ghost use lib.ListN.{length};
+ghost use Rattle.reading.specs.Got.{stepOf};
+ghost use Rattle.head.specs.Annotation.{asciiEnd, readText, readBody, readAnnotation, readAnnotations, annotationLimit};
+use super::Header;
+use reading::Refusal;
+use reading::Step;
+
+// The first byte from `from` on, before `to`, that is not below 0x80, or `to`.
+fn ascii_end(file: &[u8], from: usize, to: usize) -> usize
+    requires { ⌜ (from ≤ to) × (to ≤ length (now file)) ⌝ }
+    ensures { λ r. ⌜ r ≡ asciiEnd (now (file .entry)) from to ⌝ }
+{
+    let mut i = from;
+    while i < to {
+        if 128 <= file[i] {
+            return i;
+        }
+        i += 1;
+    }
+    i
+}
+
+// A text of the annotation at `place`.
+fn read_text(file: &[u8], place: usize, limit: usize, at: usize) -> Step
+    requires { ⌜ (at ≤ limit) × (limit ≤ length (now file)) × (length (now file) ≤ 1048576) ⌝ }
+    ensures { λ r. ⌜ r ≡ stepOf (readText place limit (now (file .entry)) at) ⌝ }
+{
+    let from = at + 2;
+    if limit < from {
+        return Step::Refused(Refusal { no: 9, place });
+    }
+    let end = from + number::u16_at(file, at) as usize;
+    if limit < end {
+        return Step::Refused(Refusal { no: 9, place });
+    }
+    if ascii_end(file, from, end) < end {
+        return Step::Refused(Refusal { no: 9, place });
+    }
+    Step::End(end)
+}
+
+// What follows the first byte of the annotation at `place`.
+fn read_body(file: &[u8], place: usize, limit: usize, tag: u8, at: usize) -> Step
+    requires { ⌜ (at ≤ limit) × (limit ≤ length (now file)) × (length (now file) ≤ 1048576) ⌝ }
+    ensures { λ r. ⌜ r ≡ stepOf (readBody place limit (now (file .entry)) tag at) ⌝ }
+{
+    if tag == 0 {
+        return Step::End(at);
+    }
+    if tag != 1 {
+        return Step::Refused(Refusal { no: 9, place });
+    }
+    let r = read_text(file, place, limit, at);
+    let Step::End(e) = r else {
+        return r;
+    };
+    read_text(file, place, limit, e)
+}
+
+// One annotation.
+fn read_annotation(file: &[u8], limit: usize, at: usize) -> Step
+    requires { ⌜ (at ≤ limit) × (limit ≤ length (now file)) × (length (now file) ≤ 1048576) ⌝ }
+    ensures { λ r. ⌜ r ≡ stepOf (readAnnotation limit (now (file .entry)) at) ⌝ }
+{
+    if limit <= at {
+        return Step::Refused(Refusal { no: 9, place: at });
+    }
+    let from = at + 1;
+    read_body(file, at, limit, file[at] % 128, from)
+}
+
+// The annotations, which end at or before `limit`.
+pub fn read_annotations(file: &[u8], limit: usize) -> Step
+    requires { ⌜ (32 ≤ limit) × (limit ≤ length (now file)) × (length (now file) ≤ 1048576) ⌝ }
+    ensures { λ r. ⌜ r ≡ stepOf (readAnnotations limit (now (file .entry))) ⌝ }
+{
+    let mut at: usize = 32;
+    loop {
+        let r = read_annotation(file, limit, at);
+        let Step::End(e) = r else {
+            return r;
+        };
+        if 128 <= file[at] {
+            return r;
+        }
+        at = e;
+    }
+}
+
+// Where the annotations must have ended.
+pub fn annotation_limit(h: Header) -> usize
+    ensures { λ r. ⌜ r ≡ annotationLimit h ⌝ }
+{
+    if h.count == 0 {
+        return h.pool;
+    }
+    h.directory
+}

@@ -1,0 +1,179 @@
+-- What an identifier that was read says, and when one is read.
+-- Assumes nothing.
+use mathlib.Core.Path.{_≡_, refl, sym, ap, _∙_}
+use mathlib.Core.Bool.{true, false}
+use mathlib.Core.List.{List, []}
+use mathlib.Core.Logic.{inl, inr}
+use Prim.Native.Nat.{ℕ, _+_, _-_, _≤_, _<_}
+use native.Mathlib.Omega.{arith}
+use lib.ListN.{length, getD}
+use lib.Seq.{getD-drop, getD-take}
+use Rattle.number.specs.Choice.{if_then_else_}
+use Rattle.number.specs.Number.{be}
+use Rattle.number.specs.Scan.{scan}
+use Rattle.number.specs.Part.{part}
+use Rattle.number.proofs.Choice.{from-not-lt, from-not-le, from-not-eq, from-yes-eq, not-lt}
+use Rattle.number.proofs.Choice as choice
+use Rattle.number.proofs.Scans.{below, scan-range}
+use Rattle.number.proofs.Parts.{length-part}
+use Rattle.reading.specs.Got.{got, next, field, stepOf}
+use Rattle.reading.specs.declared.Context.{Context}
+use Rattle.reading.specs.declared.Step.{Step}
+use Rattle.reading.specs.declared.Step.the-variants.{End}
+use Rattle.reading.proofs.Steps.{refused, at-end-as, at-bad, is-true, is-false, is-le, no-le, told}
+use Rattle.reading.proofs.Facts.{Facts, fact, f-bad, f-got, f-if, f-unless, f-next, f-field, f-self}
+use Rattle.key.specs.Word.{zeroByte, wordEnd, wordAt, Leads}
+use Rattle.key.specs.Key.{spaceAt}
+use Rattle.name.specs.Name.{isIdentifier, searchEnd, readIdentifier, follow, followSpace, readName}
+use Rattle.name.proofs.Words.{identifier-long, identifier-nonzero, word-ends, word-range, word-found, word-beyond, search-range, search-full}
+
+-- ---- the three ways out of the search, as steps
+
+module _ (s : List ℕ) (p stop end : ℕ) (l : p ≤ length s) (a : stop ≡ searchEnd s p) (b : end ≡ scan (zeroByte s) (stop - p) p) where
+  pub end-range : (p ≤ end) × (end ≤ length s)
+  end-range = let r = search-range s p l in omega (arith, scan-range (zeroByte s) (stop - p) p)
+
+  -- a zero byte was found, so the word ends there
+  end-found : end < stop → wordEnd s p ≡ end
+  end-found h =
+      let r = search-range s p l in
+      word-found s p stop (omega arith) (omega arith) (omega arith) ∙ sym b
+
+module _ (s : List ℕ) (place p stop end : ℕ) (l : p ≤ length s) (a : stop ≡ searchEnd s p) (b : end ≡ scan (zeroByte s) (stop - p) p) where
+  pub step-good : end < stop → isIdentifier (part s p end) ≡ true → End (end + 1) ≡ stepOf (readIdentifier s place p)
+  unfolding readIdentifier wordAt
+  step-good h t =
+      let r = search-range s p l in
+      let e = end-found s p stop end l a b h in
+      no-le _ _ _ _ (omega arith) (is-true _ _ _ (ap (λ (n : ℕ). isIdentifier (part s p n)) e ∙ t) (at-end-as _ _ (omega arith)))
+
+  pub step-wrong : end < stop → isIdentifier (part s p end) ≡ false → refused 11 place ≡ stepOf (readIdentifier s place p)
+  unfolding readIdentifier wordAt
+  step-wrong h t =
+      let r = search-range s p l in
+      let e = end-found s p stop end l a b h in
+      no-le _ _ _ _ (omega arith) (is-false _ _ _ (ap (λ (n : ℕ). isIdentifier (part s p n)) e ∙ t) (at-bad _ _ _))
+
+  -- no zero byte was found: the pool ends first, or the word has more than 255 bytes
+  pub step-unfinished : stop ≤ end → refused 11 place ≡ stepOf (readIdentifier s place p)
+  unfolding readIdentifier wordAt
+  step-unfinished h =
+      let r = search-range s p l in
+      let y = word-beyond s p stop (omega arith) (omega arith) (omega arith) in
+      elim (below (wordEnd s p) (length s) (word-range s p l .1)) [
+        | inl q ↦ is-le _ _ _ _ (omega arith) (at-bad _ _ _)
+        | inr q ↦ (
+            let f = search-full s p (omega arith) in
+            let n = length-part s p (wordEnd s p) (omega arith) in
+            no-le _ _ _ _ (omega arith) (is-false _ _ _ (identifier-long (part s p (wordEnd s p)) (omega arith)) (at-bad _ _ _)))
+      ]
+
+-- ---- what an identifier that was read says
+
+-- w is the identifier at p of s
+pub record IdentifierAt (s : List ℕ) (p : ℕ) (w : List ℕ) (e : ℕ) : Type 0 where
+  pub ended : wordEnd s p < length s
+  pub word : w ≡ wordAt s p
+  pub end : e ≡ wordEnd s p + 1
+  pub good : isIdentifier w ≡ true
+
+-- the pool pointer q leads to the identifier w
+pub record Named (s : List ℕ) (q : ℕ) (w : List ℕ) : Type 0 where
+  pub leads : Leads s q
+  pub within : q ≤ length s
+  pub word : w ≡ wordAt s (q - 1)
+  pub good : isIdentifier w ≡ true
+
+-- the pool pointer q leads to the namespace v, or is absent
+pub record Spaced (s : List ℕ) (q : ℕ) (v : List ℕ) : Type 0 where
+  pub word : v ≡ spaceAt s q
+  pub leads : (q ≡ 0 → ⊥) → Leads s q
+  pub good : (q ≡ 0 → ⊥) → isIdentifier v ≡ true
+
+-- a pool pointer at p leads to the identifier w
+pub record NameAt (s : List ℕ) (p : ℕ) (w : List ℕ) (e : ℕ) : Type 0 where
+  pub fits : p + 4 ≤ length s
+  pub end : e ≡ p + 4
+  pub named : Named s (be 4 s p) w
+
+module _ (s : List ℕ) where
+  pub identifier-facts : (place p : ℕ) → Facts (IdentifierAt s p) (readIdentifier s place p)
+  unfolding readIdentifier
+  identifier-facts place p =
+      f-unless _ _ _ _ _ (λ t. f-if _ _ _ _ (λ g. f-got _ _ _ (record { ended = from-not-le _ _ t; word = refl; end = refl; good = g })) (λ _. f-bad _ _ _))
+
+  pub follow-facts : (place q : ℕ) → Facts (λ w e. Named s q w) (follow s place q)
+  unfolding follow
+  follow-facts place q =
+      f-unless _ _ _ _ _ (λ t. f-unless _ _ _ _ _ (λ u. f-self _ _ _
+      (λ w e h _. record { leads = record { from = (let z = from-not-eq _ _ t in omega arith); within = h .ended }; within = from-not-lt _ _ u; word = h .word; good = h .good })
+      (identifier-facts place (q - 1))))
+
+  pub space-facts : (place q : ℕ) → Facts (λ v e. Spaced s q v) (followSpace s place q)
+  unfolding followSpace spaceAt
+  space-facts place q =
+      f-if _ _ _ _
+      (λ t. f-got _ _ _ (record { word = choice.is-true _ _ _ t refl; leads = λ n. absurd (n (from-yes-eq _ _ t)); good = λ n. absurd (n (from-yes-eq _ _ t)) }))
+      (λ t. f-self _ _ _ (λ w e h _. record { word = choice.is-false _ _ _ t (h .word); leads = λ _. h .leads; good = λ _. h .good }) (follow-facts place q))
+
+  pub name-facts : (c : Context) (p : ℕ) → Facts (NameAt s p) (readName c s p)
+  unfolding readName
+  name-facts c p =
+      f-field _ _ _ _ _ 4 (λ h. f-next _ _ _ _ (follow-facts (c .base + p) (be 4 s p)) (λ w e n. f-got _ _ _ (record { fits = h; end = refl; named = n })))
+
+  module _ {w : List ℕ} {e : ℕ} where
+    pub identifier-says : (place p : ℕ) → readIdentifier s place p ≡ got w e → IdentifierAt s p w e
+    identifier-says place p h = fact _ _ (identifier-facts place p) h
+
+    pub follow-says : (place q : ℕ) → follow s place q ≡ got w e → Named s q w
+    follow-says place q h = fact _ _ (follow-facts place q) h
+
+    pub space-says : (place q : ℕ) → followSpace s place q ≡ got w e → Spaced s q w
+    space-says place q h = fact _ _ (space-facts place q) h
+
+    pub name-says : (c : Context) (p : ℕ) → readName c s p ≡ got w e → NameAt s p w e
+    name-says c p h = fact _ _ (name-facts c p) h
+
+-- the same of a step
+pub name-ends : (c : Context) (s : List ℕ) (p : ℕ) {r : Step} {e : ℕ} → r ≡ End e → r ≡ stepOf (readName c s p) → (p + 4 ≤ length s) × (e ≡ p + 4)
+name-ends c s p q h = let t = told _ (sym q ∙ h) in let n = name-says s c p (t .1) in (n .fits, n .end)
+
+-- ---- when an identifier is read
+
+-- an absent namespace has no bytes
+pub space-none : (s : List ℕ) (place : ℕ) → followSpace s place 0 ≡ got [] 0
+unfolding followSpace
+space-none s place = sym (choice.is-eq 0 0 (got [] 0) (follow s place 0) refl refl)
+
+getD-part : (s : List ℕ) (i j k : ℕ) → i + k < j → getD (part s i j) k 0 ≡ getD s (i + k) 0
+unfolding part
+getD-part s i j k h = rw (getD-drop, getD-take)
+
+-- the bytes of s from p on are w and then a zero byte
+module _ (s : List ℕ) (p : ℕ) (w : List ℕ) (h : isIdentifier w ≡ true) (l : p + length w < length s) (b : part s p (p + length w) ≡ w) (z : getD s (p + length w) 0 ≡ 0) where
+  word-back : wordEnd s p ≡ p + length w
+  word-back =
+      word-ends s p (p + length w) (omega arith) l z (λ j a d e.
+      identifier-nonzero w h (j - p) (omega arith)
+      (let q : p + (j - p) ≡ j = omega arith in
+      ap (λ (v : List ℕ). getD v (j - p) 0) (sym b) ∙ (getD-part s p (p + length w) (j - p) (omega arith) ∙ (ap (λ (i : ℕ). getD s i 0) q ∙ e))))
+
+  pub identifier-back : (place : ℕ) → readIdentifier s place p ≡ got w (p + length w + 1)
+  unfolding readIdentifier wordAt
+  identifier-back place =
+      let v : part s p (wordEnd s p) ≡ w = ap (part s p) word-back ∙ b in
+      sym (choice.no-le _ _ _ _ (omega (arith, word-back)) (choice.is-true _ _ _ (ap isIdentifier v ∙ h) (λ i. got (sym v i) (sym word-back i + 1))))
+
+  pub follow-back : (place : ℕ) → follow s place (p + 1) ≡ got w (p + length w + 1)
+  unfolding follow
+  follow-back place =
+      let q : p + 1 - 1 ≡ p = omega arith in
+      sym (choice.no-eq _ _ _ _ (λ e. omega arith) (choice.no-lt _ _ _ _ (omega arith) (sym (ap (readIdentifier s place) q ∙ identifier-back place))))
+
+  pub space-back : (place : ℕ) → followSpace s place (p + 1) ≡ got w (p + length w + 1)
+  unfolding followSpace
+  space-back place = sym (choice.no-eq _ _ _ _ (λ e. omega arith) (sym (follow-back place)))
+
+  pub name-back : (c : Context) (at : ℕ) → at + 4 ≤ length s → be 4 s at ≡ p + 1 → readName c s at ≡ got w (at + 4)
+  unfolding readName next field if_then_else_
+  name-back c at f q = rw (not-lt (length s) (at + 4) f, q, follow-back (c .base + at))
