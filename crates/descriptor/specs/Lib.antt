@@ -1,4 +1,4 @@
 pub mod Constant
 pub mod Rules
-pub mod Tables
 pub mod Descriptor
+pub mod Tables

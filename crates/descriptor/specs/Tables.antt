@@ -1,12 +1,19 @@
 -- The methods of an interface as tables, and the getters of each name.
 -- Assumes nothing.
+use mathlib.Core.Path.{_≡_}
 use mathlib.Core.Bool.{Bool, false}
 use mathlib.Core.List.{List}
 use Prim.Native.Nat.{ℕ, zero, suc, _+_, _-_, _<_}
-use lib.ListN.{getD}
+use lib.ListN.{length, getD}
 use Rattle.number.specs.Choice.{if_then_else_, _=?_, _≠?_}
+use Rattle.reading.specs.Got.{got, stepOf}
+use Rattle.reading.specs.declared.Context.{Context}
+use Rattle.reading.specs.declared.Step.{Step}
 use Rattle.key.specs.Word.{Leads, wordAt}
+use Rattle.method.specs.Method.{Method, readMethod}
+use Rattle.method.specs.Walk.{Kept}
 use Rattle.descriptor.specs.Rules.{isGetter, isSetter}
+use Rattle.descriptor.specs.Descriptor.{readCounted}
 
 -- what a table holds at i
 unfoldable pub cell : List ℕ → ℕ → ℕ
@@ -44,3 +51,10 @@ pub record Below (t : List ℕ) (n : ℕ) : Type 0 where
 -- the first n pointers of a table lead to words
 pub record Led (s t : List ℕ) (n : ℕ) : Type 0 where
   pub each : (i : ℕ) → i < n → Leads s (getD t i 0)
+
+-- a method count and that many methods were read, and two tables have their flags and name pointers
+pub record Tabled (c : Context) (s : List ℕ) (at : ℕ) (r : Step) (flags names : List ℕ) : Type 0 where
+  pub step : r ≡ stepOf (readCounted (readMethod c s) c s at)
+  pub kept : (ms : List (Method ℕ)) (e : ℕ) → readCounted (readMethod c s) c s at ≡ got ms e → Kept s flags names ms (length ms)
+  pub flags-long : 1024 ≡ length flags
+  pub names-long : 1024 ≡ length names

@@ -1,3 +1,6 @@
 // Constants and interface descriptors.
 mod constant;
 mod pairs;
+mod record;
+
+pub use record::read_descriptor;

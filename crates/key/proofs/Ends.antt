@@ -1,14 +1,12 @@
 -- Where a word of a pool ends, and what its bytes are.
 -- Assumes nothing.
-use mathlib.Core.Path.{_≡_, refl, sym, ap, _∙_}
-use mathlib.Core.Bool.{Bool, true, false}
+use mathlib.Core.Path.{_≡_, sym, ap, _∙_}
 use mathlib.Core.List.{List, [], _∷_}
 use mathlib.Core.Logic.{_⊎_, inl, inr}
 use Prim.Native.Nat.{ℕ, zero, suc, _+_, _-_, _≤_, _<_}
 use native.Mathlib.Omega.{arith}
 use lib.ListN.{length, getD, take}
 use lib.Seq.{getD-take, getD-drop}
-use Rattle.number.specs.Scan.{scan}
 use Rattle.number.specs.Part.{part}
 use Rattle.number.proofs.Choice.{yes-eq, not-eq, from-yes-eq, from-not-eq}
 use Rattle.number.proofs.Laws.{scan-miss}

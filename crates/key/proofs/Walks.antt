@@ -3,8 +3,7 @@
 use mathlib.Core.Path.{_≡_, refl, sym, ap, _∙_}
 use mathlib.Core.Bool.{Bool, true, false}
 use mathlib.Core.List.{List, [], _∷_}
-use mathlib.Core.Logic.{_⊎_, inl, inr}
-use Prim.Native.Nat.{ℕ, zero, suc, _+_, _-_, _≤_, _<_}
+use Prim.Native.Nat.{ℕ, zero, _+_, _-_, _<_}
 use native.Mathlib.Decide.{ℕ-discrete}
 use native.Mathlib.Omega.{arith}
 use lib.ListN.{length, getD}
@@ -14,7 +13,7 @@ use Rattle.number.proofs.Choice.{is-eq, no-eq}
 use Rattle.key.specs.declared.Order.{Order}
 use Rattle.key.specs.declared.Order.the-variants.{Before, Same, After}
 use Rattle.key.specs.Word.{wordEnd, wordAt, Leads, compareWords}
-use Rattle.key.specs.Key.{Key, key, thenBy, compareKeys, spaceAt, keyAt}
+use Rattle.key.specs.Key.{thenBy, compareKeys, spaceAt, keyAt}
 use Rattle.key.specs.First.{keyIn, Keyed}
 use Rattle.key.specs.Pointer.{Spaced, Pointed, noBytes}
 use Rattle.key.proofs.Ends.{word-from, word-nil, word-cons, end-next}

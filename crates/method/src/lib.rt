@@ -1,1 +1,149 @@
-// Parameters and methods.
+// Reads parameters and methods. Positions are in the pool; places are in the file.
+ghost use mathlib.Core.Bool.{true, false};
+ghost use mathlib.Core.Path.{_≡_};
+ghost use Prim.Native.Nat.{_+_, _≤_};
+ghost use lib.ListN.{length, take};
+ghost use Rattle.reading.specs.Got.{stepOf, many, Accepted};
+ghost use Rattle.method.specs.Parameter.{readParam};
+ghost use Rattle.method.specs.Numbers.{wrongResult};
+ghost use Rattle.method.specs.Method.{readSignature, readMethod};
+ghost use Rattle.method.specs.Walk.{ruleOf, Noted};
+use crate::walk::Fine;
+use reading::Context;
+use reading::Refusal;
+use reading::Step;
+
+pub mod params;
+pub mod walk;
+
+// Whether a result breaks the result rule: f are the method's flags, g the result's, b its prefix.
+fn wrong_result(f: u8, g: u8, b: u8) -> bool
+    ensures { λ r. ⌜ r ≡ wrongResult f g b ⌝ }
+{
+    if f / 32 % 2 == 1 {
+        return false;
+    }
+    if g / 32 % 2 == 1 {
+        return false;
+    }
+    if b == 13 {
+        return false;
+    }
+    b != 6
+}
+
+// The rules of a method's n arguments, read from `at` on, and its result, read from `mid` to `end`.
+fn rule_signature(
+    pool: &[u8],
+    c: Context,
+    first: usize,
+    flags: u8,
+    n: usize,
+    at: usize,
+    mid: usize,
+    end: usize,
+    table: &[u8; 256],
+) -> Step
+    requires { ⌜ Accepted (many (readParam false c (now pool)) n at) × Accepted (readParam true c (now pool) mid) × (c .base + length (now pool) ≤ 1048576) × (first ≤ length (now pool)) × (n ≤ 255) × (256 ≡ length (now table)) ⌝ }
+    ensures { λ r. ⌜ r ≡ stepOf (ruleOf c first flags (take n (now (table .entry))) (many (readParam false c (now (pool .entry))) n at) (readParam true c (now (pool .entry)) mid) end) ⌝ }
+{
+    let base = c.base;
+    if crate::walk::wrong_arguments(pool, c, n, at, table) {
+        return Step::Refused(Refusal {
+            no: 16,
+            place: base + first,
+        });
+    }
+    let r = crate::walk::type_numbers(pool, c, 8, mid + 1, n, table);
+    let Fine::To(e) = r else {
+        return Step::Refused(Refusal {
+            no: 16,
+            place: base + first,
+        });
+    };
+    if wrong_result(flags, pool[mid], pool[mid + 1]) {
+        return Step::Refused(Refusal {
+            no: 16,
+            place: base + first,
+        });
+    }
+    Step::End(end)
+}
+
+// The argument count at `at`, the arguments and the result.
+fn read_signature(pool: &[u8], c: Context, first: usize, flags: u8, at: usize) -> Step
+    requires { ⌜ (at ≤ length (now pool)) × (c .base + length (now pool) ≤ 1048576) × (first ≤ length (now pool)) ⌝ }
+    ensures { λ r. ⌜ r ≡ stepOf (readSignature c (now (pool .entry)) first flags at) ⌝ }
+{
+    let base = c.base;
+    if pool.len() <= at {
+        return Step::Refused(Refusal {
+            no: 13,
+            place: base + at,
+        });
+    }
+    let n = pool[at] as usize;
+    let mut table = [0u8; 256];
+    let a = crate::params::read_arguments(pool, c, n, at + 1, &mut table);
+    let Step::End(mid) = a else {
+        return a;
+    };
+    let b = crate::params::read_param(pool, c, true, mid);
+    let Step::End(end) = b else {
+        return b;
+    };
+    rule_signature(pool, c, first, flags, n, at + 1, mid, end, &table)
+}
+
+// A method.
+pub fn read_method(pool: &[u8], c: Context, at: usize) -> Step
+    requires { ⌜ (at ≤ length (now pool)) × (c .base + length (now pool) ≤ 1048576) ⌝ }
+    ensures { λ r. ⌜ r ≡ stepOf (readMethod c (now (pool .entry)) at) ⌝ }
+{
+    let base = c.base;
+    if pool.len() <= at {
+        return Step::Refused(Refusal {
+            no: 13,
+            place: base + at,
+        });
+    }
+    let f = pool[at];
+    if f % 8 != 0 {
+        return Step::Refused(Refusal {
+            no: 14,
+            place: base + at,
+        });
+    }
+    let a = name::read_name(pool, c, at + 1);
+    let Step::End(e) = a else {
+        return a;
+    };
+    read_signature(pool, c, at, f, e)
+}
+
+// n methods; the tables get their flags and name pointers.
+pub fn read_methods(
+    pool: &[u8],
+    c: Context,
+    n: usize,
+    at: usize,
+    flags: &mut [u8; 1024],
+    names: &mut [u32; 1024],
+) -> Step
+    requires { ⌜ (at ≤ length (now pool)) × (c .base + length (now pool) ≤ 1048576) × (n ≤ 1024) × (1024 ≡ length (now flags)) × (1024 ≡ length (now names)) ⌝ }
+    ensures { λ r. ⌜ Noted c (now (pool .entry)) n at r (now (flags .exit)) (now (names .exit)) ⌝ }
+{
+    let mut k: usize = 0;
+    let mut p = at;
+    while k < n {
+        let r = read_method(pool, c, p);
+        let Step::End(e) = r else {
+            return r;
+        };
+        flags[k] = pool[p];
+        names[k] = number::u32_at(pool, p + 1);
+        p = e;
+        k += 1;
+    }
+    Step::End(p)
+}

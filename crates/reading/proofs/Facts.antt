@@ -62,3 +62,9 @@ pub f-self : {X : Type 0} (P Q : X → ℕ → Type 0) (g : Got X) → ((x : X) 
 unfolding Facts
 f-self P Q (got x e) f h = f x e h refl
 f-self P Q (bad n q) f h = tt
+
+-- what follows from the reading alone
+pub f-read : {X : Type 0} (Q : X → ℕ → Type 0) (g : Got X) → ((x : X) (e : ℕ) → g ≡ got x e → Q x e) → Facts Q g
+unfolding Facts
+f-read Q (got x e) f = f x e refl
+f-read Q (bad n q) f = tt

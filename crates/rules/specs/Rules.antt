@@ -5,16 +5,19 @@ use mathlib.Core.Path.{_≡_}
 use mathlib.Core.Logic.{_⊎_}
 use mathlib.Core.List.{List, [], _∷_}
 use mathlib.Core.Option.{Option, none, some}
-use Prim.Native.Nat.{ℕ, zero, suc, _+_, _-_, _*_, _/_, _%_, _≤_, _<_}
+use Prim.Native.Nat.{ℕ, zero, suc, _+_, _*_, _/_, _%_, _≤_, _<_}
 use lib.ListN.{length, getD}
 use Rattle.key.specs.Key.{Key, key}
+use Rattle.head.specs.declared.Header.{Header}
+use Rattle.head.specs.Shows.{PlainNotes}
 use Rattle.types.specs.Types.{Ty, simple, interface, interfaceIs, array, sized, prefix}
 use Rattle.method.specs.Parameter.{Param, param, paramFlags, paramType}
-use Rattle.method.specs.Method.{Signature, signature, Method, method, methodFlags, methodName, noMethod}
+use Rattle.method.specs.Method.{signature, Method, method, methodFlags, methodName, noMethod}
 use Rattle.descriptor.specs.Constant.{Constant, constant}
 use Rattle.descriptor.specs.Descriptor.{Descriptor, descriptor}
-use Rattle.typelib.specs.Entry.{Entry, entry, entryKey, entryIid, entryDescriptor, noEntry}
-use Rattle.typelib.specs.Across.{above}
+use Rattle.typelib.specs.Entry.{Entry, entry, entryKey, entryIid, noEntry}
+use Rattle.typelib.specs.Across.{aboveIn}
+use Rattle.typelib.specs.Typelib.{Typelib, typelib}
 
 -- every element
 abbrev pub All : {X : Type 0} → (X → Type 0) → List X → Type 0
@@ -183,22 +186,45 @@ InOrder es = (i j : ℕ) → i < j → j < length es → (iidOf es i ≡ 0) ⊎ 
 abbrev pub UniqueKeys : List (Entry ℕ) → Type 0
 UniqueKeys es = (i j : ℕ) → i < j → j < length es → keyOf es i ≡ keyOf es j → ⊥
 
--- the index above that of an entry, counted from 1; 0 above an entry without parent, above an unresolved one, and above 0
-abbrev pub up : List (Entry ℕ) → ℕ → ℕ
-up es zero = 0
-up es (suc i) = above (entryDescriptor (getD es i noEntry))
+-- one step up from an index, counted from 1, where `up` tells the index above each entry, counted from 0; above 0 stands 0
+abbrev pub rise : (ℕ → ℕ) → ℕ → ℕ
+rise up zero = 0
+rise up (suc i) = up i
 
 -- k steps up
-abbrev pub climb : ℕ → List (Entry ℕ) → ℕ → ℕ
-climb zero es i = i
-climb (suc k) es i = climb k es (up es i)
+abbrev pub climb : ℕ → (ℕ → ℕ) → ℕ → ℕ
+climb zero up i = i
+climb (suc k) up i = climb k up (rise up i)
 
--- no parent chain returns to an entry it has passed: where it comes to the same index twice, it has ended
+-- no chain of n entries returns to an entry it has passed: where it comes to the same index twice, it has ended
+abbrev pub NoReturn : (ℕ → ℕ) → ℕ → Type 0
+NoReturn up n = (i a b : ℕ) → i < n → a < b → climb a up (i + 1) ≡ climb b up (i + 1) → climb a up (i + 1) ≡ 0
+
+-- of parent chains: nothing stands above an entry without parent, and nothing above an unresolved one
 abbrev pub NoCycle : List (Entry ℕ) → Type 0
-NoCycle es = (i a b : ℕ) → i < length es → a < b → climb a es (i + 1) ≡ climb b es (i + 1) → climb a es (i + 1) ≡ 0
+NoCycle es = NoReturn (aboveIn es) (length es)
 
 pub record EntriesRule (minor n : ℕ) (es : List (Entry ℕ)) : Type 0 where
   pub each : All (EntryRule minor n) es
   pub order : InOrder es
   pub keys : UniqueKeys es
   pub chains : NoCycle es
+
+-- ---- a file
+
+-- the header of a file of `len` bytes
+pub record PositionRule (len : ℕ) (h : Header) : Type 0 where
+  -- at most 1,048,576 bytes and 1,024 interfaces
+  pub short : len ≤ 1048576
+  pub few : h .count ≤ 1024
+  -- minor is 0 or 1
+  pub known : h .minor ≤ 1
+  pub low : 33 ≤ h .pool
+  pub inside : h .pool ≤ len
+  -- with n = 0 the directory offset is 0
+  pub absent : h .count ≡ 0 → h .directory ≡ 0
+  pub placed : (h .count ≡ 0 → ⊥) → (h .directory % 4 ≡ 0) × (33 ≤ h .directory) × (h .directory + 28 * h .count ≤ h .pool)
+
+-- of a file of `len` bytes
+abbrev pub TypelibRule : ℕ → Typelib → Type 0
+TypelibRule len (typelib h notes es) = PositionRule len h × PlainNotes notes × EntriesRule (h .minor) (h .count) es

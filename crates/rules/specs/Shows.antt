@@ -1,5 +1,5 @@
 -- These bytes show this value: layout only. Where each field lies, where pointers lead, how many records there are; no rule on a value, no order of tests.
--- `s` is the pool, except in the last two definitions; a record stands at p and ends before e.
+-- `s` is the pool, but in the definitions on entries and files it is the file; a record stands at p and ends before e.
 -- Assumes nothing.
 use mathlib.Core.Path.{_≡_}
 use mathlib.Core.Logic.{_⊎_}
@@ -9,17 +9,25 @@ use Prim.Native.Nat.{ℕ, _+_, _-_, _*_, _%_, _≤_, _<_}
 use lib.ListN.{length, getD}
 use Rattle.number.specs.Number.{be}
 use Rattle.number.specs.Part.{part}
-use Rattle.key.specs.Key.{Key, key}
+use Rattle.key.specs.Key.{key}
 use Rattle.head.specs.declared.Header.{Header}
+use Rattle.head.specs.Header.{magic}
+use Rattle.head.specs.Annotation.{annotationLimit}
+use Rattle.head.specs.Shows.{ShowsNotes}
 use Rattle.types.specs.Types.{Ty, simple, interface, interfaceIs, array, sized}
 use Rattle.method.specs.Parameter.{Param, param}
-use Rattle.method.specs.Method.{Signature, signature, Method, method}
+use Rattle.method.specs.Method.{signature, Method, method}
 use Rattle.descriptor.specs.Constant.{Constant, constant, valueSize}
 use Rattle.descriptor.specs.Descriptor.{Descriptor, descriptor}
 use Rattle.typelib.specs.Entry.{Entry, entry, noEntry}
 use Rattle.typelib.specs.Across.{parentIndex}
+use Rattle.typelib.specs.Typelib.{Typelib, typelib, poolOf}
 
 -- ---- bytes, numbers, runs
+
+-- a list of bytes; past its end stand zeros
+pub record Bytes (s : List ℕ) : Type 0 where
+  pub small : (i : ℕ) → getD s i 0 < 256
 
 pub record ShowsByte (s : List ℕ) (p b : ℕ) : Type 0 where
   pub inside : p < length s
@@ -84,9 +92,9 @@ ShowsDescriptor s p (descriptor up ms ks f) e =
 
 -- ---- a directory entry at p of the file s
 
--- absent, or a word
+-- absent, or a word that is not empty: the default namespace has no bytes, so one that is present has some
 abbrev pub ShowsSpace : List ℕ → ℕ → List ℕ → Type 0
-ShowsSpace pool q v = ((q ≡ 0) × (v ≡ [])) ⊎ ShowsWord pool q v
+ShowsSpace pool q v = ((q ≡ 0) × (v ≡ [])) ⊎ (ShowsWord pool q v × (1 ≤ length v))
 
 abbrev pub ShowsOwn : List ℕ → ℕ → Option (Descriptor ℕ) → Type 0
 ShowsOwn pool q none = q ≡ 0
@@ -101,3 +109,21 @@ ShowsEntry s pool p (entry (key v w) i d) =
 pub record ShowsEntries (s pool : List ℕ) (d n : ℕ) (es : List (Entry ℕ)) : Type 0 where
   pub count : length es ≡ n
   pub each : (k : ℕ) → k < n → ShowsEntry s pool (d + 28 * k) (getD es k noEntry)
+
+-- ---- a file
+
+-- magic, major, minor, interface count, file length, directory offset, pool offset
+pub record ShowsHeader (s : List ℕ) (h : Header) : Type 0 where
+  pub inside : 32 ≤ length s
+  pub magicBytes : (i : ℕ) → i < 16 → getD s i 0 ≡ getD magic i 0
+  pub major : getD s 16 0 ≡ 1
+  pub minor : getD s 17 0 ≡ h .minor
+  pub count : be 2 s 18 ≡ h .count
+  pub size : be 4 s 20 ≡ length s
+  pub directory : be 4 s 24 ≡ h .directory
+  pub pool : be 4 s 28 ≡ h .pool
+
+-- header; annotations from 32 on, which end at or before the directory, the pool when there is none; entries, whose pointers lead into the pool
+abbrev pub ShowsTypelib : List ℕ → Typelib → Type 0
+ShowsTypelib s (typelib h notes es) =
+    ShowsHeader s h × ((e : ℕ) × ShowsNotes s 32 notes e × (e ≤ annotationLimit h)) × ShowsEntries s (poolOf h s) (h .directory) (h .count) es

@@ -3,21 +3,22 @@
 use mathlib.Core.Bool.{Bool, true, false, not}
 use mathlib.Core.List.{List}
 use mathlib.Core.Option.{Option, none, some}
-use Prim.Native.Nat.{ℕ, zero, suc, _+_, _-_}
+use Prim.Native.Nat.{ℕ, zero, suc, _+_, _-_, _*_}
 use Rattle.number.specs.Choice.{if_then_else_, _<?_, _=?_}
 use Rattle.number.specs.Scan.{scan}
+use Rattle.reading.specs.Got.{Got, got, bad}
 use Rattle.key.specs.Key.{Key}
 use Rattle.key.specs.First.{firstSame}
 use Rattle.descriptor.specs.Descriptor.{Descriptor, parentOf}
-use Rattle.typelib.specs.Entry.{Entry, keysIn, descriptorIn}
+use Rattle.typelib.specs.Entry.{Entry, descriptorIn}
 
 -- of keys by index from 0, that of i stood earlier
 unfoldable pub repeated : (ℕ → Key) → ℕ → Bool
 repeated K i = firstSame K i <? i
 
 -- the lowest of n entries whose key stood earlier, or n
-unfoldable pub firstRepeated : List (Entry ℕ) → ℕ → ℕ
-firstRepeated es n = scan (repeated (keysIn es)) n 0
+unfoldable pub firstRepeated : (ℕ → Key) → ℕ → ℕ
+firstRepeated K n = scan (repeated K) n 0
 
 -- the index of a parent, counted from 1; 0 is none
 unfoldable pub parentIndex : Option ℕ → ℕ
@@ -43,5 +44,12 @@ unfoldable pub circles : (ℕ → ℕ) → ℕ → ℕ → Bool
 circles up n i = not (chainEnds n up (i + 1))
 
 -- the lowest of n entries whose chain doesn't end, or n
-unfoldable pub firstCircling : List (Entry ℕ) → ℕ → ℕ
-firstCircling es n = scan (circles (aboveIn es) n) n 0
+unfoldable pub firstCircling : (ℕ → ℕ) → ℕ → ℕ
+firstCircling up n = scan (circles up n) n 0
+
+-- The keys and the chains of n entries of a directory at d: entry places are file offsets. What is read is their number.
+unfoldable pub readAcross : (ℕ → Key) → (ℕ → ℕ) → ℕ → ℕ → ℕ → Got ℕ
+readAcross K up n d e =
+    if firstRepeated K n <? n then bad 18 (d + 28 * firstRepeated K n) else
+    if firstCircling up n <? n then bad 19 (d + 28 * firstCircling up n) else
+    got n e

@@ -1,19 +1,22 @@
 -- A whole file, in the order of document 01: 1 to 8; annotations; the directory; descriptors; 18; 19.
 -- Assumes nothing.
+use mathlib.Core.Path.{_≡_}
 use mathlib.Core.List.{List}
 use mathlib.Core.Option.{Option}
-use Prim.Native.Nat.{ℕ, _+_, _*_}
+use Prim.Native.Nat.{ℕ}
 use lib.ListN.{length, drop}
-use Rattle.number.specs.Choice.{if_then_else_, _<?_}
 use Rattle.reading.specs.Got.{Got, got, bad, next, many}
 use Rattle.reading.specs.declared.Context.{Context}
 use Rattle.head.specs.declared.Header.{Header}
+use Rattle.head.specs.declared.Head.{Head}
+use Rattle.head.specs.declared.Head.the-variants as head
+use Rattle.head.specs.declared.Head.the-variants.{Read}
 use Rattle.head.specs.Header.{readHeader}
 use Rattle.head.specs.Annotation.{Annotation, readAnnotations, annotationLimit}
 use Rattle.directory.specs.Directory.{Row, readDirectory}
 use Rattle.descriptor.specs.Descriptor.{Descriptor}
-use Rattle.typelib.specs.Entry.{Entry, readOwn, entriesOf}
-use Rattle.typelib.specs.Across.{firstRepeated, firstCircling}
+use Rattle.typelib.specs.Entry.{Entry, readOwn, entriesOf, keysIn}
+use Rattle.typelib.specs.Across.{aboveIn, readAcross}
 use Rattle.typelib.specs.declared.Verdict.{Verdict}
 use Rattle.typelib.specs.declared.Verdict.the-variants.{Accepted, Refused}
 
@@ -29,13 +32,17 @@ poolOf h s = drop (h .pool) s
 unfoldable pub contextOf : Header → Context
 contextOf h = record { base = h .pool; minor = h .minor; count = h .count }
 
--- header, annotations, directory
-unfoldable pub readFront : List ℕ → Got Front
-readFront s =
-    next (readHeader s) λ h _.
+-- annotations and directory, of a file with the header h
+unfoldable pub readListed : Header → List ℕ → Got Front
+readListed h s =
     next (readAnnotations (annotationLimit h) s) λ notes _.
     next (readDirectory s (poolOf h s) (h .count) (h .directory)) λ rows _.
     got (front h notes rows) (length s)
+
+unfoldable pub readFront : List ℕ → Got Front
+readFront s =
+    next (readHeader s) λ h _.
+    readListed h s
 
 -- the descriptors, in directory order
 unfoldable pub readDescriptors : Header → List ℕ → Got (List (Option (Descriptor ℕ)))
@@ -53,18 +60,12 @@ notesOf (typelib h notes es) = notes
 unfoldable pub entriesIn : Typelib → List (Entry ℕ)
 entriesIn (typelib h notes es) = es
 
--- the rules across entries; entry places are file offsets
-unfoldable pub ruleEntries : Header → List Annotation → List (Entry ℕ) → ℕ → Got Typelib
-ruleEntries h notes es e =
-    if firstRepeated es (h .count) <? h .count then bad 18 (h .directory + 28 * firstRepeated es (h .count)) else
-    if firstCircling es (h .count) <? h .count then bad 19 (h .directory + 28 * firstCircling es (h .count)) else
-    got (typelib h notes es) e
-
 -- what follows the front
 unfoldable pub readBehind : List ℕ → Front → ℕ → Got Typelib
 readBehind s (front h notes rows) e =
     next (readDescriptors h s) λ ds _.
-    ruleEntries h notes (entriesOf rows ds) e
+    next (readAcross (keysIn (entriesOf rows ds)) (aboveIn (entriesOf rows ds)) (h .count) (h .directory) e) λ _ e.
+    got (typelib h notes (entriesOf rows ds)) e
 
 unfoldable pub readTypelib : List ℕ → Got Typelib
 readTypelib s =
@@ -75,3 +76,27 @@ readTypelib s =
 unfoldable pub verdictOf : Got Typelib → Verdict
 verdictOf (got t e) = Accepted (headerOf t .count)
 verdictOf (bad n q) = Refused (record { no = n; place = q })
+
+-- ---- the answers of parts of the code
+
+-- the header h, or the refusal of what was read
+unfoldable pub keepHead : {X : Type 0} → Header → Got X → Head
+keepHead h (got x e) = Read h
+keepHead h (bad n q) = head.Refused (record { no = n; place = q })
+
+-- the header that was read
+unfoldable pub frontOf : Got Front → Head
+frontOf (got (front h notes rows) e) = Read h
+frontOf (bad n q) = head.Refused (record { no = n; place = q })
+
+-- the number that was read
+unfoldable pub countOf : Got ℕ → Verdict
+countOf (got n e) = Accepted n
+countOf (bad n q) = Refused (record { no = n; place = q })
+
+-- the file s has the header h, and what stands before its descriptors was accepted
+pub record Fronted (s : List ℕ) (h : Header) : Type 0 where
+  pub notes : List Annotation
+  pub rows : List Row
+  pub end : ℕ
+  pub read : readFront s ≡ got (front h notes rows) end

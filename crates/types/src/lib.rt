@@ -1,4 +1,12 @@
-// Types.
+// Reads a type. Positions are in the pool; places are in the file.
+ghost use mathlib.Core.Path.{_≡_};
+ghost use Prim.Native.Nat.{_+_, _≤_, _<_};
+ghost use lib.ListN.{length, getD};
+ghost use Rattle.reading.specs.Got.{stepOf};
+ghost use Rattle.types.specs.Types.{classOf, isReserved, needsPointer, lacksPointer, readIndex, readRest, readArray, readType};
+use reading::Context;
+use reading::Refusal;
+use reading::Step;
 
 // What a tag stands for.
 pub enum Class {
@@ -9,4 +17,206 @@ pub enum Class {
     InterfaceIs,
     Array,
     Sized,
+}
+
+// What a tag stands for under a minor version.
+pub fn tag_class(minor: u8, tag: u8) -> Class
+    ensures { λ r. ⌜ r ≡ classOf minor tag ⌝ }
+{
+    match tag {
+        0..=14 => Class::Plain,
+        15 => {
+            if minor == 0 {
+                return Class::Reserved;
+            }
+            Class::Plain
+        }
+        16..=17 => Class::Text,
+        18 => Class::Interface,
+        19 => Class::InterfaceIs,
+        20 => Class::Array,
+        21..=22 => Class::Sized,
+        _ => Class::Reserved,
+    }
+}
+
+// Whether a tag is reserved.
+pub fn is_reserved(k: Class) -> bool
+    ensures { λ r. ⌜ r ≡ isReserved k ⌝ }
+{
+    match k {
+        Class::Reserved => true,
+        Class::Plain => false,
+        Class::Text => false,
+        Class::Interface => false,
+        Class::InterfaceIs => false,
+        Class::Array => false,
+        Class::Sized => false,
+    }
+}
+
+// Whether a tag needs the pointer bit.
+pub fn needs_pointer(k: Class) -> bool
+    ensures { λ r. ⌜ r ≡ needsPointer k ⌝ }
+{
+    match k {
+        Class::Reserved => false,
+        Class::Plain => false,
+        Class::Text => true,
+        Class::Interface => true,
+        Class::InterfaceIs => true,
+        Class::Array => true,
+        Class::Sized => true,
+    }
+}
+
+// Whether a prefix lacks the pointer bit that its tag, or its unique or reference bit, needs.
+pub fn lacks_pointer(k: Class, b: u8) -> bool
+    ensures { λ r. ⌜ r ≡ lacksPointer k b ⌝ }
+{
+    if 128 <= b {
+        return false;
+    }
+    if 32 <= b {
+        return true;
+    }
+    needs_pointer(k)
+}
+
+// An index of the directory.
+pub fn read_index(pool: &[u8], c: Context, at: usize) -> Step
+    requires { ⌜ (at ≤ length (now pool)) × (c .base + length (now pool) ≤ 1048576) ⌝ }
+    ensures { λ r. ⌜ r ≡ stepOf (readIndex c (now (pool .entry)) at) ⌝ }
+{
+    let base = c.base;
+    let count = c.count;
+    if pool.len() < at + 2 {
+        return Step::Refused(Refusal {
+            no: 13,
+            place: base + at,
+        });
+    }
+    let i = number::u16_at(pool, at) as usize;
+    if i == 0 {
+        return Step::Refused(Refusal {
+            no: 15,
+            place: base + at,
+        });
+    }
+    if count < i {
+        return Step::Refused(Refusal {
+            no: 15,
+            place: base + at,
+        });
+    }
+    Step::End(at + 2)
+}
+
+// What follows the prefix at `at`, which is of class k. No array is left here: an array is refused.
+fn read_plain(pool: &[u8], c: Context, k: Class, at: usize) -> Step
+    requires { ⌜ (at < length (now pool)) × (c .base + length (now pool) ≤ 1048576) ⌝ }
+    ensures { λ r. ⌜ r ≡ stepOf (readRest (readArray 0 c (now (pool .entry))) c (now (pool .entry)) k at (getD (now (pool .entry)) at 0) (at + 1)) ⌝ }
+{
+    let base = c.base;
+    let e = at + 1;
+    match k {
+        Class::Reserved => Step::Refused(Refusal {
+            no: 14,
+            place: base + at,
+        }),
+        Class::Plain => Step::End(e),
+        Class::Text => Step::End(e),
+        Class::Interface => read_index(pool, c, e),
+        Class::InterfaceIs => {
+            if pool.len() <= e {
+                return Step::Refused(Refusal {
+                    no: 13,
+                    place: base + e,
+                });
+            }
+            Step::End(e + 1)
+        }
+        Class::Array => Step::Refused(Refusal {
+            no: 17,
+            place: base + at,
+        }),
+        Class::Sized => {
+            if pool.len() <= e {
+                return Step::Refused(Refusal {
+                    no: 13,
+                    place: base + e,
+                });
+            }
+            let f = e + 1;
+            if pool.len() <= f {
+                return Step::Refused(Refusal {
+                    no: 13,
+                    place: base + f,
+                });
+            }
+            Step::End(f + 1)
+        }
+    }
+}
+
+// A type, with `left` arrays allowed one inside another.
+pub fn read_type(pool: &[u8], c: Context, left: usize, at: usize) -> Step
+    requires { ⌜ (at ≤ length (now pool)) × (c .base + length (now pool) ≤ 1048576) × (left ≤ 8) ⌝ }
+    ensures { λ r. ⌜ r ≡ stepOf (readType left c (now (pool .entry)) at) ⌝ }
+{
+    let base = c.base;
+    let minor = c.minor;
+    if pool.len() <= at {
+        return Step::Refused(Refusal {
+            no: 13,
+            place: base + at,
+        });
+    }
+    let b = pool[at];
+    let k = tag_class(minor, b % 32);
+    if is_reserved(k) {
+        return Step::Refused(Refusal {
+            no: 14,
+            place: base + at,
+        });
+    }
+    if lacks_pointer(k, b) {
+        return Step::Refused(Refusal {
+            no: 16,
+            place: base + at,
+        });
+    }
+    match k {
+        Class::Array => read_array(pool, c, left, at),
+        _ => read_plain(pool, c, k, at),
+    }
+}
+
+// What follows an array's prefix at `at`: two argument numbers, and the element's type.
+fn read_array(pool: &[u8], c: Context, left: usize, at: usize) -> Step
+    requires { ⌜ (at < length (now pool)) × (c .base + length (now pool) ≤ 1048576) × (left ≤ 8) ⌝ }
+    ensures { λ r. ⌜ r ≡ stepOf (readArray left c (now (pool .entry)) at (getD (now (pool .entry)) at 0) (at + 1)) ⌝ }
+{
+    let base = c.base;
+    if left == 0 {
+        return Step::Refused(Refusal {
+            no: 17,
+            place: base + at,
+        });
+    }
+    let e = at + 1;
+    if pool.len() <= e {
+        return Step::Refused(Refusal {
+            no: 13,
+            place: base + e,
+        });
+    }
+    let f = e + 1;
+    if pool.len() <= f {
+        return Step::Refused(Refusal {
+            no: 13,
+            place: base + f,
+        });
+    }
+    read_type(pool, c, left - 1, f + 1)
 }

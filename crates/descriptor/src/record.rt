@@ -1,0 +1,153 @@
+// Interface descriptors.
+ghost use mathlib.Core.Path.{_≡_};
+ghost use Prim.Native.Nat.{_+_, _≤_};
+ghost use lib.ListN.{length};
+ghost use Rattle.reading.specs.Got.{stepOf};
+ghost use Rattle.descriptor.specs.Tables.{Led, Tabled, cell, wordIn};
+ghost use Rattle.descriptor.specs.Descriptor.{reservedInterface, readParent, readFlags, readDescriptor};
+use reading::Context;
+use reading::Refusal;
+use reading::Step;
+
+// The parent's index.
+fn read_parent(pool: &[u8], c: Context, at: usize) -> Step
+    requires { ⌜ (at ≤ length (now pool)) × (c .base + length (now pool) ≤ 1048576) ⌝ }
+    ensures { λ r. ⌜ r ≡ stepOf (readParent c (now (pool .entry)) at) ⌝ }
+{
+    let base = c.base;
+    let count = c.count;
+    if pool.len() < at + 2 {
+        return Step::Refused(Refusal {
+            no: 13,
+            place: base + at,
+        });
+    }
+    let i = number::u16_at(pool, at) as usize;
+    if count < i {
+        return Step::Refused(Refusal {
+            no: 15,
+            place: base + at,
+        });
+    }
+    Step::End(at + 2)
+}
+
+// The method count at `at` and that many methods, their flags and name pointers noted in tables.
+fn read_all_methods(
+    pool: &[u8],
+    c: Context,
+    at: usize,
+    flags: &mut [u8; 1024],
+    names: &mut [u32; 1024],
+) -> Step
+    requires { ⌜ (at ≤ length (now pool)) × (c .base + length (now pool) ≤ 1048576) × (1024 ≡ length (now flags)) × (1024 ≡ length (now names)) ⌝ }
+    ensures { λ r. ⌜ Tabled c (now (pool .entry)) at r (now (flags .exit)) (now (names .exit)) ⌝ }
+{
+    let base = c.base;
+    if pool.len() < at + 2 {
+        return Step::Refused(Refusal {
+            no: 13,
+            place: base + at,
+        });
+    }
+    let n = number::u16_at(pool, at) as usize;
+    if 1024 < n {
+        return Step::Refused(Refusal {
+            no: 17,
+            place: base + at,
+        });
+    }
+    method::read_methods(pool, c, n, at + 2, flags, names)
+}
+
+// Whether interface flags have a reserved bit.
+fn reserved_interface(minor: u8, f: u8) -> bool
+    ensures { λ r. ⌜ r ≡ reservedInterface minor f ⌝ }
+{
+    if f % 64 != 0 {
+        return true;
+    }
+    if minor == 0 {
+        return f / 64 % 2 == 1;
+    }
+    false
+}
+
+// The flags at `at` of the descriptor at `first`, and the rules on its n methods.
+fn read_flags(
+    pool: &[u8],
+    c: Context,
+    first: usize,
+    at: usize,
+    n: usize,
+    flags: &[u8; 1024],
+    names: &[u32; 1024],
+) -> Step
+    requires { ⌜ (at ≤ length (now pool)) × (first ≤ length (now pool)) × (c .base + length (now pool) ≤ 1048576) × (n ≤ 1024) × (1024 ≡ length (now flags)) × (1024 ≡ length (now names)) × Led (now pool) (now names) n ⌝ }
+    ensures { λ r. ⌜ r ≡ stepOf (readFlags c (now (pool .entry)) first (cell (now (flags .entry))) (wordIn (now (pool .entry)) (now (names .entry))) n at) ⌝ }
+{
+    let base = c.base;
+    let minor = c.minor;
+    if pool.len() <= at {
+        return Step::Refused(Refusal {
+            no: 13,
+            place: base + at,
+        });
+    }
+    if reserved_interface(minor, pool[at]) {
+        return Step::Refused(Refusal {
+            no: 14,
+            place: base + at,
+        });
+    }
+    if crate::pairs::many_constructors(flags, n) {
+        return Step::Refused(Refusal {
+            no: 16,
+            place: base + first,
+        });
+    }
+    if crate::pairs::stray_pairs(pool, flags, names, n) {
+        return Step::Refused(Refusal {
+            no: 16,
+            place: base + first,
+        });
+    }
+    Step::End(at + 1)
+}
+
+// A descriptor, with room for its methods' flags and names.
+fn read_with(
+    pool: &[u8],
+    c: Context,
+    at: usize,
+    flags: &mut [u8; 1024],
+    names: &mut [u32; 1024],
+) -> Step
+    requires { ⌜ (at ≤ length (now pool)) × (c .base + length (now pool) ≤ 1048576) × (1024 ≡ length (now flags)) × (1024 ≡ length (now names)) ⌝ }
+    ensures { λ r. ⌜ r ≡ stepOf (readDescriptor c (now (pool .entry)) at) ⌝ }
+{
+    let up = read_parent(pool, c, at);
+    let Step::End(e) = up else {
+        return up;
+    };
+    let methods = read_all_methods(pool, c, e, flags, names);
+    let Step::End(mid) = methods else {
+        return methods;
+    };
+    let constants = crate::constant::read_all_constants(pool, c, mid);
+    let Step::End(end) = constants else {
+        return constants;
+    };
+    let n = number::u16_at(pool, e) as usize;
+    read_flags(pool, c, at, end, n, flags, names)
+}
+
+// A descriptor.
+pub fn read_descriptor(pool: &[u8], c: Context, at: usize) -> Step
+    requires { ⌜ (at ≤ length (now pool)) × (c .base + length (now pool) ≤ 1048576) ⌝ }
+    ensures { λ r. ⌜ r ≡ stepOf (readDescriptor c (now (pool .entry)) at) ⌝ }
+{
+    let mut flags = [0u8; 1024];
+    let mut names = [0u32; 1024];
+    read_with(pool, c, at, &mut flags, &mut names)
+}

@@ -1,0 +1,4 @@
+pub mod Arguments
+pub mod NumberLaws
+pub mod RuleLaws
+pub mod MethodLaws

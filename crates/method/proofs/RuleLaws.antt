@@ -1,0 +1,60 @@
+-- Laws of the rules of a signature.
+-- Assumes nothing.
+use mathlib.Core.Path.{_≡_, sym, ap, _∙_}
+use mathlib.Core.Bool.{Bool, true, false}
+use mathlib.Core.List.{List}
+use Prim.Native.Nat.{ℕ, _+_}
+use lib.ListN.{getD, take}
+use Rattle.reading.specs.Got.{Got, got, next, stepOf, Accepted}
+use Rattle.reading.specs.declared.Context.{Context}
+use Rattle.reading.specs.declared.Step.{Step}
+use Rattle.types.specs.Types.{prefix, readType}
+use Rattle.method.specs.Parameter.{Param, paramFlags, paramType, readParam}
+use Rattle.method.specs.Numbers.{prefixes, wrongNumbers, wrongArguments, wrongResult}
+use Rattle.method.specs.Method.{ruleSignature}
+use Rattle.method.specs.declared.walk.Fine.{Fine}
+use Rattle.method.specs.declared.walk.Fine.the-variants.{To, Broken}
+use Rattle.method.specs.Walk.{fine, fineOf, brokenOf, ruleOf, Listed}
+use Rattle.method.proofs.Arguments.{ParamAt, param-at}
+use Rattle.method.proofs.NumberLaws.{fine-to, fine-broken}
+
+-- the result
+module _ (c : Context) (s : List ℕ) (mid : ℕ) (a : Accepted (readParam true c s mid)) where
+  pub result-at : ParamAt true c s mid (a .0) (a .1)
+  result-at = param-at true c s mid (a .2)
+
+  pub result-type : Accepted (readType 8 c s (mid + 1))
+  result-type = (paramType (a .0), a .1, result-at .read)
+
+  pub result-is : (f : ℕ) {t b : Bool} → t ≡ b → t ≡ wrongResult f (getD s mid 0) (getD s (mid + 1) 0) → wrongResult f (paramFlags (a .0)) (prefix (paramType (a .0))) ≡ b
+  result-is f e h = (λ i. wrongResult f (result-at .flags i) (result-at .ty .first i)) ∙ sym h ∙ e
+
+  module _ (pre : List ℕ) {r : Fine} (h : r ≡ fineOf pre (readType 8 c s (mid + 1))) where
+    result-fine : r ≡ fine pre (paramType (a .0)) (a .1)
+    unfolding fineOf
+    result-fine = h ∙ ap (fineOf pre) (result-at .read)
+
+    pub result-to : {d : ℕ} → r ≡ To d → wrongNumbers pre (paramType (a .0)) ≡ false
+    result-to e = fine-to pre (paramType (a .0)) (a .1) (sym e ∙ result-fine) .0
+
+    pub result-broken : r ≡ Broken → wrongNumbers pre (paramType (a .0)) ≡ true
+    result-broken e = fine-broken pre (paramType (a .0)) (a .1) (sym e ∙ result-fine)
+
+-- the arguments
+pub arguments-are : (pre : List ℕ) (g : Got (List (Param ℕ))) (a : Accepted g) {t b : Bool} → t ≡ b → t ≡ brokenOf pre g → wrongArguments pre (a .0) ≡ b
+unfolding brokenOf
+arguments-are pre g a e h = sym (rw (a .2) at h) ∙ e
+
+-- arguments and result that were read are those that the rules are about
+pub rule-from : (c : Context) (first f : ℕ) (pre : List ℕ) (g : Got (List (Param ℕ))) (h : Got (Param ℕ)) (end : ℕ) (a : Accepted g) (b : Accepted h) {z : Step}
+    → z ≡ stepOf (ruleSignature c first f pre (a .0) (b .0) end) → z ≡ stepOf (ruleOf c first f pre g h end)
+unfolding ruleOf next
+rule-from c first f pre g h end a b q = rw (a .2, b .2) q
+
+-- and the table is what the arguments say
+pub rule-told : (c : Context) (first f : ℕ) (t : List ℕ) (g : Got (List (Param ℕ))) (h : Got (Param ℕ)) (n end : ℕ) {ps : List (Param ℕ)} {x : Param ℕ} {d e : ℕ} {r z : Step}
+    → g ≡ got ps d → h ≡ got x e → Listed g n r t
+    → z ≡ stepOf (ruleOf c first f (take n t) g h end) → z ≡ stepOf (ruleSignature c first f (prefixes ps) ps x end)
+unfolding ruleOf next
+rule-told c first f t g h n end {ps} {x} {d} {e} a b l z =
+    rw (a, b, l .held ps d a) at z

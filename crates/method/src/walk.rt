@@ -1,0 +1,117 @@
+// The argument numbers of types that have been read, against the table of the arguments' prefixes.
+ghost use mathlib.Core.Bool.{false};
+ghost use mathlib.Core.Path.{_≡_};
+ghost use Prim.Native.Nat.{_+_, _≤_};
+ghost use lib.ListN.{length, take};
+ghost use Rattle.reading.specs.Got.{many, Accepted};
+ghost use Rattle.types.specs.Types.{readType};
+ghost use Rattle.method.specs.Parameter.{readParam};
+ghost use Rattle.method.specs.Numbers.{wrongIid, wrongSize, wrongSizes};
+ghost use Rattle.method.specs.Walk.{fineOf, brokenOf};
+use reading::Context;
+use types::Class;
+
+// The position after a type whose argument numbers name what they must.
+pub enum Fine {
+    To(usize),
+    Broken,
+}
+
+// Whether argument a is none, or not of tag 14 with pointer.
+fn wrong_iid(table: &[u8; 256], count: usize, a: u8) -> bool
+    requires { ⌜ (count ≤ 256) × (256 ≡ length (now table)) ⌝ }
+    ensures { λ r. ⌜ r ≡ wrongIid (take count (now (table .entry))) a ⌝ }
+{
+    let iid = a as usize;
+    if count <= iid {
+        return true;
+    }
+    if table[iid] % 32 != 14 {
+        return true;
+    }
+    table[iid] < 128
+}
+
+// Whether argument a is none, or not of tag 6 without pointer.
+fn wrong_size(table: &[u8; 256], count: usize, a: u8) -> bool
+    requires { ⌜ (count ≤ 256) × (256 ≡ length (now table)) ⌝ }
+    ensures { λ r. ⌜ r ≡ wrongSize (take count (now (table .entry))) a ⌝ }
+{
+    let size = a as usize;
+    if count <= size {
+        return true;
+    }
+    if table[size] % 32 != 6 {
+        return true;
+    }
+    128 <= table[size]
+}
+
+// Size and length.
+fn wrong_sizes(table: &[u8; 256], count: usize, x: u8, y: u8) -> bool
+    requires { ⌜ (count ≤ 256) × (256 ≡ length (now table)) ⌝ }
+    ensures { λ r. ⌜ r ≡ wrongSizes (take count (now (table .entry))) x y ⌝ }
+{
+    if wrong_size(table, count, x) {
+        return true;
+    }
+    wrong_size(table, count, y)
+}
+
+// A type that was read at `at`, with `left` arrays allowed one inside another.
+pub fn type_numbers(
+    pool: &[u8],
+    c: Context,
+    left: usize,
+    at: usize,
+    count: usize,
+    table: &[u8; 256],
+) -> Fine
+    requires { ⌜ Accepted (readType left c (now pool) at) × (at ≤ length (now pool)) × (length (now pool) ≤ 1048576) × (count ≤ 256) × (256 ≡ length (now table)) ⌝ }
+    ensures { λ r. ⌜ r ≡ fineOf (take count (now (table .entry))) (readType left c (now (pool .entry)) at) ⌝ }
+{
+    let minor = c.minor;
+    let k = types::tag_class(minor, pool[at] % 32);
+    match k {
+        Class::Reserved => Fine::Broken,
+        Class::Plain => Fine::To(at + 1),
+        Class::Text => Fine::To(at + 1),
+        Class::Interface => Fine::To(at + 3),
+        Class::InterfaceIs => {
+            if wrong_iid(table, count, pool[at + 1]) {
+                return Fine::Broken;
+            }
+            Fine::To(at + 2)
+        }
+        Class::Array => {
+            if wrong_sizes(table, count, pool[at + 1], pool[at + 2]) {
+                return Fine::Broken;
+            }
+            type_numbers(pool, c, left - 1, at + 3, count, table)
+        }
+        Class::Sized => {
+            if wrong_sizes(table, count, pool[at + 1], pool[at + 2]) {
+                return Fine::Broken;
+            }
+            Fine::To(at + 3)
+        }
+    }
+}
+
+// n arguments that were read from `at` on.
+pub fn wrong_arguments(pool: &[u8], c: Context, n: usize, at: usize, table: &[u8; 256]) -> bool
+    requires { ⌜ Accepted (many (readParam false c (now pool)) n at) × (length (now pool) ≤ 1048576) × (n ≤ 256) × (256 ≡ length (now table)) ⌝ }
+    ensures { λ r. ⌜ r ≡ brokenOf (take n (now (table .entry))) (many (readParam false c (now (pool .entry))) n at) ⌝ }
+{
+    let mut k: usize = 0;
+    let mut p = at;
+    while k < n {
+        let r = type_numbers(pool, c, 8, p + 1, n, table);
+        let Fine::To(e) = r else {
+            return true;
+        };
+        p = e;
+        k += 1;
+    }
+    false
+}

@@ -1,0 +1,12 @@
+pub mod Runs
+pub mod Names
+pub mod Keys
+pub mod Pairs
+pub mod Order
+pub mod Chains
+pub mod Types
+pub mod Methods
+pub mod Constants
+pub mod Descriptors
+pub mod Entries
+pub mod Whole

@@ -1,0 +1,86 @@
+// The descriptors of the directory's entries. One that several entries share is read once.
+ghost use mathlib.Core.Path.{_≡_};
+ghost use Prim.Native.Nat.{_+_, _*_, _≤_, _<_};
+ghost use lib.ListN.{length};
+ghost use Rattle.number.specs.Scan.{some};
+ghost use Rattle.reading.specs.Got.{stepOf, many};
+ghost use Rattle.typelib.specs.Entry.{readOwn};
+ghost use Rattle.typelib.specs.Own.{Settled};
+ghost use Rattle.typelib.specs.Directory.{Lies, pointsTo};
+use reading::Context;
+use reading::Refusal;
+use reading::Step;
+
+// The verdict on the descriptor of the entry at p.
+fn check_own(file: &[u8], pool: &[u8], c: Context, p: usize) -> Step
+    requires { ⌜ (p + 28 ≤ length (now file)) × (length (now file) ≤ 1048576) × (c .base + length (now pool) ≤ 1048576) ⌝ }
+    ensures { λ r. ⌜ r ≡ stepOf (readOwn c (now (file .entry)) (now (pool .entry)) p) ⌝ }
+{
+    let q = number::u32_at(file, p + 24) as usize;
+    if q == 0 {
+        return Step::End(p + 28);
+    }
+    if pool.len() < q {
+        return Step::Refused(Refusal {
+            no: 13,
+            place: p + 24,
+        });
+    }
+    let r = descriptor::read_descriptor(pool, c, q - 1);
+    let Step::End(e) = r else {
+        return r;
+    };
+    Step::End(p + 28)
+}
+
+// Whether entry j has the descriptor pointer q.
+fn points_to(file: &[u8], n: usize, d: usize, j: usize, q: u32) -> bool
+    requires { ⌜ Lies (now file) n d × (j < n) ⌝ }
+    ensures { λ r. ⌜ r ≡ pointsTo (now (file .entry)) d q j ⌝ }
+{
+    number::u32_at(file, d + 28 * j + 24) == q
+}
+
+// Whether one of the first k entries does.
+fn stood_earlier(file: &[u8], n: usize, d: usize, k: usize, q: u32) -> bool
+    requires { ⌜ Lies (now file) n d × (k ≤ n) ⌝ }
+    ensures { λ r. ⌜ r ≡ some (pointsTo (now (file .entry)) d q) k ⌝ }
+{
+    let mut j: usize = 0;
+    while j < k {
+        if points_to(file, n, d, j, q) {
+            return true;
+        }
+        j += 1;
+    }
+    false
+}
+
+// The verdict on the descriptor of entry k, where those before it were accepted.
+fn check_once(file: &[u8], pool: &[u8], c: Context, n: usize, d: usize, k: usize) -> Step
+    requires { ⌜ Lies (now file) n d × (k < n) × (c .base + length (now pool) ≤ 1048576) × Settled c (now file) (now pool) d k ⌝ }
+    ensures { λ r. ⌜ r ≡ stepOf (readOwn c (now (file .entry)) (now (pool .entry)) (d + 28 * k)) ⌝ }
+{
+    let p = d + 28 * k;
+    let q = number::u32_at(file, p + 24);
+    if stood_earlier(file, n, d, k, q) {
+        return Step::End(p + 28);
+    }
+    check_own(file, pool, c, p)
+}
+
+// The descriptors of n entries.
+pub fn check_descriptors(file: &[u8], pool: &[u8], c: Context, n: usize, d: usize) -> Step
+    requires { ⌜ Lies (now file) n d × (c .base + length (now pool) ≤ 1048576) ⌝ }
+    ensures { λ r. ⌜ r ≡ stepOf (many (readOwn c (now (file .entry)) (now (pool .entry))) n d) ⌝ }
+{
+    let mut k: usize = 0;
+    while k < n {
+        let r = check_once(file, pool, c, n, d, k);
+        let Step::End(e) = r else {
+            return r;
+        };
+        k += 1;
+    }
+    Step::End(d + 28 * n)
+}

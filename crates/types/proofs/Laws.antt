@@ -1,0 +1,43 @@
+-- Laws of what follows a prefix.
+-- Assumes nothing.
+use mathlib.Core.Path.{_≡_, refl, ap, _∙_}
+use mathlib.Core.List.{List}
+use Prim.Native.Nat.{ℕ, zero, suc, _+_, _-_}
+use native.Mathlib.Omega.{arith}
+use Rattle.reading.specs.Got.{Got, got, next, byte, stepOf}
+use Rattle.reading.specs.declared.Context.{Context}
+use Rattle.reading.specs.declared.Step.{Step}
+use Rattle.reading.proofs.Steps.{refused, at-bad}
+use Rattle.types.specs.declared.Class.{Class}
+use Rattle.types.specs.declared.Class.the-variants.{Reserved, Plain, Text, Interface, InterfaceIs, Array, Sized}
+use Rattle.types.specs.Types.{Ty, array, readRest, readArray, readType}
+
+-- what follows a prefix whose class is known
+pub rest-is : (f : ℕ → ℕ → ℕ → Got (Ty ℕ)) (c : Context) (s : List ℕ) (k l : Class) (p b e : ℕ) {z : Step} → k ≡ l → z ≡ stepOf (readRest f c s l p b e) → z ≡ stepOf (readRest f c s k p b e)
+rest-is f c s k l p b e h r = rw h r
+
+-- what is no array's is the same whatever reads arrays
+rest-plain : (f g : ℕ → ℕ → ℕ → Got (Ty ℕ)) (c : Context) (s : List ℕ) (k : Class) (p b e : ℕ) → (k ≡ Array → ⊥) → readRest g c s k p b e ≡ readRest f c s k p b e
+unfolding readRest
+rest-plain f g c s Reserved p b e h = refl
+rest-plain f g c s Plain p b e h = refl
+rest-plain f g c s Text p b e h = refl
+rest-plain f g c s Interface p b e h = refl
+rest-plain f g c s InterfaceIs p b e h = refl
+rest-plain f g c s Array p b e h = absurd (h refl)
+rest-plain f g c s Sized p b e h = refl
+
+pub rest-other : (f g : ℕ → ℕ → ℕ → Got (Ty ℕ)) (c : Context) (s : List ℕ) (k l : Class) (p b e : ℕ) {z : Step} → (k ≡ Array → ⊥) → k ≡ l → z ≡ stepOf (readRest g c s k p b e) → z ≡ stepOf (readRest f c s l p b e)
+rest-other f g c s k l p b e n h r = rw (← h) (r ∙ ap stepOf (rest-plain f g c s k p b e n))
+
+-- an array, where none is left and where one is
+pub array-none : (left : ℕ) (c : Context) (s : List ℕ) (p b e : ℕ) → left ≡ 0 → refused 17 (c .base + p) ≡ stepOf (readArray left c s p b e)
+unfolding readArray
+array-none left c s p b e q = rw q (at-bad _ _ _)
+
+pub array-some : (left : ℕ) (c : Context) (s : List ℕ) (p b e : ℕ) {z : Step} → (left ≡ 0 → ⊥)
+    → z ≡ stepOf (next (byte c s e) λ x e. next (byte c s e) λ y e. next (readType (left - 1) c s e) λ t e. got (array b x y t) e)
+    → z ≡ stepOf (readArray left c s p b e)
+unfolding readArray readType
+array-some zero c s p b e h r = absurd (h refl)
+array-some (suc left) c s p b e h r = let q : suc left - 1 ≡ left = omega arith in rw q at r
