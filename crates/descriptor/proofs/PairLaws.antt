@@ -35,7 +35,8 @@ module _ (f g : ℕ → ℕ) (k n : ℕ) where
   narrower : (i : ℕ) → Getter f g (suc n) k i → (i ≡ n) ⊎ Getter f g n k i
   narrower i x = elim (below i n (let l = x .inside in omega arith)) [
     | inl e ↦ inl e
-    | inr l ↦ inr (record { inside = l; getter = x .getter; name = x .name }) ]
+    | inr l ↦ inr (record { inside = l; getter = x .getter; name = x .name })
+  ]
 
   -- method n is none of them
   told-same : (v : ℕ) → (Getter f g (suc n) k n → ⊥) → Told f g n k v → Told f g (suc n) k v
@@ -56,8 +57,8 @@ told f g k zero = none refl (λ i x. let l = x .inside in omega arith)
 told f g k (suc n) =
     both (Told f g (suc n) k) (isGetter f n) (if g n =? k then oneMore (gettersOf f g n k) n else gettersOf f g n k) (gettersOf f g n k)
     (λ a. both (Told f g (suc n) k) (g n =? k) (oneMore (gettersOf f g n k) n) (gettersOf f g n k)
-      (λ b. told-more f g k n _ (record { inside = omega arith; getter = a; name = from-yes-eq (g n) k b }) (told f g k n))
-      (λ b. told-same f g k n _ (λ x. from-not-eq (g n) k b (x .name)) (told f g k n)))
+    (λ b. told-more f g k n _ (record { inside = omega arith; getter = a; name = from-yes-eq (g n) k b }) (told f g k n))
+    (λ b. told-same f g k n _ (λ x. from-not-eq (g n) k b (x .name)) (told f g k n)))
     (λ a. told-same f g k n _ (λ x. clash (isGetter f n) (x .getter) a) (told f g k n))
 
 -- ---- a stray setter is a broken pair
@@ -71,9 +72,8 @@ abbrev Behind : (ℕ → ℕ) → ℕ → ℕ → Type 0
 Behind f j v = (isSetter f j ≡ true) × (v ≡ 0 → ⊥) × (v ≡ j → ⊥)
 
 module _ (f g : ℕ → ℕ) (w : ℕ → List ℕ) (n : ℕ) (few : n ≤ 1024)
-  (named : (i j : ℕ) → i < n → j < n → sameWord (w i) (w j) ≡ true → g i ≡ g j)
-  (same : (i j : ℕ) → i < n → j < n → g i ≡ g j → sameWord (w i) (w j) ≡ true) where
-
+    (named : (i j : ℕ) → i < n → j < n → sameWord (w i) (w j) ≡ true → g i ≡ g j)
+    (same : (i j : ℕ) → i < n → j < n → g i ≡ g j → sameWord (w i) (w j) ≡ true) where
   pair-yes : (i j : ℕ) → isGetter f i ≡ true → isSetter f j ≡ true → sameWord (w i) (w j) ≡ true → (j ≡ i + 1 → ⊥) → strayPair f w i j ≡ true
   unfolding strayPair
   pair-yes i j a b e h = sym (is-true _ _ _ a (is-true _ _ _ b (is-true _ _ _ e (sym (yes-ne j (i + 1) h)))))
@@ -83,8 +83,8 @@ module _ (f g : ℕ → ℕ) (w : ℕ → List ℕ) (n : ℕ) (few : n ≤ 1024)
   pair-parts i j =
       both (λ (t : Bool). t ≡ true → Stray f w i j) (isGetter f i) (if isSetter f j then (if sameWord (w i) (w j) then j ≠? i + 1 else false) else false) false
       (λ a. both (λ (t : Bool). t ≡ true → Stray f w i j) (isSetter f j) (if sameWord (w i) (w j) then j ≠? i + 1 else false) false
-        (λ b. both (λ (t : Bool). t ≡ true → Stray f w i j) (sameWord (w i) (w j)) (j ≠? i + 1) false (λ e h. (a, b, e, from-yes-ne j (i + 1) h)) (λ e h. clash false h refl))
-        (λ b h. clash false h refl))
+      (λ b. both (λ (t : Bool). t ≡ true → Stray f w i j) (sameWord (w i) (w j)) (j ≠? i + 1) false (λ e h. (a, b, e, from-yes-ne j (i + 1) h)) (λ e h. clash false h refl))
+      (λ b h. clash false h refl))
       (λ a h. clash false h refl)
 
   stray-is : (i j : ℕ) → i < n → j < n → strayPair f w i j ≡ true → strayPairs f w n ≡ true
@@ -104,7 +104,8 @@ module _ (f g : ℕ → ℕ) (w : ℕ → List ℕ) (n : ℕ) (few : n ≤ 1024)
   setter-pair j v l b z q (one i e x u) = stray-is i j (x .inside) l (pair-yes i j (x .getter) b (same i j (x .inside) l (x .name)) (λ d. q (omega arith)))
   setter-pair j v l b z q (several i k e d x y) = elim (ℕ-discrete j (i + 1)) [
     | yes c ↦ stray-is k j (y .inside) l (pair-yes k j (y .getter) b (same k j (y .inside) l (y .name)) (λ m. omega arith))
-    | no c ↦ stray-is i j (x .inside) l (pair-yes i j (x .getter) b (same i j (x .inside) l (x .name)) c) ]
+    | no c ↦ stray-is i j (x .inside) l (pair-yes i j (x .getter) b (same i j (x .inside) l (x .name)) c)
+  ]
 
   -- from a pair to the table
   pair-setter : (i j v : ℕ) → i < n → j < n → isGetter f i ≡ true → isSetter f j ≡ true → sameWord (w i) (w j) ≡ true → (j ≡ i + 1 → ⊥) → Told f g n (g j) v → (if isSetter f j then strayOf v j else false) ≡ true

@@ -21,7 +21,7 @@ use Rattle.reading.proofs.Facts.{Facts, fact, f-got, f-unless, f-next, f-byte, 
 use Rattle.reading.proofs.Rows.{many-length}
 use Rattle.key.specs.Word.{wordAt, sameWord}
 use Rattle.method.specs.Method.{Method, readMethod}
-use Rattle.method.specs.Walk.{Kept, Noted}
+use Rattle.method.specs.Tables.{Kept, Noted}
 use Rattle.method.proofs.MethodLaws.{methods-in}
 use Rattle.descriptor.specs.Constant.{Constant, readConstant}
 use Rattle.descriptor.specs.Rules.{isConstructor, isGetter, isSetter, manyConstructors, strayPair, strayGetter, strayPairs}
@@ -143,10 +143,10 @@ module _ (c : Context) (s flags names : List ℕ) (at : ℕ) where
   tabled-noted n {r} l m k w = record {
     step = field-in _ _ _ _ _ l (no-lt _ _ _ _ (omega arith) (rw (← m) (w .step)));
     kept = λ ms e g.
-      let x = counted-at (readMethod c s) c s at g in
-      let y : many (readMethod c s) n (at + 2) ≡ got ms e = rw m (x .read) in
-      let z : n ≡ length ms = m ∙ sym (x .count) in
-      rw (← z) (w .kept ms e y);
+        let x = counted-at (readMethod c s) c s at g in
+        let y : many (readMethod c s) n (at + 2) ≡ got ms e = rw m (x .read) in
+        let z : n ≡ length ms = m ∙ sym (x .count) in
+        rw (← z) (w .kept ms e y);
     flags-long = w .flags-long;
     names-long = w .names-long;
   }

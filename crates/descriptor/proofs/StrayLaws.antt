@@ -45,9 +45,8 @@ unfolding gettersOf
 no-getters f g = record { long = omega arith; held = λ k l. zeros k l }
 
 module _ (s t first getters : List ℕ) (f : ℕ → ℕ) (n : ℕ) (few : n ≤ 1024)
-  (filled : Filled first n (firstSame (keyIn s (replicate 1024 0) t)))
-  (noted : Filled getters 1024 (gettersOf f (cell first) n)) where
-
+    (filled : Filled first n (firstSame (keyIn s (replicate 1024 0) t)))
+    (noted : Filled getters 1024 (gettersOf f (cell first) n)) where
   cell-first : (i : ℕ) → i < n → cell first i ≡ firstSame (keyIn s (replicate 1024 0) t) i
   unfolding cell
   cell-first i l = filled .held i l

@@ -11,7 +11,7 @@ use Rattle.reading.specs.declared.Context.{Context}
 use Rattle.reading.specs.declared.Step.{Step}
 use Rattle.key.specs.Word.{Leads, wordAt}
 use Rattle.method.specs.Method.{Method, readMethod}
-use Rattle.method.specs.Walk.{Kept}
+use Rattle.method.specs.Tables.{Kept}
 use Rattle.descriptor.specs.Rules.{isGetter, isSetter}
 use Rattle.descriptor.specs.Descriptor.{readCounted}
 

@@ -88,7 +88,12 @@ fn is_stray(flags: &[u8; 1024], first: &[u16; 1024], getters: &[u16; 1024], j: u
 }
 
 // Whether one of n methods is such a setter.
-pub fn stray_setter(flags: &[u8; 1024], first: &[u16; 1024], getters: &[u16; 1024], n: usize) -> bool
+pub fn stray_setter(
+    flags: &[u8; 1024],
+    first: &[u16; 1024],
+    getters: &[u16; 1024],
+    n: usize,
+) -> bool
     requires { ⌜ (n ≤ 1024) × (1024 ≡ length (now flags)) × (1024 ≡ length (now first)) × Below (now first) n ⌝ }
     ensures { λ r. ⌜ r ≡ some (straySetter (cell (now (flags .entry))) (cell (now (first .entry))) (cell (now (getters .entry)))) n ⌝ }
 {

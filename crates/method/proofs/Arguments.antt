@@ -19,7 +19,7 @@ use Rattle.types.specs.Types.{prefix, readType}
 use Rattle.types.proofs.View.{itself, TypeAt, type-at}
 use Rattle.method.specs.Parameter.{Param, paramFlags, paramType, reservedParam, wrongParam, readParam}
 use Rattle.method.specs.Numbers.{prefixes}
-use Rattle.method.specs.Walk.{Listed}
+use Rattle.method.specs.Tables.{Listed}
 
 -- ---- a parameter: its flags, its type, and where it ends
 

@@ -26,7 +26,7 @@ use Rattle.types.proofs.View.{itself}
 use Rattle.method.specs.Parameter.{Param, paramFlags, paramType, readParam}
 use Rattle.method.specs.Numbers.{prefixes, wrongNumbers, wrongArguments, wrongResult}
 use Rattle.method.specs.Method.{Signature, signature, Method, methodFlags, methodName, methodSignature, ruleSignature, readSignature, readMethod, noMethod}
-use Rattle.method.specs.Walk.{Kept, Noted}
+use Rattle.method.specs.Tables.{Kept, Noted}
 use Rattle.method.proofs.Arguments.{param-at}
 
 -- records end at or after their start
@@ -124,10 +124,10 @@ module _ (c : Context) (s : List ℕ) (p : ℕ) where
 
 -- a table's place k is written, and a list has one more: an index below k, and k itself
 module _ (t : List ℕ) (k v i : ℕ) (l : k < length t) where
-  pub set-here : i ≡ k → getD (set t k v) i 0 ≡ v
+  set-here : i ≡ k → getD (set t k v) i 0 ≡ v
   set-here q = rw q (getD-set-same t k v 0 l)
 
-  pub set-there : i < k → getD (set t k v) i 0 ≡ getD t i 0
+  set-there : i < k → getD (set t k v) i 0 ≡ getD t i 0
   set-there q = getD-set-other t k i v 0 (λ e. omega arith)
 
 module _ (ms : List (Method ℕ)) (m : Method ℕ) (i : ℕ) where
@@ -138,14 +138,14 @@ module _ (ms : List (Method ℕ)) (m : Method ℕ) (i : ℕ) where
   snoc-there q = List·getD-append ms (m ∷ []) noMethod i q
 
 -- k methods from `at` on have been read up to p, and the tables have their flags and name pointers
-pub record Filled (c : Context) (s : List ℕ) (at k p : ℕ) (flags names : List ℕ) : Type 0 where
+pub record Gathered (c : Context) (s : List ℕ) (at k p : ℕ) (flags names : List ℕ) : Type 0 where
   pub methods : List (Method ℕ)
   pub read : many (readMethod c s) k at ≡ got methods p
   pub kept : Kept s flags names methods k
 
 module _ (c : Context) (s : List ℕ) (at : ℕ) where
-  pub filled-none : (flags names : List ℕ) → Filled c s at 0 at flags names
-  filled-none flags names =
+  pub gathered-none : (flags names : List ℕ) → Gathered c s at 0 at flags names
+  gathered-none flags names =
       record {
         methods = [];
         read = many-none _ at;
@@ -153,7 +153,7 @@ module _ (c : Context) (s : List ℕ) (at : ℕ) where
       }
 
   -- one more
-  module _ (k p : ℕ) (flags names : List ℕ) (a : Filled c s at k p flags names) (x : k < length flags) (y : k < length names) where
+  module _ (k p : ℕ) (flags names : List ℕ) (a : Gathered c s at k p flags names) (x : k < length flags) (y : k < length names) where
     length-is : length (a .methods) ≡ k
     length-is = many-length (readMethod c s) k at (a .read)
 
@@ -179,20 +179,20 @@ module _ (c : Context) (s : List ℕ) (at : ℕ) where
         | inr z ↦ ap (λ (u : ℕ). wordAt s (u - 1)) (set-there names k q i y z) ∙ a .kept .name i z ∙ ap methodName (sym (snoc-there (a .methods) m i (omega (arith, length-is))))
       ]
 
-      filled-one : Filled c s at (k + 1) e (set flags k v) (set names k q)
-      filled-one =
+      gathered-one : Gathered c s at (k + 1) e (set flags k v) (set names k q)
+      gathered-one =
           record {
             methods = a .methods ++ (m ∷ []);
             read = rw (add-one k) (many-snoc _ k at (a .methods) p m e (a .read) h);
             kept = record { flag = kept-flag; leads = kept-leads; name = kept-name };
           }
 
-    pub filled-more : {r : Step} {e v q : ℕ} → r ≡ End e → r ≡ stepOf (readMethod c s p) → v ≡ getD s p 0 → q ≡ be 4 s (p + 1) → Filled c s at (k + 1) e (set flags k v) (set names k q)
-    filled-more z h f n = filled-one (told _ (sym z ∙ h) .1) f n
+    pub gathered-more : {r : Step} {e v q : ℕ} → r ≡ End e → r ≡ stepOf (readMethod c s p) → v ≡ getD s p 0 → q ≡ be 4 s (p + 1) → Gathered c s at (k + 1) e (set flags k v) (set names k q)
+    gathered-more z h f n = gathered-one (told _ (sym z ∙ h) .1) f n
 
-  pub filled-stop : (n k p : ℕ) (flags names : List ℕ) {r : Step} {m q : ℕ} → Filled c s at k p flags names → k < n → r ≡ refused m q → r ≡ stepOf (readMethod c s p)
+  pub gathered-stop : (n k p : ℕ) (flags names : List ℕ) {r : Step} {m q : ℕ} → Gathered c s at k p flags names → k < n → r ≡ refused m q → r ≡ stepOf (readMethod c s p)
       → 1024 ≡ length flags → 1024 ≡ length names → Noted c s n at r flags names
-  filled-stop n k p flags names {r} {m} {q} a l e h x y =
+  gathered-stop n k p flags names {r} {m} {q} a l e h x y =
       let b : many (readMethod c s) n at ≡ bad m q = many-stop _ n k at (a .methods) p m q l (a .read) (told _ (sym e ∙ h)) in
       record {
         step = rw b (e ∙ at-bad _ m q);
@@ -201,8 +201,8 @@ module _ (c : Context) (s : List ℕ) (at : ℕ) where
         names-long = y;
       }
 
-  pub filled-done : (n k p : ℕ) (flags names : List ℕ) → Filled c s at k p flags names → k ≡ n → 1024 ≡ length flags → 1024 ≡ length names → Noted c s n at (End p) flags names
-  filled-done n k p flags names a e x y =
+  pub gathered-done : (n k p : ℕ) (flags names : List ℕ) → Gathered c s at k p flags names → k ≡ n → 1024 ≡ length flags → 1024 ≡ length names → Noted c s n at (End p) flags names
+  gathered-done n k p flags names a e x y =
       rw (← e) (record {
         step = rw (a .read) (at-end _ p);
         kept = λ ms d g. (let w : a .methods ≡ ms = cc in subst (λ (l : List (Method ℕ)). Kept s flags names l k) w (a .kept));

@@ -14,7 +14,8 @@ use Rattle.method.specs.Numbers.{prefixes, wrongNumbers, wrongArguments,
 use Rattle.method.specs.Method.{ruleSignature}
 use Rattle.method.specs.declared.walk.Fine.{Fine}
 use Rattle.method.specs.declared.walk.Fine.the-variants.{To, Broken}
-use Rattle.method.specs.Walk.{fine, fineOf, brokenOf, ruleOf, Listed}
+use Rattle.method.specs.Walk.{fine, fineOf, brokenOf, ruleOf}
+use Rattle.method.specs.Tables.{Listed}
 use Rattle.method.proofs.Arguments.{ParamAt, param-at}
 use Rattle.method.proofs.NumberLaws.{fine-to, fine-broken}
 

@@ -2,3 +2,4 @@ pub mod Parameter
 pub mod Numbers
 pub mod Method
 pub mod Walk
+pub mod Tables

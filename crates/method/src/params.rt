@@ -5,7 +5,7 @@ ghost use Prim.Native.Nat.{_+_, _≤_};
 ghost use lib.ListN.{length};
 ghost use Rattle.reading.specs.Got.{stepOf, many};
 ghost use Rattle.method.specs.Parameter.{reservedParam, wrongParam, readParam};
-ghost use Rattle.method.specs.Walk.{Listed};
+ghost use Rattle.method.specs.Tables.{Listed};
 use reading::Context;
 use reading::Refusal;
 use reading::Step;

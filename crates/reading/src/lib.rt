@@ -12,6 +12,12 @@ pub enum Step {
     Refused(Refusal),
 }
 
+// What the check of a file answers: accepted with its number of interfaces, or refused.
+pub enum Verdict {
+    Accepted(usize),
+    Refused(Refusal),
+}
+
 // The pool's offset in the file, the minor version and the number of interfaces.
 pub struct Context {
     pub base: usize,

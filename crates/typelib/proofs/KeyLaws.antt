@@ -17,8 +17,7 @@ use Rattle.typelib.specs.Directory.{Lies, Named, namePointer, spacePoint
 use Rattle.typelib.specs.Tables.{lower}
 
 module _ (s pool spaces names : List ℕ) (n d : ℕ)
-  (f : Filled spaces n (spacePointer s d)) (g : Filled names n (namePointer s d)) where
-
+    (f : Filled spaces n (spacePointer s d)) (g : Filled names n (namePointer s d)) where
   pub pointers-keyed : n ≤ 1024 → Named s pool n d → Keyed pool spaces names n
   pointers-keyed few m = record {
     many = few;

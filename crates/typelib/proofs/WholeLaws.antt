@@ -33,8 +33,8 @@ use Rattle.typelib.specs.Entry.{Entry, entry, entryKey, entryDescriptor,
 use Rattle.typelib.specs.Across.{repeated, firstRepeated, parentIndex, above, aboveIn, chainEnds, circles, firstCircling, readAcross}
 use Rattle.typelib.specs.Directory.{Lies, Named, Rooted, namePointer, spacePointer, ownPointer, keyOn, aboveOn}
 use Rattle.typelib.specs.Typelib.{Front, front, Fronted, Typelib, typelib, headerOf, poolOf, contextOf, readFront, readDescriptors, readBehind, readTypelib, countOf, verdictOf}
-use Rattle.typelib.specs.declared.Verdict.{Verdict}
-use Rattle.typelib.specs.declared.Verdict.the-variants.{Accepted, Refused}
+use Rattle.reading.specs.declared.Verdict.{Verdict}
+use Rattle.reading.specs.declared.Verdict.the-variants.{Accepted, Refused}
 use Rattle.typelib.proofs.ChainLaws.{chain-none, chain-out, chain-up}
 use Rattle.typelib.proofs.EntryLaws.{entryWith, entries-at}
 use Rattle.typelib.proofs.OwnLaws.{Leads, nowhere, descriptor, own-says, own-size}

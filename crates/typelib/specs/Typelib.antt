@@ -17,8 +17,8 @@ use Rattle.directory.specs.Directory.{Row, readDirectory}
 use Rattle.descriptor.specs.Descriptor.{Descriptor}
 use Rattle.typelib.specs.Entry.{Entry, readOwn, entriesOf, keysIn}
 use Rattle.typelib.specs.Across.{aboveIn, readAcross}
-use Rattle.typelib.specs.declared.Verdict.{Verdict}
-use Rattle.typelib.specs.declared.Verdict.the-variants.{Accepted, Refused}
+use Rattle.reading.specs.declared.Verdict.{Verdict}
+use Rattle.reading.specs.declared.Verdict.the-variants.{Accepted, Refused}
 
 -- what is read before the descriptors
 pub data Front : Type 0 where

@@ -5,12 +5,12 @@ ghost use lib.ListN.{length};
 ghost use Rattle.typelib.specs.Across.{readAcross};
 ghost use Rattle.typelib.specs.Directory.{Lies, Named, Rooted, keyOn, aboveOn};
 ghost use Rattle.typelib.specs.Typelib.{Fronted, poolOf, readTypelib, countOf, verdictOf};
-use crate::Verdict;
 use head::Head;
 use head::Header;
 use reading::Context;
 use reading::Refusal;
 use reading::Step;
+use reading::Verdict;
 
 // The keys and the chains of n entries.
 fn check_across(file: &[u8], pool: &[u8], n: usize, d: usize) -> Verdict

@@ -1,16 +1,37 @@
 -- Laws of what follows a prefix.
 -- Assumes nothing.
-use mathlib.Core.Path.{_≡_, refl, ap, _∙_}
+use mathlib.Core.Path.{_≡_, refl, sym, ap, _∙_}
+use mathlib.Core.Bool.{Bool}
 use mathlib.Core.List.{List}
-use Prim.Native.Nat.{ℕ, zero, suc, _+_, _-_}
+use Prim.Native.Nat.{ℕ, zero, suc, _+_, _-_, _<_}
 use native.Mathlib.Omega.{arith}
+use lib.ListN.{length}
+use Rattle.number.proofs.Choice.{from-not-le}
 use Rattle.reading.specs.Got.{Got, got, next, byte, stepOf}
 use Rattle.reading.specs.declared.Context.{Context}
 use Rattle.reading.specs.declared.Step.{Step}
-use Rattle.reading.proofs.Steps.{refused, at-bad}
+use Rattle.reading.specs.declared.Step.the-variants.{End}
+use Rattle.reading.proofs.Steps.{refused, at-bad, told}
+use Rattle.reading.proofs.Facts.{Facts, fact, f-got, f-unless}
 use Rattle.types.specs.declared.Class.{Class}
 use Rattle.types.specs.declared.Class.the-variants.{Reserved, Plain, Text, Interface, InterfaceIs, Array, Sized}
-use Rattle.types.specs.Types.{Ty, array, readRest, readArray, readType}
+use Rattle.types.specs.Types.{Ty, array, isReserved, lacksPointer, readRest, readArray, readType}
+
+-- where a byte that was read ends
+byte-facts : (c : Context) (s : List ℕ) (p : ℕ) → Facts (λ b e. (p < length s) × (e ≡ p + 1)) (byte c s p)
+unfolding byte
+byte-facts c s p = f-unless _ _ _ _ _ (λ t. f-got _ _ _ (from-not-le _ _ t, refl))
+
+pub byte-ends : (c : Context) (s : List ℕ) (p : ℕ) {r : Step} {e : ℕ} → r ≡ End e → r ≡ stepOf (byte c s p) → (p < length s) × (e ≡ p + 1)
+byte-ends c s p q h = fact _ _ (byte-facts c s p) (told _ (sym q ∙ h) .1)
+
+-- a test of the class that was found is a test of the tag's class
+module _ {k l : Class} (h : k ≡ l) {r b : Bool} where
+  pub reserved-is : r ≡ isReserved k → r ≡ b → isReserved l ≡ b
+  reserved-is q e = rw (← h) (sym q ∙ e)
+
+  pub lacks-is : (x : ℕ) → r ≡ lacksPointer k x → r ≡ b → lacksPointer l x ≡ b
+  lacks-is x q e = rw (← h) (sym q ∙ e)
 
 -- what follows a prefix whose class is known
 pub rest-is : (f : ℕ → ℕ → ℕ → Got (Ty ℕ)) (c : Context) (s : List ℕ) (k l : Class) (p b e : ℕ) {z : Step} → k ≡ l → z ≡ stepOf (readRest f c s l p b e) → z ≡ stepOf (readRest f c s k p b e)

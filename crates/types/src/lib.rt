@@ -2,7 +2,7 @@
 ghost use mathlib.Core.Path.{_≡_};
 ghost use Prim.Native.Nat.{_+_, _≤_, _<_};
 ghost use lib.ListN.{length, getD};
-ghost use Rattle.reading.specs.Got.{stepOf};
+ghost use Rattle.reading.specs.Got.{stepOf, byte};
 ghost use Rattle.types.specs.Types.{classOf, isReserved, needsPointer, lacksPointer, readIndex, readRest, readArray, readType};
 use reading::Context;
 use reading::Refusal;
@@ -112,6 +112,21 @@ pub fn read_index(pool: &[u8], c: Context, at: usize) -> Step
     Step::End(at + 2)
 }
 
+// An argument number.
+fn read_number(pool: &[u8], c: Context, at: usize) -> Step
+    requires { ⌜ (at ≤ length (now pool)) × (c .base + length (now pool) ≤ 1048576) ⌝ }
+    ensures { λ r. ⌜ r ≡ stepOf (byte c (now (pool .entry)) at) ⌝ }
+{
+    let base = c.base;
+    if pool.len() <= at {
+        return Step::Refused(Refusal {
+            no: 13,
+            place: base + at,
+        });
+    }
+    Step::End(at + 1)
+}
+
 // What follows the prefix at `at`, which is of class k. No array is left here: an array is refused.
 fn read_plain(pool: &[u8], c: Context, k: Class, at: usize) -> Step
     requires { ⌜ (at < length (now pool)) × (c .base + length (now pool) ≤ 1048576) ⌝ }
@@ -127,34 +142,17 @@ fn read_plain(pool: &[u8], c: Context, k: Class, at: usize) -> Step
         Class::Plain => Step::End(e),
         Class::Text => Step::End(e),
         Class::Interface => read_index(pool, c, e),
-        Class::InterfaceIs => {
-            if pool.len() <= e {
-                return Step::Refused(Refusal {
-                    no: 13,
-                    place: base + e,
-                });
-            }
-            Step::End(e + 1)
-        }
+        Class::InterfaceIs => read_number(pool, c, e),
         Class::Array => Step::Refused(Refusal {
             no: 17,
             place: base + at,
         }),
         Class::Sized => {
-            if pool.len() <= e {
-                return Step::Refused(Refusal {
-                    no: 13,
-                    place: base + e,
-                });
-            }
-            let f = e + 1;
-            if pool.len() <= f {
-                return Step::Refused(Refusal {
-                    no: 13,
-                    place: base + f,
-                });
-            }
-            Step::End(f + 1)
+            let r = read_number(pool, c, e);
+            let Step::End(f) = r else {
+                return r;
+            };
+            read_number(pool, c, f)
         }
     }
 }

@@ -1,6 +1,6 @@
 -- `types::read_array` and `types::read_type` meet their contracts. The measure is the number of arrays left, twice, and one more for a type.
 -- Assumes nothing.
-use Rattle.number.proofs.Tools.{needs, arith, ℕ, _+_, _<_}
+use Rattle.number.proofs.Tools.{needs, arith, ℕ, _+_, _<_, sym, _∙_}
 use mathlib.Core.List.{[], _∷_}
 use types.Run.{miss}
 use borrow.Fn.Kinds.{In}
@@ -8,7 +8,7 @@ use borrow.Fn.PlainCycle.{Measures, is, falls, and}
 use Rattle.reading.proofs.Steps.{at-bad, is-true, is-false, byte-in, byte-out, next-last}
 use Rattle.types.specs.declared.Class.the-variants.{Array}
 use Rattle.types.specs.Types.{readRest, readType, typeWith}
-use Rattle.types.proofs.Laws.{rest-is, rest-other, array-none, array-some}
+use Rattle.types.proofs.Laws.{reserved-is, lacks-is, rest-is, rest-other, array-none, array-some}
 use Rattle.types.proofs.read_array.Reads as read-array
 use Rattle.types.proofs.read_array.Kinds as read-array-kinds
 use Rattle.types.proofs.+read_array+read_type.Lts-read_array as read-array-lts
@@ -52,19 +52,30 @@ of-type t =
 
 type-returns-2 : (t : ℕ) → read-type-lts.Need-returns-2 (of-type t) (read-type-at t) read-type.Post
 unfolding readType typeWith
-type-returns-2 t c = byte-in _ _ _ _ (omega arith) (is-true _ _ _ (cc) (at-bad _ _ _))
+type-returns-2 t c =
+    let w = c .before .before .tag-class .ensures in
+    byte-in _ _ _ _ (omega arith) (is-true _ _ _ (reserved-is w (c .before .is-reserved .ensures) (c .if2 .taken)) (at-bad _ _ _))
 
 type-returns-3 : (t : ℕ) → read-type-lts.Need-returns-3 (of-type t) (read-type-at t) read-type.Post
 unfolding readType typeWith
-type-returns-3 t c = byte-in _ _ _ _ (omega arith) (is-false _ _ _ (cc) (is-true _ _ _ (cc) (at-bad _ _ _)))
+type-returns-3 t c =
+    let k = c .before in
+    let w = k .before .before .before .tag-class .ensures in
+    byte-in _ _ _ _ (omega arith) (is-false _ _ _ (reserved-is w (k .before .before .is-reserved .ensures) (k .before .if2 .left)) (is-true _ _ _ (lacks-is w _ (k .lacks-pointer .ensures) (c .if3 .taken)) (at-bad _ _ _)))
 
 type-returns-4 : (t : ℕ) → read-type-lts.Need-returns-4 (of-type t) (read-type-at t) read-type.Post
 unfolding readType typeWith
-type-returns-4 t c = byte-in _ _ _ _ (omega arith) (is-false _ _ _ (cc) (is-false _ _ _ (cc) (rest-is _ _ _ _ Array _ _ _ (cc) (unfold readRest in c .read-array .ensures))))
+type-returns-4 t c =
+    let k = c .before .before .before .before in
+    let w = k .before .before .before .tag-class .ensures in
+    byte-in _ _ _ _ (omega arith) (is-false _ _ _ (reserved-is w (k .before .before .is-reserved .ensures) (k .before .if2 .left)) (is-false _ _ _ (lacks-is w _ (k .lacks-pointer .ensures) (c .before .before .before .if3 .left)) (rest-is _ _ _ _ Array _ _ _ (sym w ∙ c .before .enum-told .given .1) (unfold readRest in c .read-array .ensures))))
 
 type-returns-5 : (t : ℕ) → read-type-lts.Need-returns-5 (of-type t) (read-type-at t) read-type.Post
 unfolding readType typeWith
-type-returns-5 t c = byte-in _ _ _ _ (omega arith) (is-false _ _ _ (cc) (is-false _ _ _ (cc) (rest-other _ _ _ _ _ _ _ _ _ (λ h. miss (0 ∷ 1 ∷ 2 ∷ 3 ∷ 4 ∷ 6 ∷ []) 5 tt (rw h at (c .before .match .keys2))) (cc) (c .read-plain .ensures))))
+type-returns-5 t c =
+    let k = c .before .before .before in
+    let w = k .before .before .before .tag-class .ensures in
+    byte-in _ _ _ _ (omega arith) (is-false _ _ _ (reserved-is w (k .before .before .is-reserved .ensures) (k .before .if2 .left)) (is-false _ _ _ (lacks-is w _ (k .lacks-pointer .ensures) (c .before .before .if3 .left)) (rest-other _ _ _ _ _ _ _ _ _ (λ h. miss (0 ∷ 1 ∷ 2 ∷ 3 ∷ 4 ∷ 6 ∷ []) 5 tt (rw h at (c .before .match .keys2))) w (c .read-plain .ensures))))
 
 pub +read-array+read-type-spec : {M : Type 1} → statement M
 unfolding readType typeWith

@@ -1,6 +1,6 @@
 -- `method::params::read_param` meets its contract.
 -- Assumes nothing.
-use Rattle.number.proofs.Tools.{arith, needs}
+use Rattle.number.proofs.Tools.{arith, needs, sym, _∙_}
 use Rattle.reading.proofs.Steps.{at-bad, is-true, is-false, byte-in, byte-out, next-last}
 use Rattle.method.specs.Parameter.{readParam}
 use Rattle.method.proofs.params.read_param.Statement.{statement}
@@ -16,10 +16,10 @@ read-param-spec =
     (λ c. search needs)
     (λ c κs. search needs)
     (λ c. search needs)
-    (λ c. byte-in _ _ _ _ (omega arith) (is-true _ _ _ (cc) (at-bad _ _ _)))
+    (λ c. byte-in _ _ _ _ (omega arith) (is-true _ _ _ (sym (c .before .reserved-param .ensures) ∙ c .if2 .taken) (at-bad _ _ _)))
     (λ c κs. search needs)
     (λ c. search needs)
-    (λ c. byte-in _ _ _ _ (omega arith) (is-false _ _ _ (cc) (is-true _ _ _ (cc) (at-bad _ _ _))))
+    (λ c. let k = c .before in byte-in _ _ _ _ (omega arith) (is-false _ _ _ (sym (k .before .before .reserved-param .ensures) ∙ k .before .if2 .left) (is-true _ _ _ (sym (k .wrong-param .ensures) ∙ c .if3 .taken) (at-bad _ _ _))))
     (λ c. search needs)
     (λ c κs. search needs)
-    (λ c. byte-in _ _ _ _ (omega arith) (is-false _ _ _ (cc) (is-false _ _ _ (cc) (next-last _ _ (c .read-type .ensures))))))
+    (λ c. let k = c .before .before in byte-in _ _ _ _ (omega arith) (is-false _ _ _ (sym (k .before .before .reserved-param .ensures) ∙ k .before .if2 .left) (is-false _ _ _ (sym (k .wrong-param .ensures) ∙ c .before .if3 .left) (next-last _ _ (c .read-type .ensures))))))

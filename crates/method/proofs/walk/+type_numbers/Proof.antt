@@ -30,34 +30,60 @@ callees t =
 
 module _ (t : ℕ) where
   returns : type-numbers-lts.Need-returns (callees t) (type-numbers-at t) type-numbers.Post
-  returns c = number-wrong _ _ _ _ (c .before .before .before .before .before .before .before .before .pre .1 .0) _ (sym (c .before .before .before .before .before .tag-class .ensures) ∙ c .before .before .before .enum-told5 .given .1) (sym (c .before .wrong-iid .ensures) ∙ c .if1 .taken)
+  returns c =
+      let e = c .before .before .before in
+      let w = e .before .before in
+      number-wrong _ _ _ _ (w .before .before .before .pre .1 .0) _ (sym (w .tag-class .ensures) ∙ e .enum-told5 .given .1) (sym (c .before .wrong-iid .ensures) ∙ c .if1 .taken)
 
   returns-2 : type-numbers-lts.Need-returns-2 (callees t) (type-numbers-at t) type-numbers.Post
-  returns-2 c = array-wrong _ _ _ _ (c .before .before .before .before .before .before .before .before .before .pre .1 .0) _ (sym (c .before .before .before .before .before .before .tag-class .ensures) ∙ c .before .before .before .before .enum-told6 .given .1) (sym (c .before .wrong-sizes .ensures) ∙ c .if2 .taken)
+  returns-2 c =
+      let e = c .before .before .before .before in
+      let w = e .before .before in
+      array-wrong _ _ _ _ (w .before .before .before .pre .1 .0) _ (sym (w .tag-class .ensures) ∙ e .enum-told6 .given .1) (sym (c .before .wrong-sizes .ensures) ∙ c .if2 .taken)
 
   returns-3 : type-numbers-lts.Need-returns-3 (callees t) (type-numbers-at t) type-numbers.Post
-  returns-3 c = sized-wrong _ _ _ _ (c .before .before .before .before .before .before .before .before .before .pre .1 .0) _ (sym (c .before .before .before .before .before .before .tag-class .ensures) ∙ c .before .before .before .before .enum-told7 .given .1) (sym (c .before .wrong-sizes2 .ensures) ∙ c .if3 .taken)
+  returns-3 c =
+      let e = c .before .before .before .before in
+      let w = e .before .before in
+      sized-wrong _ _ _ _ (w .before .before .before .pre .1 .0) _ (sym (w .tag-class .ensures) ∙ e .enum-told7 .given .1) (sym (c .before .wrong-sizes2 .ensures) ∙ c .if3 .taken)
 
   returns-4 : type-numbers-lts.Need-returns-4 (callees t) (type-numbers-at t) type-numbers.Post
-  returns-4 c = never-reserved _ _ _ _ (c .before .before .before .before .before .pre .1 .0) (sym (c .before .before .tag-class .ensures) ∙ c .enum-told .given .1)
+  returns-4 c =
+      let w = c .before .before in
+      never-reserved _ _ _ _ (w .before .before .before .pre .1 .0) (sym (w .tag-class .ensures) ∙ c .enum-told .given .1)
 
   returns-5 : type-numbers-lts.Need-returns-5 (callees t) (type-numbers-at t) type-numbers.Post
-  returns-5 c = plain-fine _ _ _ _ (c .before .before .before .before .before .pre .1 .0) _ (sym (c .before .before .tag-class .ensures) ∙ c .enum-told2 .given .1)
+  returns-5 c =
+      let w = c .before .before in
+      plain-fine _ _ _ _ (w .before .before .before .pre .1 .0) _ (sym (w .tag-class .ensures) ∙ c .enum-told2 .given .1)
 
   returns-6 : type-numbers-lts.Need-returns-6 (callees t) (type-numbers-at t) type-numbers.Post
-  returns-6 c = text-fine _ _ _ _ (c .before .before .before .before .before .pre .1 .0) _ (sym (c .before .before .tag-class .ensures) ∙ c .enum-told3 .given .1)
+  returns-6 c =
+      let w = c .before .before in
+      text-fine _ _ _ _ (w .before .before .before .pre .1 .0) _ (sym (w .tag-class .ensures) ∙ c .enum-told3 .given .1)
 
   returns-7 : type-numbers-lts.Need-returns-7 (callees t) (type-numbers-at t) type-numbers.Post
-  returns-7 c = interface-fine _ _ _ _ (c .before .before .before .before .before .pre .1 .0) _ (sym (c .before .before .tag-class .ensures) ∙ c .enum-told4 .given .1)
+  returns-7 c =
+      let w = c .before .before in
+      interface-fine _ _ _ _ (w .before .before .before .pre .1 .0) _ (sym (w .tag-class .ensures) ∙ c .enum-told4 .given .1)
 
   returns-8 : type-numbers-lts.Need-returns-8 (callees t) (type-numbers-at t) type-numbers.Post
-  returns-8 c = number-fine _ _ _ _ (c .before .before .before .before .before .before .before .before .pre .1 .0) _ (sym (c .before .before .before .before .before .tag-class .ensures) ∙ c .before .before .before .enum-told5 .given .1) (sym (c .before .wrong-iid .ensures) ∙ c .if1 .left)
+  returns-8 c =
+      let e = c .before .before .before in
+      let w = e .before .before in
+      number-fine _ _ _ _ (w .before .before .before .pre .1 .0) _ (sym (w .tag-class .ensures) ∙ e .enum-told5 .given .1) (sym (c .before .wrong-iid .ensures) ∙ c .if1 .left)
 
   returns-9 : type-numbers-lts.Need-returns-9 (callees t) (type-numbers-at t) type-numbers.Post
-  returns-9 c = array-fine _ _ _ _ (c .before .before .before .before .before .before .before .before .before .before .pre .1 .0) _ (sym (c .before .before .before .before .before .before .before .tag-class .ensures) ∙ c .before .before .before .before .before .enum-told6 .given .1) (sym (c .before .before .wrong-sizes .ensures) ∙ c .before .if2 .left) (c .type-numbers .ensures)
+  returns-9 c =
+      let e = c .before .before .before .before .before in
+      let w = e .before .before in
+      array-fine _ _ _ _ (w .before .before .before .pre .1 .0) _ (sym (w .tag-class .ensures) ∙ e .enum-told6 .given .1) (sym (c .before .before .wrong-sizes .ensures) ∙ c .before .if2 .left) (c .type-numbers .ensures)
 
   returns-10 : type-numbers-lts.Need-returns-10 (callees t) (type-numbers-at t) type-numbers.Post
-  returns-10 c = sized-fine _ _ _ _ (c .before .before .before .before .before .before .before .before .before .pre .1 .0) _ (sym (c .before .before .before .before .before .before .tag-class .ensures) ∙ c .before .before .before .before .enum-told7 .given .1) (sym (c .before .wrong-sizes2 .ensures) ∙ c .if3 .left)
+  returns-10 c =
+      let e = c .before .before .before .before in
+      let w = e .before .before in
+      sized-fine _ _ _ _ (w .before .before .before .pre .1 .0) _ (sym (w .tag-class .ensures) ∙ e .enum-told7 .given .1) (sym (c .before .wrong-sizes2 .ensures) ∙ c .if3 .left)
 
 pub +type-numbers-spec : {M : Type 1} → statement M
 +type-numbers-spec =
@@ -75,25 +101,25 @@ pub +type-numbers-spec : {M : Type 1} → statement M
     (λ c. omega arith)
     (λ c. search needs)
     (λ c. omega arith)
-    (λ c. omega (arith, number-room _ _ _ _ (c .before .before .before .before .before .before .pre .1 .0) (sym (c .before .before .before .tag-class .ensures) ∙ c .before .enum-told5 .given .1)))
+    (λ c. let e = c .before in let w = e .before .before in omega (arith, number-room _ _ _ _ (w .before .before .before .pre .1 .0) (sym (w .tag-class .ensures) ∙ e .enum-told5 .given .1)))
     (λ c κs. omega arith)
     (returns t)
     (λ c. omega arith)
     (λ c. search needs)
     (λ c. omega arith)
-    (λ c. omega (arith, array-room _ _ _ _ (c .before .before .before .before .before .before .pre .1 .0) (sym (c .before .before .before .tag-class .ensures) ∙ c .before .enum-told6 .given .1)))
+    (λ c. let e = c .before in let w = e .before .before in omega (arith, array-room _ _ _ _ (w .before .before .before .pre .1 .0) (sym (w .tag-class .ensures) ∙ e .enum-told6 .given .1)))
     (λ c. omega arith)
-    (λ c. omega (arith, array-room _ _ _ _ (c .before .before .before .before .before .before .before .pre .1 .0) (sym (c .before .before .before .before .tag-class .ensures) ∙ c .before .before .enum-told6 .given .1)))
+    (λ c. let e = c .before .before in let w = e .before .before in omega (arith, array-room _ _ _ _ (w .before .before .before .pre .1 .0) (sym (w .tag-class .ensures) ∙ e .enum-told6 .given .1)))
     (λ c κs. omega arith)
     (returns-2 t)
-    (λ c. array-left _ _ _ _ (c .before .before .before .before .before .before .before .before .before .pre .1 .0) (sym (c .before .before .before .before .before .before .tag-class .ensures) ∙ c .before .before .before .before .enum-told6 .given .1))
+    (λ c. let e = c .before .before .before .before in let w = e .before .before in array-left _ _ _ _ (w .before .before .before .pre .1 .0) (sym (w .tag-class .ensures) ∙ e .enum-told6 .given .1))
     (λ c. omega arith)
-    (λ c κs. (omega (arith, array-left _ _ _ _ (c .before .before .before .before .before .before .before .before .before .pre .1 .0) (sym (c .before .before .before .before .before .before .tag-class .ensures) ∙ c .before .before .before .before .enum-told6 .given .1)), (array-element _ _ _ _ (c .before .before .before .before .before .before .before .before .before .pre .1 .0) (sym (c .before .before .before .before .before .before .tag-class .ensures) ∙ c .before .before .before .before .enum-told6 .given .1), omega (arith, array-room _ _ _ _ (c .before .before .before .before .before .before .before .before .before .pre .1 .0) (sym (c .before .before .before .before .before .before .tag-class .ensures) ∙ c .before .before .before .before .enum-told6 .given .1)), omega arith, omega arith, omega arith)))
+    (λ c κs. let e = c .before .before .before .before in let w = e .before .before in (omega (arith, array-left _ _ _ _ (w .before .before .before .pre .1 .0) (sym (w .tag-class .ensures) ∙ e .enum-told6 .given .1)), (array-element _ _ _ _ (w .before .before .before .pre .1 .0) (sym (w .tag-class .ensures) ∙ e .enum-told6 .given .1), omega (arith, array-room _ _ _ _ (w .before .before .before .pre .1 .0) (sym (w .tag-class .ensures) ∙ e .enum-told6 .given .1)), omega arith, omega arith, omega arith)))
     (λ c. search needs)
     (λ c. omega arith)
-    (λ c. omega (arith, sized-room _ _ _ _ (c .before .before .before .before .before .before .pre .1 .0) (sym (c .before .before .before .tag-class .ensures) ∙ c .before .enum-told7 .given .1)))
+    (λ c. let e = c .before in let w = e .before .before in omega (arith, sized-room _ _ _ _ (w .before .before .before .pre .1 .0) (sym (w .tag-class .ensures) ∙ e .enum-told7 .given .1)))
     (λ c. omega arith)
-    (λ c. omega (arith, sized-room _ _ _ _ (c .before .before .before .before .before .before .before .pre .1 .0) (sym (c .before .before .before .before .tag-class .ensures) ∙ c .before .before .enum-told7 .given .1)))
+    (λ c. let e = c .before .before in let w = e .before .before in omega (arith, sized-room _ _ _ _ (w .before .before .before .pre .1 .0) (sym (w .tag-class .ensures) ∙ e .enum-told7 .given .1)))
     (λ c κs. omega arith)
     (returns-3 t)
     (λ c. omega arith)

@@ -1,0 +1,34 @@
+// Checks the typelib on standard input, and prints the verdict.
+ghost use mathlib.Core.Path.{_≡_};
+ghost use Prim.Native.Nat.{_≤_};
+ghost use lib.ListN.{length};
+ghost use lib.Seq.{sets};
+ghost use Rattle.reader.specs.Reader.{checkOf};
+ghost use Rattle.text.specs.Line.{lineOf};
+
+// The line of the file's verdict, made at the front of `line`; the answer is its length.
+fn answer(file: &[u8], line: &mut [u8; 64]) -> usize
+    ensures { λ r. ⌜ (r ≡ length (lineOf (checkOf (now (file .entry))))) × ((r ≤ 64) × (now (line .exit) ≡ sets (now (line .entry)) 0 (lineOf (checkOf (now (file .entry)))))) ⌝ }
+{
+    text::put_verdict(reader::check(file), line)
+}
+
+// Prints the verdict's line, which is made in `line`.
+fn report(file: &[u8], line: &mut [u8; 64]) {
+    let n = answer(file, line);
+    let all: &[u8] = line;
+    io::write_all(1, &all[..n]);
+}
+
+// Room for one byte more than the largest typelib, so that a longer input is refused for its length.
+fn run(buf: &mut [u8; 1048577]) {
+    let n = io::read_full(0, buf);
+    let all: &[u8] = buf;
+    let mut line = [0u8; 64];
+    report(&all[..n], &mut line);
+}
+
+fn main() {
+    let mut buf = [0u8; 1048577];
+    run(&mut buf);
+}

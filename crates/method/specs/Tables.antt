@@ -1,0 +1,32 @@
+-- The tables that the reading of arguments and of methods fills.
+-- Assumes nothing.
+use mathlib.Core.Path.{_≡_}
+use mathlib.Core.List.{List}
+use Prim.Native.Nat.{ℕ, _-_, _<_}
+use lib.ListN.{length, getD, take}
+use Rattle.reading.specs.Got.{Got, got, many, stepOf}
+use Rattle.reading.specs.declared.Context.{Context}
+use Rattle.reading.specs.declared.Step.{Step}
+use Rattle.key.specs.Word.{wordAt, Leads}
+use Rattle.method.specs.Parameter.{Param}
+use Rattle.method.specs.Numbers.{prefixes}
+use Rattle.method.specs.Method.{Method, methodFlags, methodName, readMethod, noMethod}
+
+-- n arguments were read as g says, and the first n places of the table t are the prefixes of their types
+pub record Listed (g : Got (List (Param ℕ))) (n : ℕ) (r : Step) (t : List ℕ) : Type 0 where
+  pub step : r ≡ stepOf g
+  pub held : (ps : List (Param ℕ)) (e : ℕ) → g ≡ got ps e → take n t ≡ prefixes ps
+  pub long : 256 ≡ length t
+
+-- the first n places of two tables are the flags and the name pointers of the methods ms
+pub record Kept (s flags names : List ℕ) (ms : List (Method ℕ)) (n : ℕ) : Type 0 where
+  pub flag : (i : ℕ) → i < n → getD flags i 0 ≡ methodFlags (getD ms i noMethod)
+  pub leads : (i : ℕ) → i < n → Leads s (getD names i 0)
+  pub name : (i : ℕ) → i < n → wordAt s (getD names i 0 - 1) ≡ methodName (getD ms i noMethod)
+
+-- n methods were read, and the tables have their flags and name pointers
+pub record Noted (c : Context) (s : List ℕ) (n at : ℕ) (r : Step) (flags names : List ℕ) : Type 0 where
+  pub step : r ≡ stepOf (many (readMethod c s) n at)
+  pub kept : (ms : List (Method ℕ)) (e : ℕ) → many (readMethod c s) n at ≡ got ms e → Kept s flags names ms n
+  pub flags-long : 1024 ≡ length flags
+  pub names-long : 1024 ≡ length names
