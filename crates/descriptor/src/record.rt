@@ -61,7 +61,7 @@ fn read_all_methods(
 }
 
 // Whether interface flags have a reserved bit.
-fn reserved_interface(minor: u8, f: u8) -> bool
+fn reserved_interface(minor: usize, f: u8) -> bool
     ensures { λ r. ⌜ r ≡ reservedInterface minor f ⌝ }
 {
     if f % 64 != 0 {

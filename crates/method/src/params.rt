@@ -11,7 +11,7 @@ use reading::Refusal;
 use reading::Step;
 
 // Whether parameter flags have a reserved bit.
-fn reserved_param(minor: u8, f: u8) -> bool
+fn reserved_param(minor: usize, f: u8) -> bool
     ensures { λ r. ⌜ r ≡ reservedParam minor f ⌝ }
 {
     if f % 8 != 0 {
@@ -62,7 +62,11 @@ pub fn read_param(pool: &[u8], c: Context, result: bool, at: usize) -> Step
             place: base + at,
         });
     }
-    types::read_type(pool, c, 8, at + 1)
+    let r = types::read_type(pool, c, 8, at + 1);
+    let Step::End(end) = r else {
+        return r;
+    };
+    Step::End(end)
 }
 
 // n arguments; the table gets the prefixes of their types.

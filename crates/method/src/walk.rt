@@ -87,7 +87,11 @@ pub fn type_numbers(
             if wrong_sizes(table, count, pool[at + 1], pool[at + 2]) {
                 return Fine::Broken;
             }
-            type_numbers(pool, c, left - 1, at + 3, count, table)
+            let element = type_numbers(pool, c, left - 1, at + 3, count, table);
+            let Fine::To(end) = element else {
+                return Fine::Broken;
+            };
+            Fine::To(end)
         }
         Class::Sized => {
             if wrong_sizes(table, count, pool[at + 1], pool[at + 2]) {

@@ -41,9 +41,10 @@ fn check_pool(file: &[u8], pool: &[u8], h: Header) -> Verdict
 {
     let n = h.count;
     let d = h.directory;
+    let minor = h.minor as usize;
     let c = Context {
         base: h.pool,
-        minor: h.minor,
+        minor,
         count: n,
     };
     match crate::own::check_descriptors(file, pool, c, n, d) {

@@ -20,7 +20,7 @@ pub enum Class {
 }
 
 // What a tag stands for under a minor version.
-pub fn tag_class(minor: u8, tag: u8) -> Class
+pub fn tag_class(minor: usize, tag: u8) -> Class
     ensures { λ r. ⌜ r ≡ classOf minor tag ⌝ }
 {
     match tag {
@@ -216,5 +216,9 @@ fn read_array(pool: &[u8], c: Context, left: usize, at: usize) -> Step
             place: base + f,
         });
     }
-    read_type(pool, c, left - 1, f + 1)
+    let element = read_type(pool, c, left - 1, f + 1);
+    let Step::End(end) = element else {
+        return element;
+    };
+    Step::End(end)
 }

@@ -5,7 +5,7 @@ use mathlib.Core.List.{[], _∷_}
 use types.Run.{miss}
 use borrow.Fn.Kinds.{In}
 use borrow.Fn.PlainCycle.{Measures, is, falls, and}
-use Rattle.reading.proofs.Steps.{at-bad, is-true, is-false, byte-in, byte-out, next-last}
+use Rattle.reading.proofs.Steps.{at-bad, is-true, is-false, byte-in, byte-out, at-end, next-end, next-refused}
 use Rattle.types.specs.declared.Class.the-variants.{Array}
 use Rattle.types.specs.Types.{readRest, readType, typeWith}
 use Rattle.types.proofs.Laws.{reserved-is, lacks-is, rest-is, rest-other, array-none, array-some}
@@ -94,7 +94,10 @@ unfolding readType typeWith
     (λ c. omega arith)
     (λ c. omega arith)
     (λ c κs. omega arith)
-    (λ c. array-some _ _ _ _ _ _ (λ e. omega arith) (byte-in _ _ _ _ (omega arith) (byte-in _ _ _ _ (omega arith) (next-last _ _ (c .read-type .ensures))))))
+    (λ c. search needs)
+    (λ c. search needs)
+    (λ c. array-some _ _ _ _ _ _ (λ e. omega arith) (byte-in _ _ _ _ (omega arith) (byte-in _ _ _ _ (omega arith) (next-refused _ _ (c .enum-told .given .1) (c .before .before .read-type .ensures)))))
+    (λ c. array-some _ _ _ _ _ _ (λ e. omega arith) (byte-in _ _ _ _ (omega arith) (byte-in _ _ _ _ (omega arith) (next-end _ _ (sym (c .before .element .given .1) ∙ c .before .before .before .read-type .ensures) (λ x h. at-end _ _))))))
     (λ t.
     read-type-lts.spec (of-type t) (read-type-at t) read-type.Post
     (λ c. omega arith)

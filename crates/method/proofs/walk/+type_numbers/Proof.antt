@@ -43,47 +43,55 @@ module _ (t : ℕ) where
 
   returns-3 : type-numbers-lts.Need-returns-3 (callees t) (type-numbers-at t) type-numbers.Post
   returns-3 c =
-      let e = c .before .before .before .before in
+      let k = c .before .before in
+      let e = k .before .before .before .before .before in
       let w = e .before .before in
-      sized-wrong _ _ _ _ (w .before .before .before .pre .1 .0) _ (sym (w .tag-class .ensures) ∙ e .enum-told7 .given .1) (sym (c .before .wrong-sizes2 .ensures) ∙ c .if3 .taken)
+      sym (c .enum-told7 .given .1) ∙ array-fine _ _ _ _ (w .before .before .before .pre .1 .0) _ (sym (w .tag-class .ensures) ∙ e .enum-told6 .given .1) (sym (k .before .before .wrong-sizes .ensures) ∙ k .before .if2 .left) (k .type-numbers .ensures)
 
   returns-4 : type-numbers-lts.Need-returns-4 (callees t) (type-numbers-at t) type-numbers.Post
   returns-4 c =
-      let w = c .before .before in
-      never-reserved _ _ _ _ (w .before .before .before .pre .1 .0) (sym (w .tag-class .ensures) ∙ c .enum-told .given .1)
+      let e = c .before .before .before .before in
+      let w = e .before .before in
+      sized-wrong _ _ _ _ (w .before .before .before .pre .1 .0) _ (sym (w .tag-class .ensures) ∙ e .enum-told8 .given .1) (sym (c .before .wrong-sizes2 .ensures) ∙ c .if3 .taken)
 
   returns-5 : type-numbers-lts.Need-returns-5 (callees t) (type-numbers-at t) type-numbers.Post
   returns-5 c =
       let w = c .before .before in
-      plain-fine _ _ _ _ (w .before .before .before .pre .1 .0) _ (sym (w .tag-class .ensures) ∙ c .enum-told2 .given .1)
+      never-reserved _ _ _ _ (w .before .before .before .pre .1 .0) (sym (w .tag-class .ensures) ∙ c .enum-told .given .1)
 
   returns-6 : type-numbers-lts.Need-returns-6 (callees t) (type-numbers-at t) type-numbers.Post
   returns-6 c =
       let w = c .before .before in
-      text-fine _ _ _ _ (w .before .before .before .pre .1 .0) _ (sym (w .tag-class .ensures) ∙ c .enum-told3 .given .1)
+      plain-fine _ _ _ _ (w .before .before .before .pre .1 .0) _ (sym (w .tag-class .ensures) ∙ c .enum-told2 .given .1)
 
   returns-7 : type-numbers-lts.Need-returns-7 (callees t) (type-numbers-at t) type-numbers.Post
   returns-7 c =
       let w = c .before .before in
-      interface-fine _ _ _ _ (w .before .before .before .pre .1 .0) _ (sym (w .tag-class .ensures) ∙ c .enum-told4 .given .1)
+      text-fine _ _ _ _ (w .before .before .before .pre .1 .0) _ (sym (w .tag-class .ensures) ∙ c .enum-told3 .given .1)
 
   returns-8 : type-numbers-lts.Need-returns-8 (callees t) (type-numbers-at t) type-numbers.Post
   returns-8 c =
+      let w = c .before .before in
+      interface-fine _ _ _ _ (w .before .before .before .pre .1 .0) _ (sym (w .tag-class .ensures) ∙ c .enum-told4 .given .1)
+
+  returns-9 : type-numbers-lts.Need-returns-9 (callees t) (type-numbers-at t) type-numbers.Post
+  returns-9 c =
       let e = c .before .before .before in
       let w = e .before .before in
       number-fine _ _ _ _ (w .before .before .before .pre .1 .0) _ (sym (w .tag-class .ensures) ∙ e .enum-told5 .given .1) (sym (c .before .wrong-iid .ensures) ∙ c .if1 .left)
 
-  returns-9 : type-numbers-lts.Need-returns-9 (callees t) (type-numbers-at t) type-numbers.Post
-  returns-9 c =
-      let e = c .before .before .before .before .before in
-      let w = e .before .before in
-      array-fine _ _ _ _ (w .before .before .before .pre .1 .0) _ (sym (w .tag-class .ensures) ∙ e .enum-told6 .given .1) (sym (c .before .before .wrong-sizes .ensures) ∙ c .before .if2 .left) (c .type-numbers .ensures)
-
   returns-10 : type-numbers-lts.Need-returns-10 (callees t) (type-numbers-at t) type-numbers.Post
   returns-10 c =
+      let k = c .before .before .before in
+      let e = k .before .before .before .before .before in
+      let w = e .before .before in
+      sym (c .before .element .given .1) ∙ array-fine _ _ _ _ (w .before .before .before .pre .1 .0) _ (sym (w .tag-class .ensures) ∙ e .enum-told6 .given .1) (sym (k .before .before .wrong-sizes .ensures) ∙ k .before .if2 .left) (k .type-numbers .ensures)
+
+  returns-11 : type-numbers-lts.Need-returns-11 (callees t) (type-numbers-at t) type-numbers.Post
+  returns-11 c =
       let e = c .before .before .before .before in
       let w = e .before .before in
-      sized-fine _ _ _ _ (w .before .before .before .pre .1 .0) _ (sym (w .tag-class .ensures) ∙ e .enum-told7 .given .1) (sym (c .before .wrong-sizes2 .ensures) ∙ c .if3 .left)
+      sized-fine _ _ _ _ (w .before .before .before .pre .1 .0) _ (sym (w .tag-class .ensures) ∙ e .enum-told8 .given .1) (sym (c .before .wrong-sizes2 .ensures) ∙ c .if3 .left)
 
 pub +type-numbers-spec : {M : Type 1} → statement M
 +type-numbers-spec =
@@ -116,17 +124,20 @@ pub +type-numbers-spec : {M : Type 1} → statement M
     (λ c. omega arith)
     (λ c κs. let e = c .before .before .before .before in let w = e .before .before in (omega (arith, array-left _ _ _ _ (w .before .before .before .pre .1 .0) (sym (w .tag-class .ensures) ∙ e .enum-told6 .given .1)), (array-element _ _ _ _ (w .before .before .before .pre .1 .0) (sym (w .tag-class .ensures) ∙ e .enum-told6 .given .1), omega (arith, array-room _ _ _ _ (w .before .before .before .pre .1 .0) (sym (w .tag-class .ensures) ∙ e .enum-told6 .given .1)), omega arith, omega arith, omega arith)))
     (λ c. search needs)
-    (λ c. omega arith)
-    (λ c. let e = c .before in let w = e .before .before in omega (arith, sized-room _ _ _ _ (w .before .before .before .pre .1 .0) (sym (w .tag-class .ensures) ∙ e .enum-told7 .given .1)))
-    (λ c. omega arith)
-    (λ c. let e = c .before .before in let w = e .before .before in omega (arith, sized-room _ _ _ _ (w .before .before .before .pre .1 .0) (sym (w .tag-class .ensures) ∙ e .enum-told7 .given .1)))
-    (λ c κs. omega arith)
+    (λ c. search needs)
     (returns-3 t)
+    (λ c. search needs)
     (λ c. omega arith)
+    (λ c. let e = c .before in let w = e .before .before in omega (arith, sized-room _ _ _ _ (w .before .before .before .pre .1 .0) (sym (w .tag-class .ensures) ∙ e .enum-told8 .given .1)))
+    (λ c. omega arith)
+    (λ c. let e = c .before .before in let w = e .before .before in omega (arith, sized-room _ _ _ _ (w .before .before .before .pre .1 .0) (sym (w .tag-class .ensures) ∙ e .enum-told8 .given .1)))
+    (λ c κs. omega arith)
     (returns-4 t)
+    (λ c. omega arith)
     (returns-5 t)
     (returns-6 t)
     (returns-7 t)
     (returns-8 t)
     (returns-9 t)
-    (returns-10 t))
+    (returns-10 t)
+    (returns-11 t))
