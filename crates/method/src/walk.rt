@@ -102,6 +102,19 @@ pub fn type_numbers(
     }
 }
 
+// The same of an argument. A plain type, the common one, has no numbers.
+fn argument_numbers(pool: &[u8], c: Context, at: usize, count: usize, table: &[u8; 256]) -> Fine
+    requires { ⌜ Accepted (readType 8 c (now pool) at) × (at ≤ length (now pool)) × (length (now pool) ≤ 1048576) × (count ≤ 256) × (256 ≡ length (now table)) ⌝ }
+    ensures { λ r. ⌜ r ≡ fineOf (take count (now (table .entry))) (readType 8 c (now (pool .entry)) at) ⌝ }
+{
+    let minor = c.minor;
+    let k = types::tag_class(minor, pool[at] % 32);
+    match k {
+        Class::Plain => Fine::To(at + 1),
+        _ => type_numbers(pool, c, 8, at, count, table),
+    }
+}
+
 // n arguments that were read from `at` on.
 pub fn wrong_arguments(pool: &[u8], c: Context, n: usize, at: usize, table: &[u8; 256]) -> bool
     requires { ⌜ Accepted (many (readParam false c (now pool)) n at) × (length (now pool) ≤ 1048576) × (n ≤ 256) × (256 ≡ length (now table)) ⌝ }
@@ -110,7 +123,7 @@ pub fn wrong_arguments(pool: &[u8], c: Context, n: usize, at: usize, table: &[u8
     let mut k: usize = 0;
     let mut p = at;
     while k < n {
-        let r = type_numbers(pool, c, 8, p + 1, n, table);
+        let r = argument_numbers(pool, c, p + 1, n, table);
         let Fine::To(e) = r else {
             return true;
         };

@@ -11,29 +11,29 @@ use reading::Context;
 use reading::Refusal;
 use reading::Step;
 
-// Whether a byte is an ASCII letter, a digit or _.
+// Whether a byte is an ASCII letter, a digit or _; the common ones are tested first.
 pub fn is_letter(b: u8) -> bool
     ensures { λ r. ⌜ r ≡ letter b ⌝ }
 {
-    if b < 48 {
-        return false;
-    }
-    if b < 58 {
-        return true;
-    }
-    if b < 65 {
-        return false;
-    }
-    if b < 91 {
-        return true;
+    if 97 <= b {
+        return b < 123;
     }
     if b == 95 {
         return true;
     }
-    if b < 97 {
+    if 91 <= b {
         return false;
     }
-    b < 123
+    if 65 <= b {
+        return true;
+    }
+    if 58 <= b {
+        return false;
+    }
+    if b < 48 {
+        return false;
+    }
+    true
 }
 
 // Whether the bytes from `at` up to `end` are an identifier.

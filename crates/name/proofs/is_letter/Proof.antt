@@ -11,10 +11,10 @@ unfolding letter
 is-letter-spec =
     tie.close
     (tie.spec
-    (λ c. is-lt _ _ _ _ (omega arith) refl)
-    (λ c. no-lt _ _ _ _ (omega arith) (is-lt _ _ _ _ (omega arith) refl))
-    (λ c. no-lt _ _ _ _ (omega arith) (no-lt _ _ _ _ (omega arith) (is-lt _ _ _ _ (omega arith) refl)))
-    (λ c. no-lt _ _ _ _ (omega arith) (no-lt _ _ _ _ (omega arith) (no-lt _ _ _ _ (omega arith) (is-lt _ _ _ _ (omega arith) refl))))
+    (λ c. no-lt _ _ _ _ (omega arith) (no-lt _ _ _ _ (omega arith) (no-lt _ _ _ _ (omega arith) (no-lt _ _ _ _ (omega arith) (no-eq _ _ _ _ (λ e. omega arith) (no-lt _ _ _ _ (omega arith) (unfold _<?_ in refl)))))))
     (λ c. no-lt _ _ _ _ (omega arith) (no-lt _ _ _ _ (omega arith) (no-lt _ _ _ _ (omega arith) (no-lt _ _ _ _ (omega arith) (is-eq _ _ _ _ (omega arith) refl)))))
     (λ c. no-lt _ _ _ _ (omega arith) (no-lt _ _ _ _ (omega arith) (no-lt _ _ _ _ (omega arith) (no-lt _ _ _ _ (omega arith) (no-eq _ _ _ _ (λ e. omega arith) (is-lt _ _ _ _ (omega arith) refl))))))
-    (λ c. no-lt _ _ _ _ (omega arith) (no-lt _ _ _ _ (omega arith) (no-lt _ _ _ _ (omega arith) (no-lt _ _ _ _ (omega arith) (no-eq _ _ _ _ (λ e. omega arith) (no-lt _ _ _ _ (omega arith) (unfold _<?_ in refl))))))))
+    (λ c. no-lt _ _ _ _ (omega arith) (no-lt _ _ _ _ (omega arith) (no-lt _ _ _ _ (omega arith) (is-lt _ _ _ _ (omega arith) refl))))
+    (λ c. no-lt _ _ _ _ (omega arith) (no-lt _ _ _ _ (omega arith) (is-lt _ _ _ _ (omega arith) refl)))
+    (λ c. is-lt _ _ _ _ (omega arith) refl)
+    (λ c. no-lt _ _ _ _ (omega arith) (is-lt _ _ _ _ (omega arith) refl)))
