@@ -112,6 +112,10 @@ module _ (s : List ℕ) (v : ℕ) where
   pub space-some : noBytes (spaceAt s v) ≡ false → v ≡ 0 → ⊥
   space-some e z = let f : _≡_ {A = Bool} true false = default-none z ∙ e in let y : _≡_ {A = ℕ} 0 1 = cc in omega arith
 
+-- one pointer
+pub spaces-here : (s : List ℕ) (v x : ℕ) → v ≡ x → Same ≡ compareWords (spaceAt s v) (spaceAt s x)
+spaces-here s v x e = rw e (sym (word-self (spaceAt s x)))
+
 pub spaces-words : (s : List ℕ) (v x : ℕ) {o : Order} → noBytes (spaceAt s v) ≡ false → noBytes (spaceAt s x) ≡ false → o ≡ compareWords (wordAt s (v - 1)) (wordAt s (x - 1)) → o ≡ compareWords (spaceAt s v) (spaceAt s x)
 spaces-words s v x e f h = rw (space-word s v (space-some s v e), space-word s x (space-some s x f)) h
 
