@@ -1,62 +1,48 @@
+-- `cabi::saniotka_check` meets its contract.
+-- Assumes nothing.
 use native.Mathlib.Omega.{arith}
 use mathlib.Core.Path.{sym, _∙_}
 use Rattle.cabi.proofs.Laws.{no-room, writes-count, writes-refusal}
 use borrow.Author.Needs.{needs}
 use Rattle.cabi.proofs.saniotka_check.Statement.{statement}
 use Rattle.cabi.proofs.saniotka_check.Tie as tie
-use Rattle.cabi.proofs.saniotka_check.Reads as reads
-use Rattle.cabi.proofs.saniotka_check.Lts as lts
-use Rattle.reader.proofs.check.Reads as check-reads
 
--- src/lib.rt:14:9
 returns : tie.Need-returns
 returns c = no-room _ _ (omega arith)
 
--- src/lib.rt:16:11
 check-requires : tie.Need-check-requires
 check-requires c κs = search needs
 
--- src/lib.rt:17:27
 enum-known-n : tie.Need-enum-known-n
 enum-known-n c = search needs
 
--- src/lib.rt:18:13
 slice-write-answer : tie.Need-slice-write-answer
 slice-write-answer c = search needs
 
--- src/lib.rt:19:13
 slice-write-answer-2 : tie.Need-slice-write-answer-2
 slice-write-answer-2 c = search needs
 
--- src/lib.rt:21:26
 enum-known-why : tie.Need-enum-known-why
 enum-known-why c = search needs
 
--- src/lib.rt:22:22
 cast-no : tie.Need-cast-no
 cast-no c = search needs
 
--- src/lib.rt:24:13
 slice-write-answer-3 : tie.Need-slice-write-answer-3
 slice-write-answer-3 c = search needs
 
--- src/lib.rt:25:13
 slice-write-answer-4 : tie.Need-slice-write-answer-4
 slice-write-answer-4 c = search needs
 
--- src/lib.rt:9:1
 same-length : tie.Need-same-length
 same-length c = search needs
 
--- src/lib.rt:9:1
 returns-2 : tie.Need-returns-2
 returns-2 c = writes-count _ _ _ (omega arith) (sym (c .before .before .before .check .ensures) ∙ c .before .n .given .1)
 
--- src/lib.rt:9:1
 same-length-2 : tie.Need-same-length-2
 same-length-2 c = search needs
 
--- src/lib.rt:9:1
 returns-3 : tie.Need-returns-3
 returns-3 c = writes-refusal _ _ _ (omega arith) (sym (c .before .before .before .before .check .ensures) ∙ c .before .before .why .given .1)
 

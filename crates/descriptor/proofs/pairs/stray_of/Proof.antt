@@ -1,3 +1,5 @@
+-- `descriptor::pairs::stray_of` meets its contract.
+-- Assumes nothing.
 use Rattle.descriptor.specs.Tables.{strayOf}
 use native.Mathlib.Omega.{arith}
 use mathlib.Core.Path.{refl}
@@ -5,15 +7,11 @@ use Rattle.number.specs.Choice.{_≠?_}
 use Rattle.number.proofs.Choice.{is-eq, no-eq}
 use Rattle.descriptor.proofs.pairs.stray_of.Statement.{statement}
 use Rattle.descriptor.proofs.pairs.stray_of.Tie as tie
-use Rattle.descriptor.proofs.pairs.stray_of.Reads as reads
-use Rattle.descriptor.proofs.pairs.stray_of.Lts as lts
 
--- src/pairs.rt:74:9
 returns : tie.Need-returns
 unfolding strayOf
 returns c = is-eq _ _ _ _ (omega arith) refl
 
--- src/pairs.rt:70:1
 returns-2 : tie.Need-returns-2
 unfolding strayOf
 returns-2 c = no-eq _ _ _ _ (λ e. omega arith) (unfold _≠?_ in refl)

@@ -1,54 +1,42 @@
+-- `descriptor::record::read_all_methods` meets its contract.
+-- Assumes nothing.
 use Rattle.descriptor.proofs.RecordLaws.{tabled-refused, tabled-noted}
 use Rattle.descriptor.specs.Descriptor.{readCounted}
 use native.Mathlib.Omega.{arith}
-use Rattle.reading.proofs.Steps.{at-bad, is-lt, no-lt, field-in, field-out}
+use Rattle.reading.proofs.Steps.{at-bad, is-lt, field-in, field-out}
 use borrow.Author.Needs.{needs}
 use Rattle.descriptor.proofs.record.read_all_methods.Statement.{statement}
 use Rattle.descriptor.proofs.record.read_all_methods.Tie as tie
-use Rattle.descriptor.proofs.record.read_all_methods.Reads as reads
-use Rattle.descriptor.proofs.record.read_all_methods.Lts as lts
-use Rattle.method.proofs.read_methods.Reads as read-methods-reads
-use Rattle.number.proofs.u16_at.Reads as u16-at-reads
 
--- src/record.rt:47:21
 add-if1 : tie.Need-add-if1
 add-if1 c = search needs
 
--- src/record.rt:50:20
 add-t11 : tie.Need-add-t11
 add-t11 c = search needs
 
--- src/record.rt:48:9
 returns : tie.Need-returns
 unfolding readCounted
 returns c = tabled-refused _ _ _ _ _ _ _ (field-out _ _ _ _ _ (omega arith)) (omega arith) (omega arith)
 
--- src/record.rt:53:13
 u16-at-requires : tie.Need-u16-at-requires
 u16-at-requires c κs = search needs
 
--- src/record.rt:53:13
 cast-n : tie.Need-cast-n
 cast-n c = search needs
 
--- src/record.rt:57:20
 add-t14 : tie.Need-add-t14
 add-t14 c = search needs
 
--- src/record.rt:55:9
 returns-2 : tie.Need-returns-2
 unfolding readCounted
 returns-2 c = tabled-refused _ _ _ _ _ _ _ (field-in _ _ _ _ _ (omega arith) (is-lt _ _ _ _ (omega arith) (at-bad _ _ _))) (omega arith) (omega arith)
 
--- src/record.rt:60:38
 add-read-methods : tie.Need-add-read-methods
 add-read-methods c = search needs
 
--- src/record.rt:60:5
 read-methods-requires : tie.Need-read-methods-requires
 read-methods-requires c κs = search needs
 
--- src/record.rt:36:1
 returns-3 : tie.Need-returns-3
 returns-3 c = tabled-noted _ _ _ _ _ _ (omega arith) (omega arith) (omega arith) (c .read-methods .ensures)
 

@@ -1,3 +1,5 @@
+-- `descriptor::record::read_with` meets its contract.
+-- Assumes nothing.
 use Rattle.descriptor.proofs.RecordLaws.{parent-ends, methods-end, constants-ends, count-led, count-told}
 use Rattle.descriptor.specs.Descriptor.{readDescriptor}
 use native.Mathlib.Omega.{arith}
@@ -6,78 +8,55 @@ use Rattle.reading.proofs.Steps.{next-end, next-refused, next-last}
 use borrow.Author.Needs.{needs}
 use Rattle.descriptor.proofs.record.read_with.Statement.{statement}
 use Rattle.descriptor.proofs.record.read_with.Tie as tie
-use Rattle.descriptor.proofs.record.read_with.Reads as reads
-use Rattle.descriptor.proofs.record.read_with.Lts as lts
-use Rattle.descriptor.proofs.constant.read_all_constants.Reads as read-all-constants-reads
-use Rattle.descriptor.proofs.record.read_all_methods.Reads as read-all-methods-reads
-use Rattle.descriptor.proofs.record.read_flags.Reads as read-flags-reads
-use Rattle.descriptor.proofs.record.read_parent.Reads as read-parent-reads
-use Rattle.number.proofs.u16_at.Reads as u16-at-reads
 
--- src/record.rt:129:9
 read-parent-requires : tie.Need-read-parent-requires
 read-parent-requires c κs = search needs
 
--- src/record.rt:130:19
 enum-known-up : tie.Need-enum-known-up
 enum-known-up c = search needs
 
--- src/record.rt:131:9
 enum-told : tie.Need-enum-told
 enum-told c = search needs
 
--- src/record.rt:131:9
 returns : tie.Need-returns
 unfolding readDescriptor
 returns c = next-refused _ _ (c .enum-told .given .1) (c .before .before .read-parent .ensures)
 
--- src/record.rt:133:9
 read-all-methods-requires : tie.Need-read-all-methods-requires
 read-all-methods-requires c κs = omega (arith, parent-ends _ _ _ (c .before .before .before .up .given .1) (c .before .before .before .before .before .read-parent .ensures))
 
--- src/record.rt:134:19
 enum-known-methods : tie.Need-enum-known-methods
 enum-known-methods c = search needs
 
--- src/record.rt:135:9
 enum-told-2 : tie.Need-enum-told-2
 enum-told-2 c = search needs
 
--- src/record.rt:135:9
 returns-2 : tie.Need-returns-2
 unfolding readDescriptor
 returns-2 c = next-end _ _ (sym (c .before .before .before .before .before .before .up .given .1) ∙ c .before .before .before .before .before .before .before .before .read-parent .ensures) (λ w h. next-refused _ _ (c .enum-told2 .given .1) (c .before .before .read-all-methods .ensures .step))
 
--- src/record.rt:137:9
 read-all-constants-requires : tie.Need-read-all-constants-requires
 read-all-constants-requires c κs = omega (arith, methods-end _ _ _ (c .before .methods .given .1) (omega (arith, parent-ends _ _ _ (c .before .before .before .before .before .before .before .up .given .1) (c .before .before .before .before .before .before .before .before .before .read-parent .ensures))) (c .before .before .before .read-all-methods .ensures .step))
 
--- src/record.rt:138:19
 enum-known-constants : tie.Need-enum-known-constants
 enum-known-constants c = search needs
 
--- src/record.rt:139:9
 enum-told-3 : tie.Need-enum-told-3
 enum-told-3 c = search needs
 
--- src/record.rt:139:9
 returns-3 : tie.Need-returns-3
 unfolding readDescriptor
 returns-3 c = next-end _ _ (sym (c .before .before .before .before .before .before .before .before .before .before .up .given .1) ∙ c .before .before .before .before .before .before .before .before .before .before .before .before .read-parent .ensures) (λ w h. next-end _ _ (sym (c .before .before .before .before .methods .given .1) ∙ c .before .before .before .before .before .before .read-all-methods .ensures .step) (λ ms j. next-refused _ _ (c .enum-told3 .given .1) (c .before .before .read-all-constants .ensures)))
 
--- src/record.rt:141:13
 u16-at-requires : tie.Need-u16-at-requires
 u16-at-requires c κs = omega (arith, methods-end _ _ _ (c .before .before .before .before .before .methods .given .1) (omega (arith, parent-ends _ _ _ (c .before .before .before .before .before .before .before .before .before .before .before .up .given .1) (c .before .before .before .before .before .before .before .before .before .before .before .before .before .read-parent .ensures))) (c .before .before .before .before .before .before .before .read-all-methods .ensures .step))
 
--- src/record.rt:141:13
 cast-n : tie.Need-cast-n
 cast-n c = search needs
 
--- src/record.rt:142:5
 read-flags-requires : tie.Need-read-flags-requires
 read-flags-requires c κs = (omega (arith, constants-ends _ _ _ (c .before .before .before .before .constants .given .1) (omega (arith, methods-end _ _ _ (c .before .before .before .before .before .before .before .before .methods .given .1) (omega (arith, parent-ends _ _ _ (c .before .before .before .before .before .before .before .before .before .before .before .before .before .before .up .given .1) (c .before .before .before .before .before .before .before .before .before .before .before .before .before .before .before .before .read-parent .ensures))) (c .before .before .before .before .before .before .before .before .before .before .read-all-methods .ensures .step))) (c .before .before .before .before .before .before .read-all-constants .ensures)), omega arith, omega arith, omega (arith, methods-end _ _ _ (c .before .before .before .before .before .before .before .before .methods .given .1) (omega (arith, parent-ends _ _ _ (c .before .before .before .before .before .before .before .before .before .before .before .before .before .before .up .given .1) (c .before .before .before .before .before .before .before .before .before .before .before .before .before .before .before .before .read-parent .ensures))) (c .before .before .before .before .before .before .before .before .before .before .read-all-methods .ensures .step)), c .before .before .before .before .before .before .before .before .before .before .read-all-methods .ensures .flags-long, c .before .before .before .before .before .before .before .before .before .before .read-all-methods .ensures .names-long, count-led _ _ _ _ _ (c .before .before .before .before .before .before .before .before .methods .given .1) (c .before .before .before .before .before .before .before .before .before .before .read-all-methods .ensures) _ (c .before .before .u16-at .ensures))
 
--- src/record.rt:119:1
 returns-4 : tie.Need-returns-4
 unfolding readDescriptor
 returns-4 c = next-end _ _ (sym (c .before .before .before .before .before .before .before .before .before .before .before .before .before .before .before .up .given .1) ∙ c .before .before .before .before .before .before .before .before .before .before .before .before .before .before .before .before .before .read-parent .ensures) (λ w h. next-end _ _ (sym (c .before .before .before .before .before .before .before .before .before .methods .given .1) ∙ c .before .before .before .before .before .before .before .before .before .before .before .read-all-methods .ensures .step) (λ ms j. next-end _ _ (sym (c .before .before .before .before .before .constants .given .1) ∙ c .before .before .before .before .before .before .before .read-all-constants .ensures) (λ ks k. next-last _ _ (count-told _ _ _ _ _ (c .before .before .before .before .before .before .before .before .before .methods .given .1) (c .before .before .before .before .before .before .before .before .before .before .before .read-all-methods .ensures) _ _ _ ms (c .before .before .before .u16-at .ensures) j (c .read-flags .ensures)))))

@@ -1,3 +1,5 @@
+-- `head::annotation::annotation_limit` meets its contract.
+-- Assumes nothing.
 use Rattle.number.proofs.Tools.{arith, refl, is-eq, no-eq}
 use Rattle.head.specs.Annotation.{annotationLimit}
 use Rattle.head.proofs.annotation.annotation_limit.Statement.{statement}

@@ -1,3 +1,5 @@
+-- `head::annotation::ascii_end` meets its contract.
+-- Assumes nothing.
 use Rattle.number.specs.Scan.{scan}
 use Rattle.number.proofs.Choice.{yes-le, not-le}
 use Rattle.number.proofs.Laws.{scan-done, scan-hit, scan-miss}

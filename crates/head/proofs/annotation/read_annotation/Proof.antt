@@ -1,3 +1,5 @@
+-- `head::annotation::read_annotation` meets its contract.
+-- Assumes nothing.
 use Rattle.number.proofs.Tools.{needs, arith}
 use Rattle.reading.proofs.Steps.{at-bad, is-le, no-le}
 use Rattle.head.specs.Annotation.{readAnnotation}

@@ -1,3 +1,5 @@
+-- `head::annotation::read_annotations` meets its contract.
+-- Assumes nothing.
 use Rattle.number.proofs.Tools.{needs, arith, _≤_, _-_}
 use Rattle.head.proofs.NoteLaws.{ends, note-ends, Same, same-start, same-next, same-last, same-refused}
 use Rattle.head.proofs.annotation.read_annotations.Statement.{statement}

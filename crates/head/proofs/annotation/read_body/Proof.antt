@@ -1,3 +1,5 @@
+-- `head::annotation::read_body` meets its contract.
+-- Assumes nothing.
 use Rattle.number.proofs.Tools.{needs, arith, sym, _∙_}
 use Rattle.reading.proofs.Steps.{at-end, at-bad, is-eq, no-eq, is-ne, no-ne, next-end, next-refused, next-last}
 use Rattle.head.specs.Annotation.{readBody}

@@ -1,3 +1,5 @@
+-- `head::annotation::read_text` meets its contract.
+-- Assumes nothing.
 use Rattle.number.proofs.Tools.{needs, arith}
 use Rattle.reading.proofs.Steps.{at-end-as, at-bad, is-lt, no-lt}
 use Rattle.head.specs.Annotation.{readText}

@@ -1,3 +1,5 @@
+-- `head::fields::length_fault` meets its contract.
+-- Assumes nothing.
 use Rattle.number.proofs.Tools.{arith, refl, is-ne, no-ne}
 use Rattle.head.specs.Header.{lengthFault}
 use Rattle.head.proofs.fields.length_fault.Statement.{statement}

@@ -1,3 +1,5 @@
+-- `head::fields::magic_end` meets its contract.
+-- Assumes nothing.
 use Rattle.number.specs.Scan.{scan}
 use Rattle.number.proofs.Choice.{yes-ne, not-ne}
 use Rattle.number.proofs.Laws.{scan-done, scan-hit, scan-miss}

@@ -1,3 +1,5 @@
+-- `head::fields::misplaced_directory` meets its contract.
+-- Assumes nothing.
 use Rattle.number.proofs.Tools.{needs, arith, refl, is-eq, no-eq, is-ne, no-ne, is-lt, no-lt}
 use Rattle.number.specs.Choice.{_<?_, _≠?_}
 use Rattle.head.specs.Header.{misplacedDirectory}

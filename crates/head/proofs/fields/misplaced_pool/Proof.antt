@@ -1,3 +1,5 @@
+-- `head::fields::misplaced_pool` meets its contract.
+-- Assumes nothing.
 use Rattle.number.proofs.Tools.{arith, refl, is-lt, no-lt}
 use Rattle.number.specs.Choice.{_<?_}
 use Rattle.head.specs.Header.{misplacedPool}

@@ -1,3 +1,5 @@
+-- `head::fields::read_fields` meets its contract.
+-- Assumes nothing.
 use Rattle.number.proofs.Tools.{needs, arith}
 use Rattle.head.specs.Header.{readFields}
 use Rattle.head.proofs.HeadSteps.{at-bad, is-true, is-false, is-lt, no-lt, is-ne, no-ne}

@@ -1,3 +1,5 @@
+-- `head::fields::read_header` meets its contract.
+-- Assumes nothing.
 use Rattle.number.proofs.Tools.{needs, arith}
 use Rattle.head.specs.Header.{readHeader}
 use Rattle.head.proofs.HeadSteps.{at-bad, is-lt, no-lt}

@@ -1,3 +1,5 @@
+-- `head::fields::read_positions` meets its contract.
+-- Assumes nothing.
 use Rattle.number.proofs.Tools.{needs}
 use Rattle.head.specs.Header.{readPositions}
 use Rattle.head.proofs.HeadSteps.{at-read, at-bad, is-true, is-false}

@@ -1,3 +1,5 @@
+-- `head::fields::unknown_minor` meets its contract.
+-- Assumes nothing.
 use Rattle.number.proofs.Tools.{refl}
 use Rattle.number.specs.Choice.{_<?_}
 use Rattle.head.specs.Header.{unknownMinor}

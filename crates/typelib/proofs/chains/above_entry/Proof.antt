@@ -1,54 +1,42 @@
+-- `typelib::chains::above_entry` meets its contract.
+-- Assumes nothing.
 use Rattle.typelib.proofs.ChainLaws.{own-inside, above-is}
 use Rattle.typelib.specs.Directory.{aboveOn, ownPointer}
 use native.Mathlib.Omega.{arith}
-use mathlib.Core.Path.{refl, sym, _∙_}
-use Rattle.number.proofs.Choice.{is-eq, no-eq}
+use mathlib.Core.Path.{refl}
+use Rattle.number.proofs.Choice.{is-eq}
 use borrow.Author.Needs.{needs}
 use Rattle.typelib.proofs.chains.above_entry.Statement.{statement}
 use Rattle.typelib.proofs.chains.above_entry.Tie as tie
-use Rattle.typelib.proofs.chains.above_entry.Reads as reads
-use Rattle.typelib.proofs.chains.above_entry.Lts as lts
-use Rattle.number.proofs.u16_at.Reads as u16-at-reads
-use Rattle.number.proofs.u32_at.Reads as u32-at-reads
 
--- src/chains.rt:14:38
 mul-u32-at : tie.Need-mul-u32-at
 mul-u32-at c = search needs
 
--- src/chains.rt:14:34
 add-u32-at : tie.Need-add-u32-at
 add-u32-at c = search needs
 
--- src/chains.rt:14:34
 add-u32-at-2 : tie.Need-add-u32-at-2
 add-u32-at-2 c = search needs
 
--- src/chains.rt:14:13
 u32-at-requires : tie.Need-u32-at-requires
 u32-at-requires c κs = search needs
 
--- src/chains.rt:14:13
 cast-q : tie.Need-cast-q
 cast-q c = search needs
 
--- src/chains.rt:16:9
 returns : tie.Need-returns
 unfolding aboveOn ownPointer
 returns c = is-eq _ _ _ _ (omega arith) refl
 
--- src/chains.rt:18:26
 sub-u16-at : tie.Need-sub-u16-at
 sub-u16-at c = search needs
 
--- src/chains.rt:18:5
 u16-at-requires : tie.Need-u16-at-requires
 u16-at-requires c κs = own-inside _ _ _ _ _ _ (c .before .u32-at .ensures) (c .before .before .before .before .pre .1) (omega arith) (λ e. omega arith)
 
--- src/chains.rt:18:5
 cast-result : tie.Need-cast-result
 cast-result c = search needs
 
--- src/chains.rt:10:1
 returns-2 : tie.Need-returns-2
 returns-2 c = above-is _ _ _ _ _ _ (c .before .before .u32-at .ensures) (c .before .before .before .before .before .pre .1) (omega arith) (λ e. omega arith) (c .u16-at .ensures)
 

@@ -1,3 +1,5 @@
+-- `typelib::whole::check_behind` meets its contract.
+-- Assumes nothing.
 use Rattle.typelib.specs.Typelib.{poolOf}
 use Rattle.number.proofs.Parts.{part-rest}
 use Rattle.typelib.proofs.FrontLaws.{fronted-header}
@@ -5,28 +7,20 @@ use native.Mathlib.Omega.{arith}
 use borrow.Author.Needs.{needs}
 use Rattle.typelib.proofs.whole.check_behind.Statement.{statement}
 use Rattle.typelib.proofs.whole.check_behind.Tie as tie
-use Rattle.typelib.proofs.whole.check_behind.Reads as reads
-use Rattle.typelib.proofs.whole.check_behind.Lts as lts
-use Rattle.typelib.proofs.whole.check_pool.Reads as check-pool-reads
 
--- src/whole.rt:61:22
 sub-check-pool : tie.Need-sub-check-pool
 sub-check-pool c = omega (arith, fronted-header _ _ (c .before .pre) .inside)
 
--- src/whole.rt:61:22
 part-check-pool-start : tie.Need-part-check-pool-start
 part-check-pool-start c = omega (arith, fronted-header _ _ (c .before .pre) .inside)
 
--- src/whole.rt:61:22
 part-check-pool-end : tie.Need-part-check-pool-end
 part-check-pool-end c = search needs
 
--- src/whole.rt:61:5
 check-pool-requires : tie.Need-check-pool-requires
 unfolding poolOf
 check-pool-requires c κs = (c .before .before .pre, part-rest (c .before .before .args .file .now) (c .before .before .args .h .pool))
 
--- src/whole.rt:56:1
 returns : tie.Need-returns
 returns c = search needs
 
