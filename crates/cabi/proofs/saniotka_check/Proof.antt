@@ -4,9 +4,6 @@ use Rattle.cabi.proofs.Laws.{no-room, writes-count, writes-refusal}
 use borrow.Author.Needs.{needs}
 use Rattle.cabi.proofs.saniotka_check.Statement.{statement}
 use Rattle.cabi.proofs.saniotka_check.Tie as tie
-use Rattle.cabi.proofs.saniotka_check.Reads as reads
-use Rattle.cabi.proofs.saniotka_check.Lts as lts
-use Rattle.reader.proofs.check.Reads as check-reads
 
 -- src/lib.rt:14:9
 returns : tie.Need-returns

@@ -2,9 +2,6 @@ use Rattle.reader.specs.Reader.Laws.{checked}
 use borrow.Author.Needs.{needs}
 use Rattle.reader.proofs.check.Statement.{statement}
 use Rattle.reader.proofs.check.Tie as tie
-use Rattle.reader.proofs.check.Reads as reads
-use Rattle.reader.proofs.check.Lts as lts
-use Rattle.typelib.proofs.check_typelib.Reads as check-typelib-reads
 
 -- src/lib.rt:12:5
 check-typelib-requires : tie.Need-check-typelib-requires

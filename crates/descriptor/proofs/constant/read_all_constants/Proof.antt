@@ -4,10 +4,6 @@ use Rattle.reading.proofs.Steps.{at-bad, is-lt, no-lt, field-in, field-out}
 use borrow.Author.Needs.{needs}
 use Rattle.descriptor.proofs.constant.read_all_constants.Statement.{statement}
 use Rattle.descriptor.proofs.constant.read_all_constants.Tie as tie
-use Rattle.descriptor.proofs.constant.read_all_constants.Reads as reads
-use Rattle.descriptor.proofs.constant.read_all_constants.Lts as lts
-use Rattle.descriptor.proofs.constant.read_constants.Reads as read-constants-reads
-use Rattle.number.proofs.u16_at.Reads as u16-at-reads
 
 -- src/constant.rt:82:21
 add-if1 : tie.Need-add-if1

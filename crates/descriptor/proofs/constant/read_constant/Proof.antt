@@ -7,10 +7,6 @@ use Rattle.reading.proofs.Steps.{at-end-as, at-bad, is-eq, no-eq, next-end, nex
 use borrow.Author.Needs.{needs}
 use Rattle.descriptor.proofs.constant.read_constant.Statement.{statement}
 use Rattle.descriptor.proofs.constant.read_constant.Tie as tie
-use Rattle.descriptor.proofs.constant.read_constant.Reads as reads
-use Rattle.descriptor.proofs.constant.read_constant.Lts as lts
-use Rattle.descriptor.proofs.constant.value_size.Reads as value-size-reads
-use Rattle.name.proofs.read_name.Reads as read-name-reads
 
 -- src/constant.rt:31:9
 read-name-requires : tie.Need-read-name-requires

@@ -1,7 +1,7 @@
 use Rattle.descriptor.proofs.ConstantLaws.{constant-ends}
 use Rattle.descriptor.specs.Constant.{readConstant}
 use native.Mathlib.Omega.{arith}
-use mathlib.Core.Path.{_≡_, sym, _∙_}
+use mathlib.Core.Path.{_≡_}
 use lib.ListN.{length}
 use Prim.Native.Nat.{_-_, _≤_}
 use native.Mathlib.Nat.{sub-zero}
@@ -10,9 +10,6 @@ use Rattle.reading.proofs.Steps.{turn-next, turn-refused, turn-done}
 use borrow.Author.Needs.{needs}
 use Rattle.descriptor.proofs.constant.read_constants.Statement.{statement}
 use Rattle.descriptor.proofs.constant.read_constants.Tie as tie
-use Rattle.descriptor.proofs.constant.read_constants.Reads as reads
-use Rattle.descriptor.proofs.constant.read_constants.Lts as lts
-use Rattle.descriptor.proofs.constant.read_constant.Reads as read-constant-reads
 
 abbrev Inv-loop : tie.InvT-loop
 Inv-loop pool c n at k₀ p₀ k p = (k ≤ n) × (p ≤ length pool) × (stepOf (many (readConstant c pool) n at) ≡ stepOf (many (readConstant c pool) (n - k) p))

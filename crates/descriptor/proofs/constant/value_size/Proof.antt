@@ -4,8 +4,6 @@ use mathlib.Core.Path.{refl}
 use Rattle.number.proofs.Choice.{is-eq, no-eq}
 use Rattle.descriptor.proofs.constant.value_size.Statement.{statement}
 use Rattle.descriptor.proofs.constant.value_size.Tie as tie
-use Rattle.descriptor.proofs.constant.value_size.Reads as reads
-use Rattle.descriptor.proofs.constant.value_size.Lts as lts
 
 -- src/constant.rt:13:1
 returns : tie.Need-returns

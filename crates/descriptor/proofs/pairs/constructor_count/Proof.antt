@@ -3,8 +3,6 @@ use mathlib.Core.Path.{refl}
 use Rattle.number.proofs.Choice.{is-eq, no-eq}
 use Rattle.descriptor.proofs.pairs.constructor_count.Statement.{statement}
 use Rattle.descriptor.proofs.pairs.constructor_count.Tie as tie
-use Rattle.descriptor.proofs.pairs.constructor_count.Reads as reads
-use Rattle.descriptor.proofs.pairs.constructor_count.Lts as lts
 
 -- src/pairs.rt:16:9
 returns : tie.Need-returns

@@ -6,9 +6,6 @@ use Rattle.number.proofs.Choice.{is-eq, no-eq}
 use borrow.Author.Needs.{needs}
 use Rattle.descriptor.proofs.pairs.is_stray.Statement.{statement}
 use Rattle.descriptor.proofs.pairs.is_stray.Tie as tie
-use Rattle.descriptor.proofs.pairs.is_stray.Reads as reads
-use Rattle.descriptor.proofs.pairs.is_stray.Lts as lts
-use Rattle.descriptor.proofs.pairs.stray_of.Reads as stray-of-reads
 
 -- src/pairs.rt:84:8
 element-copy-out-if1 : tie.Need-element-copy-out-if1

@@ -2,17 +2,13 @@ use Rattle.descriptor.proofs.Getters.{constructors-more, constructors-m
 use borrow.Author.Needs.{needs}
 use Rattle.descriptor.specs.Tables.{cell}
 use Rattle.descriptor.specs.Rules.{isConstructor, manyConstructors}
-use Rattle.number.proofs.Scans.{tally-more}
 use Rattle.number.specs.Choice.{_<?_}
 use Rattle.number.specs.Scan.{tally}
 use native.Mathlib.Omega.{arith}
-use mathlib.Core.Path.{_≡_, refl, sym, _∙_}
+use mathlib.Core.Path.{_≡_, refl}
 use Prim.Native.Nat.{_≤_, _-_}
 use Rattle.descriptor.proofs.pairs.many_constructors.Statement.{statement}
 use Rattle.descriptor.proofs.pairs.many_constructors.Tie as tie
-use Rattle.descriptor.proofs.pairs.many_constructors.Reads as reads
-use Rattle.descriptor.proofs.pairs.many_constructors.Lts as lts
-use Rattle.descriptor.proofs.pairs.constructor_count.Reads as constructor-count-reads
 
 abbrev Inv-loop : tie.InvT-loop
 Inv-loop flags n k₀ i₀ k i = (i ≤ n) × (k ≡ tally (isConstructor (cell flags)) i)

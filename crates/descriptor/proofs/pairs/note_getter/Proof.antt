@@ -6,9 +6,6 @@ use Rattle.descriptor.proofs.Getters.{filled-more, filled-same}
 use borrow.Author.Needs.{needs}
 use Rattle.descriptor.proofs.pairs.note_getter.Statement.{statement}
 use Rattle.descriptor.proofs.pairs.note_getter.Tie as tie
-use Rattle.descriptor.proofs.pairs.note_getter.Reads as reads
-use Rattle.descriptor.proofs.pairs.note_getter.Lts as lts
-use Rattle.descriptor.proofs.pairs.one_more.Reads as one-more-reads
 
 -- src/pairs.rt:51:8
 element-copy-out-if1 : tie.Need-element-copy-out-if1

@@ -5,9 +5,6 @@ use Prim.Native.Nat.{_≤_, _-_}
 use Rattle.key.specs.First.{Filled}
 use Rattle.descriptor.proofs.pairs.note_getters.Statement.{statement}
 use Rattle.descriptor.proofs.pairs.note_getters.Tie as tie
-use Rattle.descriptor.proofs.pairs.note_getters.Reads as reads
-use Rattle.descriptor.proofs.pairs.note_getters.Lts as lts
-use Rattle.descriptor.proofs.pairs.note_getter.Reads as note-getter-reads
 
 abbrev Inv-loop : tie.InvT-loop
 Inv-loop flags first n getters₀ i₀ getters i = (i ≤ n) × Filled getters 1024 (gettersOf (cell flags) (cell first) i)

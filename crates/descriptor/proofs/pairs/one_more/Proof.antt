@@ -5,8 +5,6 @@ use Rattle.number.proofs.Choice.{is-eq, no-eq}
 use borrow.Author.Needs.{needs}
 use Rattle.descriptor.proofs.pairs.one_more.Statement.{statement}
 use Rattle.descriptor.proofs.pairs.one_more.Tie as tie
-use Rattle.descriptor.proofs.pairs.one_more.Reads as reads
-use Rattle.descriptor.proofs.pairs.one_more.Lts as lts
 
 -- src/pairs.rt:41:17
 add-result : tie.Need-add-result

@@ -5,8 +5,6 @@ use Rattle.number.specs.Choice.{_≠?_}
 use Rattle.number.proofs.Choice.{is-eq, no-eq}
 use Rattle.descriptor.proofs.pairs.stray_of.Statement.{statement}
 use Rattle.descriptor.proofs.pairs.stray_of.Tie as tie
-use Rattle.descriptor.proofs.pairs.stray_of.Reads as reads
-use Rattle.descriptor.proofs.pairs.stray_of.Lts as lts
 
 -- src/pairs.rt:74:9
 returns : tie.Need-returns

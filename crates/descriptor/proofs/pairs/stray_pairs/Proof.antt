@@ -4,11 +4,6 @@ use mathlib.Core.Path.{refl}
 use borrow.Author.Needs.{needs}
 use Rattle.descriptor.proofs.pairs.stray_pairs.Statement.{statement}
 use Rattle.descriptor.proofs.pairs.stray_pairs.Tie as tie
-use Rattle.descriptor.proofs.pairs.stray_pairs.Reads as reads
-use Rattle.descriptor.proofs.pairs.stray_pairs.Lts as lts
-use Rattle.descriptor.proofs.pairs.note_getters.Reads as note-getters-reads
-use Rattle.descriptor.proofs.pairs.stray_setter.Reads as stray-setter-reads
-use Rattle.key.proofs.first_same.Reads as first-same-reads
 
 -- src/pairs.rt:113:27
 slice-aggregate-first-same : tie.Need-slice-aggregate-first-same

@@ -5,9 +5,6 @@ use Prim.Native.Nat.{_≤_, _-_}
 use Rattle.number.proofs.Scans.{Misses, misses-none, misses-more, misses-some, hits-some}
 use Rattle.descriptor.proofs.pairs.stray_setter.Statement.{statement}
 use Rattle.descriptor.proofs.pairs.stray_setter.Tie as tie
-use Rattle.descriptor.proofs.pairs.stray_setter.Reads as reads
-use Rattle.descriptor.proofs.pairs.stray_setter.Lts as lts
-use Rattle.descriptor.proofs.pairs.is_stray.Reads as is-stray-reads
 
 abbrev Inv-loop : tie.InvT-loop
 Inv-loop flags first getters n j₀ j = (j ≤ n) × Misses (straySetter (cell flags) (cell first) (cell getters)) j

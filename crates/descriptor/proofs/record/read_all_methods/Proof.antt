@@ -1,14 +1,10 @@
 use Rattle.descriptor.proofs.RecordLaws.{tabled-refused, tabled-noted}
 use Rattle.descriptor.specs.Descriptor.{readCounted}
 use native.Mathlib.Omega.{arith}
-use Rattle.reading.proofs.Steps.{at-bad, is-lt, no-lt, field-in, field-out}
+use Rattle.reading.proofs.Steps.{at-bad, is-lt, field-in, field-out}
 use borrow.Author.Needs.{needs}
 use Rattle.descriptor.proofs.record.read_all_methods.Statement.{statement}
 use Rattle.descriptor.proofs.record.read_all_methods.Tie as tie
-use Rattle.descriptor.proofs.record.read_all_methods.Reads as reads
-use Rattle.descriptor.proofs.record.read_all_methods.Lts as lts
-use Rattle.method.proofs.read_methods.Reads as read-methods-reads
-use Rattle.number.proofs.u16_at.Reads as u16-at-reads
 
 -- src/record.rt:47:21
 add-if1 : tie.Need-add-if1

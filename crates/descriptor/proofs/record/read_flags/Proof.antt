@@ -5,11 +5,6 @@ use Rattle.reading.proofs.Steps.{at-end, at-bad, is-true, is-false, byte-in, by
 use borrow.Author.Needs.{needs}
 use Rattle.descriptor.proofs.record.read_flags.Statement.{statement}
 use Rattle.descriptor.proofs.record.read_flags.Tie as tie
-use Rattle.descriptor.proofs.record.read_flags.Reads as reads
-use Rattle.descriptor.proofs.record.read_flags.Lts as lts
-use Rattle.descriptor.proofs.pairs.many_constructors.Reads as many-constructors-reads
-use Rattle.descriptor.proofs.pairs.stray_pairs.Reads as stray-pairs-reads
-use Rattle.descriptor.proofs.record.reserved_interface.Reads as reserved-interface-reads
 
 -- src/record.rt:94:20
 add-t12 : tie.Need-add-t12

@@ -4,9 +4,6 @@ use Rattle.reading.proofs.Steps.{at-end, at-bad, is-lt, no-lt, field-in, field-
 use borrow.Author.Needs.{needs}
 use Rattle.descriptor.proofs.record.read_parent.Statement.{statement}
 use Rattle.descriptor.proofs.record.read_parent.Tie as tie
-use Rattle.descriptor.proofs.record.read_parent.Reads as reads
-use Rattle.descriptor.proofs.record.read_parent.Lts as lts
-use Rattle.number.proofs.u16_at.Reads as u16-at-reads
 
 -- src/record.rt:19:21
 add-if1 : tie.Need-add-if1

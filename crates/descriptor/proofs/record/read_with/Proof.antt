@@ -6,13 +6,6 @@ use Rattle.reading.proofs.Steps.{next-end, next-refused, next-last}
 use borrow.Author.Needs.{needs}
 use Rattle.descriptor.proofs.record.read_with.Statement.{statement}
 use Rattle.descriptor.proofs.record.read_with.Tie as tie
-use Rattle.descriptor.proofs.record.read_with.Reads as reads
-use Rattle.descriptor.proofs.record.read_with.Lts as lts
-use Rattle.descriptor.proofs.constant.read_all_constants.Reads as read-all-constants-reads
-use Rattle.descriptor.proofs.record.read_all_methods.Reads as read-all-methods-reads
-use Rattle.descriptor.proofs.record.read_flags.Reads as read-flags-reads
-use Rattle.descriptor.proofs.record.read_parent.Reads as read-parent-reads
-use Rattle.number.proofs.u16_at.Reads as u16-at-reads
 
 -- src/record.rt:129:9
 read-parent-requires : tie.Need-read-parent-requires

@@ -5,8 +5,6 @@ use Rattle.number.specs.Choice.{_=?_}
 use Rattle.number.proofs.Choice.{is-eq, no-eq, is-ne, no-ne}
 use Rattle.descriptor.proofs.record.reserved_interface.Statement.{statement}
 use Rattle.descriptor.proofs.record.reserved_interface.Tie as tie
-use Rattle.descriptor.proofs.record.reserved_interface.Reads as reads
-use Rattle.descriptor.proofs.record.reserved_interface.Lts as lts
 
 -- src/record.rt:68:9
 returns : tie.Need-returns

@@ -1,15 +1,11 @@
 use Rattle.typelib.proofs.ChainLaws.{own-inside, above-is}
 use Rattle.typelib.specs.Directory.{aboveOn, ownPointer}
 use native.Mathlib.Omega.{arith}
-use mathlib.Core.Path.{refl, sym, _∙_}
-use Rattle.number.proofs.Choice.{is-eq, no-eq}
+use mathlib.Core.Path.{refl}
+use Rattle.number.proofs.Choice.{is-eq}
 use borrow.Author.Needs.{needs}
 use Rattle.typelib.proofs.chains.above_entry.Statement.{statement}
 use Rattle.typelib.proofs.chains.above_entry.Tie as tie
-use Rattle.typelib.proofs.chains.above_entry.Reads as reads
-use Rattle.typelib.proofs.chains.above_entry.Lts as lts
-use Rattle.number.proofs.u16_at.Reads as u16-at-reads
-use Rattle.number.proofs.u32_at.Reads as u32-at-reads
 
 -- src/chains.rt:14:38
 mul-u32-at : tie.Need-mul-u32-at

@@ -7,9 +7,6 @@ use mathlib.Core.Path.{_≡_, refl, sym, _∙_}
 use Prim.Native.Nat.{_≤_}
 use Rattle.typelib.proofs.chains.chain_ends.Statement.{statement}
 use Rattle.typelib.proofs.chains.chain_ends.Tie as tie
-use Rattle.typelib.proofs.chains.chain_ends.Reads as reads
-use Rattle.typelib.proofs.chains.chain_ends.Lts as lts
-use Rattle.typelib.proofs.chains.above_entry.Reads as above-entry-reads
 
 abbrev Inv-loop : tie.InvT-loop
 Inv-loop file pool n d i left₀ j₀ left j = (j ≤ n) × (chainEnds n (aboveOn file pool d) i ≡ chainEnds left (aboveOn file pool d) j)

@@ -7,9 +7,6 @@ use mathlib.Core.Path.{_≡_, sym, _∙_}
 use Prim.Native.Nat.{_≤_, _-_}
 use Rattle.typelib.proofs.chains.first_circling.Statement.{statement}
 use Rattle.typelib.proofs.chains.first_circling.Tie as tie
-use Rattle.typelib.proofs.chains.first_circling.Reads as reads
-use Rattle.typelib.proofs.chains.first_circling.Lts as lts
-use Rattle.typelib.proofs.chains.chain_ends.Reads as chain-ends-reads
 
 abbrev Inv-loop : tie.InvT-loop
 Inv-loop file pool n d i₀ i = (i ≤ n) × Misses (circles (aboveOn file pool d) n) i

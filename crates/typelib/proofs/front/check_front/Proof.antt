@@ -3,10 +3,6 @@ use Rattle.typelib.proofs.FrontLaws.{front-listed, front-refused}
 use borrow.Author.Needs.{needs}
 use Rattle.typelib.proofs.front.check_front.Statement.{statement}
 use Rattle.typelib.proofs.front.check_front.Tie as tie
-use Rattle.typelib.proofs.front.check_front.Reads as reads
-use Rattle.typelib.proofs.front.check_front.Lts as lts
-use Rattle.head.proofs.read_header.Reads as read-header-reads
-use Rattle.typelib.proofs.front.check_listed.Reads as check-listed-reads
 
 -- src/front.rt:40:11
 read-header-requires : tie.Need-read-header-requires

@@ -5,11 +5,6 @@ use native.Mathlib.Omega.{arith}
 use borrow.Author.Needs.{needs}
 use Rattle.typelib.proofs.front.check_listed.Statement.{statement}
 use Rattle.typelib.proofs.front.check_listed.Tie as tie
-use Rattle.typelib.proofs.front.check_listed.Reads as reads
-use Rattle.typelib.proofs.front.check_listed.Lts as lts
-use Rattle.head.proofs.annotation_limit.Reads as annotation-limit-reads
-use Rattle.head.proofs.read_annotations.Reads as read-annotations-reads
-use Rattle.typelib.proofs.front.check_rows.Reads as check-rows-reads
 
 -- src/front.rt:29:9
 annotation-limit-requires : tie.Need-annotation-limit-requires

@@ -3,9 +3,6 @@ use Rattle.typelib.proofs.FrontLaws.{keep-end, keep-refused}
 use borrow.Author.Needs.{needs}
 use Rattle.typelib.proofs.front.check_rows.Statement.{statement}
 use Rattle.typelib.proofs.front.check_rows.Tie as tie
-use Rattle.typelib.proofs.front.check_rows.Reads as reads
-use Rattle.typelib.proofs.front.check_rows.Lts as lts
-use Rattle.directory.proofs.check_directory.Reads as check-directory-reads
 
 -- src/front.rt:18:11
 check-directory-requires : tie.Need-check-directory-requires

@@ -2,14 +2,11 @@ use borrow.Author.Needs.{needs}
 use Rattle.typelib.specs.Tables.{lower}
 use Rattle.number.proofs.Scans.{Misses, misses-none, misses-more, misses-scan, misses-end}
 use native.Mathlib.Omega.{arith}
-use mathlib.Core.Path.{_≡_, refl, sym, _∙_}
+use mathlib.Core.Path.{_≡_, sym, _∙_}
 use Rattle.number.proofs.Choice.{yes-lt, not-lt}
 use Prim.Native.Nat.{_≤_, _-_}
 use Rattle.typelib.proofs.keys.first_lower.Statement.{statement}
 use Rattle.typelib.proofs.keys.first_lower.Tie as tie
-use Rattle.typelib.proofs.keys.first_lower.Reads as reads
-use Rattle.typelib.proofs.keys.first_lower.Lts as lts
-use Rattle.typelib.proofs.keys.wide.Reads as wide-reads
 
 abbrev Inv-loop : tie.InvT-loop
 Inv-loop first n i₀ i = (i ≤ n) × Misses (lower first) i

@@ -4,11 +4,6 @@ use mathlib.Core.Path.{refl}
 use borrow.Author.Needs.{needs}
 use Rattle.typelib.proofs.keys.first_repeated.Statement.{statement}
 use Rattle.typelib.proofs.keys.first_repeated.Tie as tie
-use Rattle.typelib.proofs.keys.first_repeated.Reads as reads
-use Rattle.typelib.proofs.keys.first_repeated.Lts as lts
-use Rattle.key.proofs.first_same.Reads as first-same-reads
-use Rattle.typelib.proofs.keys.first_lower.Reads as first-lower-reads
-use Rattle.typelib.proofs.keys.note_pointers.Reads as note-pointers-reads
 
 -- src/keys.rt:53:5
 note-pointers-requires : tie.Need-note-pointers-requires

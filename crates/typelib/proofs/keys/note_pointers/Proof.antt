@@ -7,9 +7,6 @@ use mathlib.Core.Path.{_≡_}
 use Prim.Native.Nat.{_≤_, _-_}
 use Rattle.typelib.proofs.keys.note_pointers.Statement.{statement}
 use Rattle.typelib.proofs.keys.note_pointers.Tie as tie
-use Rattle.typelib.proofs.keys.note_pointers.Reads as reads
-use Rattle.typelib.proofs.keys.note_pointers.Lts as lts
-use Rattle.number.proofs.u32_at.Reads as u32-at-reads
 
 abbrev Inv-loop : tie.InvT-loop
 Inv-loop file n d spaces₀ names₀ k₀ spaces names k = (k ≤ n) × (1024 ≡ length spaces) × (1024 ≡ length names) × Filled spaces k (spacePointer file d) × Filled names k (namePointer file d)

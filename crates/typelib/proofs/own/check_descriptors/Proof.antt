@@ -3,15 +3,12 @@ use Rattle.typelib.specs.Own.{Settled}
 use Rattle.typelib.specs.Entry.{readOwn}
 use Rattle.reading.proofs.Steps.{turn-refused}
 use Rattle.reading.specs.Got.{many, stepOf}
-use mathlib.Core.Path.{_≡_, sym, _∙_}
+use mathlib.Core.Path.{_≡_}
 use Prim.Native.Nat.{_+_, _-_, _*_, _≤_}
 use borrow.Author.Needs.{needs}
 use native.Mathlib.Omega.{arith}
 use Rattle.typelib.proofs.own.check_descriptors.Statement.{statement}
 use Rattle.typelib.proofs.own.check_descriptors.Tie as tie
-use Rattle.typelib.proofs.own.check_descriptors.Reads as reads
-use Rattle.typelib.proofs.own.check_descriptors.Lts as lts
-use Rattle.typelib.proofs.own.check_once.Reads as check-once-reads
 
 abbrev Inv-loop : tie.InvT-loop
 Inv-loop file pool c n d k₀ k = (k ≤ n) × Settled c file pool d k × (stepOf (many (readOwn c file pool) n d) ≡ stepOf (many (readOwn c file pool) (n - k) (d + 28 * k)))

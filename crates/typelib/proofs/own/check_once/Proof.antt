@@ -3,11 +3,6 @@ use mathlib.Core.Path.{sym, _∙_}
 use borrow.Author.Needs.{needs}
 use Rattle.typelib.proofs.own.check_once.Statement.{statement}
 use Rattle.typelib.proofs.own.check_once.Tie as tie
-use Rattle.typelib.proofs.own.check_once.Reads as reads
-use Rattle.typelib.proofs.own.check_once.Lts as lts
-use Rattle.number.proofs.u32_at.Reads as u32-at-reads
-use Rattle.typelib.proofs.own.check_own.Reads as check-own-reads
-use Rattle.typelib.proofs.own.stood_earlier.Reads as stood-earlier-reads
 
 -- src/own.rt:64:17
 mul-p : tie.Need-mul-p

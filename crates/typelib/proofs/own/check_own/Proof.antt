@@ -3,10 +3,6 @@ use native.Mathlib.Omega.{arith}
 use borrow.Author.Needs.{needs}
 use Rattle.typelib.proofs.own.check_own.Statement.{statement}
 use Rattle.typelib.proofs.own.check_own.Tie as tie
-use Rattle.typelib.proofs.own.check_own.Reads as reads
-use Rattle.typelib.proofs.own.check_own.Lts as lts
-use Rattle.descriptor.proofs.read_descriptor.Reads as read-descriptor-reads
-use Rattle.number.proofs.u32_at.Reads as u32-at-reads
 
 -- src/own.rt:19:34
 add-u32-at : tie.Need-add-u32-at

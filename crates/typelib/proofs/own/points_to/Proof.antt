@@ -4,9 +4,6 @@ use mathlib.Core.Path.{refl}
 use borrow.Author.Needs.{needs}
 use Rattle.typelib.proofs.own.points_to.Statement.{statement}
 use Rattle.typelib.proofs.own.points_to.Tie as tie
-use Rattle.typelib.proofs.own.points_to.Reads as reads
-use Rattle.typelib.proofs.own.points_to.Lts as lts
-use Rattle.number.proofs.u32_at.Reads as u32-at-reads
 
 -- src/own.rt:41:30
 mul-u32-at : tie.Need-mul-u32-at

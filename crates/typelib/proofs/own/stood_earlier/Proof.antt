@@ -5,9 +5,6 @@ use Prim.Native.Nat.{_≤_, _-_}
 use native.Mathlib.Omega.{arith}
 use Rattle.typelib.proofs.own.stood_earlier.Statement.{statement}
 use Rattle.typelib.proofs.own.stood_earlier.Tie as tie
-use Rattle.typelib.proofs.own.stood_earlier.Reads as reads
-use Rattle.typelib.proofs.own.stood_earlier.Lts as lts
-use Rattle.typelib.proofs.own.points_to.Reads as points-to-reads
 
 abbrev Inv-loop : tie.InvT-loop
 Inv-loop file n d k q j₀ j = (j ≤ k) × Misses (pointsTo file d q) j

@@ -3,10 +3,6 @@ use native.Mathlib.Omega.{arith}
 use borrow.Author.Needs.{needs}
 use Rattle.typelib.proofs.whole.check_across.Statement.{statement}
 use Rattle.typelib.proofs.whole.check_across.Tie as tie
-use Rattle.typelib.proofs.whole.check_across.Reads as reads
-use Rattle.typelib.proofs.whole.check_across.Lts as lts
-use Rattle.typelib.proofs.chains.first_circling.Reads as first-circling-reads
-use Rattle.typelib.proofs.keys.first_repeated.Reads as first-repeated-reads
 
 -- src/whole.rt:20:9
 first-repeated-requires : tie.Need-first-repeated-requires

@@ -5,9 +5,6 @@ use native.Mathlib.Omega.{arith}
 use borrow.Author.Needs.{needs}
 use Rattle.typelib.proofs.whole.check_behind.Statement.{statement}
 use Rattle.typelib.proofs.whole.check_behind.Tie as tie
-use Rattle.typelib.proofs.whole.check_behind.Reads as reads
-use Rattle.typelib.proofs.whole.check_behind.Lts as lts
-use Rattle.typelib.proofs.whole.check_pool.Reads as check-pool-reads
 
 -- src/whole.rt:61:22
 sub-check-pool : tie.Need-sub-check-pool

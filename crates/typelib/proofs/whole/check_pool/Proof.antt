@@ -3,10 +3,6 @@ use Rattle.typelib.specs.Typelib.{contextOf}
 use borrow.Author.Needs.{needs}
 use Rattle.typelib.proofs.whole.check_pool.Statement.{statement}
 use Rattle.typelib.proofs.whole.check_pool.Tie as tie
-use Rattle.typelib.proofs.whole.check_pool.Reads as reads
-use Rattle.typelib.proofs.whole.check_pool.Lts as lts
-use Rattle.typelib.proofs.own.check_descriptors.Reads as check-descriptors-reads
-use Rattle.typelib.proofs.whole.check_across.Reads as check-across-reads
 
 -- src/whole.rt:44:17
 cast-minor : tie.Need-cast-minor

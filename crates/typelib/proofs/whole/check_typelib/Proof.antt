@@ -3,10 +3,6 @@ use Rattle.typelib.proofs.FrontLaws.{fronted, front-bad}
 use borrow.Author.Needs.{needs}
 use Rattle.typelib.proofs.whole.check_typelib.Statement.{statement}
 use Rattle.typelib.proofs.whole.check_typelib.Tie as tie
-use Rattle.typelib.proofs.whole.check_typelib.Reads as reads
-use Rattle.typelib.proofs.whole.check_typelib.Lts as lts
-use Rattle.typelib.proofs.front.check_front.Reads as check-front-reads
-use Rattle.typelib.proofs.whole.check_behind.Reads as check-behind-reads
 
 -- src/whole.rt:68:11
 check-front-requires : tie.Need-check-front-requires
