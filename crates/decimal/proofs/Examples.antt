@@ -1,7 +1,7 @@
 -- Closed examples, computed.
 -- Assumes nothing.
 use mathlib.Core.Path.{_≡_, refl}
-use mathlib.Core.List.{List, [], _∷_}
+use mathlib.Core.List.{[], _∷_}
 use Rattle.number.specs.Choice.{if_then_else_, _<?_}
 use Rattle.decimal.specs.Digits.{digitsOf, digitsWithin}
 

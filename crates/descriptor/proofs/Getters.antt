@@ -1,21 +1,20 @@
 -- The table of getters by name, and what it tells of the getter pairs.
 -- Assumes nothing.
 use mathlib.Core.Path.{_≡_, refl, sym, ap, _∙_}
-use mathlib.Core.Bool.{Bool, true, false}
-use mathlib.Core.Logic.{_⊎_, inl, inr}
+use mathlib.Core.Bool.{true, false}
 use mathlib.Core.List.{List}
-use Prim.Native.Nat.{ℕ, zero, suc, _+_, _≤_, _<_, _/_, _%_}
+use Prim.Native.Nat.{ℕ, _+_, _≤_, _<_, _/_, _%_}
 use native.Mathlib.Decide.{ℕ-discrete}
 use native.Mathlib.Omega.{arith}
 use native.Mathlib.Numerals.{add-one}
-use lib.ListN.{length, getD, set, length-set}
+use lib.ListN.{getD, set, length-set}
 use lib.Seq.{getD-set-same, getD-set-other}
-use Rattle.number.specs.Choice.{if_then_else_, _=?_, _≠?_}
-use Rattle.number.proofs.Choice.{is-true, is-false, is-eq, no-eq, yes-eq, not-eq, from-yes-eq, from-not-eq}
+use Rattle.number.specs.Choice.{if_then_else_, _=?_}
+use Rattle.number.proofs.Choice.{is-true, is-false, is-eq, no-eq}
 use Rattle.number.specs.Scan.{tally}
 use Rattle.number.proofs.Scans.{tally-more, tally-most}
 use Rattle.key.specs.First.{Filled}
-use Rattle.descriptor.specs.Rules.{isConstructor, isGetter, isSetter}
+use Rattle.descriptor.specs.Rules.{isConstructor, isGetter}
 use Rattle.descriptor.specs.Tables.{cell, oneMore, gettersOf}
 
 module _ (f g : ℕ → ℕ) (i : ℕ) where

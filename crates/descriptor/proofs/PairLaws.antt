@@ -1,6 +1,6 @@
 -- The table of getters tells whether a getter pair is broken.
 -- Assumes nothing.
-use mathlib.Core.Path.{_≡_, refl, sym, ap, _∙_}
+use mathlib.Core.Path.{_≡_, refl, sym}
 use mathlib.Core.Bool.{Bool, true, false}
 use mathlib.Core.Logic.{_⊎_, inl, inr}
 use mathlib.Core.List.{List}
@@ -9,8 +9,8 @@ use native.Mathlib.Decide.{ℕ-discrete}
 use native.Mathlib.Omega.{arith}
 use Rattle.number.specs.Choice.{if_then_else_, _=?_, _≠?_}
 use Rattle.number.specs.Scan.{some}
-use Rattle.number.proofs.Choice.{both, is-true, is-false, is-eq, no-eq, is-ne, no-ne, yes-ne, yes-eq, not-eq, from-yes-eq, from-not-eq, from-yes-ne, from-not-ne}
-use Rattle.number.proofs.Scans.{below, clash, some-yes, some-no, some-found, none-found}
+use Rattle.number.proofs.Choice.{both, is-true, is-eq, no-eq, yes-ne, from-yes-eq, from-not-eq, from-yes-ne}
+use Rattle.number.proofs.Scans.{below, clash, some-yes, some-no, some-found}
 use Rattle.key.specs.Word.{sameWord}
 use Rattle.descriptor.specs.Rules.{isGetter, isSetter, strayPair, strayGetter, strayPairs}
 use Rattle.descriptor.specs.Tables.{oneMore, gettersOf, strayOf, straySetter}

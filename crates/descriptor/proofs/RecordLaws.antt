@@ -1,29 +1,28 @@
 -- Counted records, and a descriptor's rules from its tables.
 -- Assumes nothing.
 use mathlib.Core.Path.{_≡_, refl, sym, ap, _∙_}
-use mathlib.Core.Bool.{Bool, false}
+use mathlib.Core.Bool.{false}
 use mathlib.Core.List.{List}
 use mathlib.Core.Option.{Option}
 use Prim.Native.Nat.{ℕ, _+_, _≤_, _<_, _/_, _%_}
 use native.Mathlib.Omega.{arith}
-use lib.ListN.{length, getD}
+use lib.ListN.{length}
 use Rattle.number.specs.Choice.{if_then_else_, _<?_, _=?_, _≠?_}
 use Rattle.number.specs.Number.{be}
-use Rattle.number.specs.Scan.{some, tally}
 use Rattle.number.proofs.Choice.{from-not-lt}
 use Rattle.number.proofs.Scans.{some-ext, tally-ext}
-use Rattle.reading.specs.Got.{Got, got, bad, next, many, byte, field, stepOf}
+use Rattle.reading.specs.Got.{Got, got, bad, next, many, byte, stepOf}
 use Rattle.reading.specs.declared.Context.{Context}
 use Rattle.reading.specs.declared.Step.{Step}
 use Rattle.reading.specs.declared.Step.the-variants.{End}
 use Rattle.reading.proofs.Steps.{refused, told, no-lt, field-in}
-use Rattle.reading.proofs.Facts.{Facts, fact, f-got, f-unless, f-next, f-byte, f-field, f-read}
+use Rattle.reading.proofs.Facts.{Facts, fact, f-got, f-unless, f-next, f-field, f-read}
 use Rattle.reading.proofs.Rows.{many-length}
-use Rattle.key.specs.Word.{wordAt, sameWord}
+use Rattle.key.specs.Word.{sameWord}
 use Rattle.method.specs.Method.{Method, readMethod}
 use Rattle.method.specs.Tables.{Kept, Noted}
 use Rattle.method.proofs.MethodLaws.{methods-in}
-use Rattle.descriptor.specs.Constant.{Constant, readConstant}
+use Rattle.descriptor.specs.Constant.{readConstant}
 use Rattle.descriptor.specs.Rules.{isConstructor, isGetter, isSetter, manyConstructors, strayPair, strayGetter, strayPairs}
 use Rattle.descriptor.specs.Descriptor.{Descriptor, parentOf, indexed, readParent, readCounted, readFlags, reservedInterface, flagsIn, namesIn, readDescriptor}
 use Rattle.descriptor.specs.Tables.{Led, Tabled, cell, wordIn}

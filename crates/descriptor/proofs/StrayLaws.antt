@@ -3,14 +3,14 @@
 use mathlib.Core.Path.{_≡_, refl, sym, ap, _∙_}
 use mathlib.Core.Bool.{Bool, true, false}
 use mathlib.Core.List.{List, []}
-use Prim.Native.Nat.{ℕ, _+_, _-_, _≤_, _<_}
+use Prim.Native.Nat.{ℕ, _-_, _≤_, _<_}
 use native.Mathlib.Omega.{arith}
-use lib.ListN.{length, getD, replicate, length-replicate, getD-replicate}
-use Rattle.number.specs.Choice.{if_then_else_, _=?_}
+use lib.ListN.{length, getD, replicate, getD-replicate}
+use Rattle.number.specs.Choice.{if_then_else_}
 use Rattle.number.specs.Scan.{some}
 use Rattle.number.proofs.Choice.{is-eq}
 use Rattle.number.proofs.Scans.{some-ext}
-use Rattle.key.specs.Word.{Leads, wordAt, sameWord}
+use Rattle.key.specs.Word.{wordAt, sameWord}
 use Rattle.key.specs.Key.{Key, key, spaceAt, keyAt}
 use Rattle.key.specs.First.{firstSame, keyIn, Keyed, Filled}
 use Rattle.key.proofs.Orders.{same-word, same-word-equal}

@@ -7,7 +7,7 @@ use mathlib.Core.List.{List}
 use Prim.Native.Nat.{ℕ, _+_, _*_, _%_, _≤_, _<_}
 use native.Mathlib.Omega.{arith}
 use lib.ListN.{length, getD}
-use Rattle.number.specs.Choice.{if_then_else_, _<?_, _=?_, _≠?_}
+use Rattle.number.specs.Choice.{if_then_else_, _<?_, _=?_}
 use Rattle.number.specs.Number.{be}
 use Rattle.number.proofs.Choice.{both, not-ne, from-not-lt, from-yes-eq, from-not-eq, from-not-ne}
 use Rattle.number.proofs.Scans.{clash, scan-before, scan-is}

@@ -13,10 +13,10 @@ use Rattle.reading.specs.declared.Context.{Context}
 use Rattle.reading.specs.declared.Step.{Step}
 use Rattle.reading.specs.declared.Step.the-variants.{End}
 use Rattle.reading.proofs.Steps.{refused, at-end, at-bad, told, many-none, many-snoc, many-stop}
-use Rattle.reading.proofs.Facts.{Facts, fact, f-got, f-unless, f-next, f-byte}
+use Rattle.reading.proofs.Facts.{Facts, fact, f-got, f-unless, f-next, f-byte, f-read}
 use Rattle.reading.proofs.Rows.{many-ends}
 use Rattle.types.specs.Types.{prefix, readType}
-use Rattle.types.proofs.View.{itself, TypeAt, type-at}
+use Rattle.types.proofs.View.{TypeAt, type-at}
 use Rattle.method.specs.Parameter.{Param, paramFlags, paramType, reservedParam, wrongParam, readParam}
 use Rattle.method.specs.Numbers.{prefixes}
 use Rattle.method.specs.Tables.{Listed}
@@ -34,7 +34,7 @@ pub param-facts : (result : Bool) (c : Context) (s : List ℕ) (p : ℕ) → Fac
 unfolding readParam paramFlags paramType
 param-facts result c s p =
     f-byte _ _ _ _ _ (λ l. f-unless _ _ _ _ _ (λ a. f-unless _ _ _ _ _ (λ b.
-    f-next _ _ _ _ (itself (readType 8 c s (p + 1))) (λ t e h.
+    f-next (λ t e. readType 8 c s (p + 1) ≡ got t e) _ _ _ (f-read _ _ (λ t e h. h)) (λ t e h.
     f-got _ _ _ (record { flags = refl; allowed = a; fair = b; ty = type-at c s 8 (p + 1) h; read = h })))))
 
 pub param-at : (result : Bool) (c : Context) (s : List ℕ) (p : ℕ) {x : Param ℕ} {e : ℕ} → readParam result c s p ≡ got x e → ParamAt result c s p x e

@@ -17,12 +17,11 @@ use Rattle.reading.specs.declared.Context.{Context}
 use Rattle.reading.specs.declared.Step.{Step}
 use Rattle.reading.specs.declared.Step.the-variants.{End}
 use Rattle.reading.proofs.Steps.{refused, at-end, at-bad, told, many-none, many-snoc, many-stop}
-use Rattle.reading.proofs.Facts.{Facts, fact, f-got, f-unless, f-next, f-byte}
+use Rattle.reading.proofs.Facts.{Facts, fact, f-got, f-unless, f-next, f-byte, f-read}
 use Rattle.reading.proofs.Rows.{many-first, many-empty, many-ends, many-length}
 use Rattle.key.specs.Word.{wordAt, Leads}
 use Rattle.name.proofs.NameLaws.{name-facts}
 use Rattle.types.specs.Types.{prefix}
-use Rattle.types.proofs.View.{itself}
 use Rattle.method.specs.Parameter.{Param, paramFlags, paramType, readParam}
 use Rattle.method.specs.Numbers.{prefixes, wrongNumbers, wrongArguments, wrongResult}
 use Rattle.method.specs.Method.{Signature, signature, Method, methodFlags, methodName, methodSignature, ruleSignature, readSignature, readMethod, noMethod}
@@ -56,8 +55,8 @@ pub record SignatureAt (c : Context) (s : List ℕ) (f p : ℕ) (g : Signature �
 pub signature-facts : (c : Context) (s : List ℕ) (first f p : ℕ) → Facts (SignatureAt c s f p) (readSignature c s first f p)
 unfolding readSignature ruleSignature
 signature-facts c s first f p =
-    f-byte _ _ _ _ _ (λ l. f-next _ _ _ _ (itself (many (readParam false c s) (getD s p 0) (p + 1))) (λ ps m h.
-    f-next _ _ _ _ (itself (readParam true c s m)) (λ r d k.
+    f-byte _ _ _ _ _ (λ l. f-next (λ ps m. many (readParam false c s) (getD s p 0) (p + 1) ≡ got ps m) _ _ _ (f-read _ _ (λ ps m h. h)) (λ ps m h.
+    f-next (λ r d. readParam true c s m ≡ got r d) _ _ _ (f-read _ _ (λ r d k. k)) (λ r d k.
     f-unless _ _ _ _ _ (λ x. f-unless _ _ _ _ _ (λ y. f-unless _ _ _ _ _ (λ z.
     f-got _ _ _ (record { room = l; args = ps; result = r; mid = m; is = refl; first = h; second = k; numbers = x; number = y; rule = z })))))))
 

@@ -7,7 +7,6 @@ use mathlib.Core.Logic.{inl, inr}
 use Prim.Native.Nat.{ℕ, _+_, _-_, _≤_, _<_}
 use native.Mathlib.Omega.{arith}
 use lib.ListN.{length, getD}
-use lib.Seq.{getD-drop, getD-take}
 use Rattle.number.specs.Choice.{if_then_else_}
 use Rattle.number.specs.Number.{be}
 use Rattle.number.specs.Scan.{scan}
@@ -24,8 +23,9 @@ use Rattle.reading.proofs.Steps.{refused, at-end-as, at-bad, is-true, is-false,
 use Rattle.reading.proofs.Facts.{Facts, fact, f-bad, f-got, f-if, f-unless, f-next, f-field, f-self}
 use Rattle.key.specs.Word.{zeroByte, wordEnd, wordAt, Leads}
 use Rattle.key.specs.Key.{spaceAt}
+use Rattle.key.proofs.Ends.{word-to, word-is}
 use Rattle.name.specs.Name.{isIdentifier, searchEnd, readIdentifier, follow, followSpace, readName}
-use Rattle.name.proofs.Words.{identifier-long, identifier-nonzero, word-ends, word-range, word-found, word-beyond, search-range, search-full}
+use Rattle.name.proofs.Words.{identifier-long, identifier-nonzero, word-found, word-beyond, search-range, search-full}
 
 -- ---- the three ways out of the search, as steps
 
@@ -60,7 +60,7 @@ module _ (s : List ℕ) (place p stop end : ℕ) (l : p ≤ length s) (a : stop 
   step-unfinished h =
       let r = search-range s p l in
       let y = word-beyond s p stop (omega arith) (omega arith) (omega arith) in
-      elim (below (wordEnd s p) (length s) (word-range s p l .1)) [
+      elim (below (wordEnd s p) (length s) (word-to s p l)) [
         | inl q ↦ is-le _ _ _ _ (omega arith) (at-bad _ _ _)
         | inr q ↦ (
             let f = search-full s p (omega arith) in
@@ -145,35 +145,24 @@ pub space-none : (s : List ℕ) (place : ℕ) → followSpace s place 0 ≡ got 
 unfolding followSpace
 space-none s place = sym (choice.is-eq 0 0 (got [] 0) (follow s place 0) refl refl)
 
-getD-part : (s : List ℕ) (i j k : ℕ) → i + k < j → getD (part s i j) k 0 ≡ getD s (i + k) 0
-unfolding part
-getD-part s i j k h = rw (getD-drop, getD-take)
-
 -- the bytes of s from p on are w and then a zero byte
-module _ (s : List ℕ) (p : ℕ) (w : List ℕ) (h : isIdentifier w ≡ true) (l : p + length w < length s) (b : part s p (p + length w) ≡ w) (z : getD s (p + length w) 0 ≡ 0) where
-  word-back : wordEnd s p ≡ p + length w
-  word-back =
-      word-ends s p (p + length w) (omega arith) l z (λ j a d e.
-      identifier-nonzero w h (j - p) (omega arith)
-      (let q : p + (j - p) ≡ j = omega arith in
-      ap (λ (v : List ℕ). getD v (j - p) 0) (sym b) ∙ (getD-part s p (p + length w) (j - p) (omega arith) ∙ (ap (λ (i : ℕ). getD s i 0) q ∙ e))))
+pub identifier-back : (s : List ℕ) (p : ℕ) (w : List ℕ) → isIdentifier w ≡ true → p + length w < length s → part s p (p + length w) ≡ w → getD s (p + length w) 0 ≡ 0 → (place : ℕ) → readIdentifier s place p ≡ got w (p + length w + 1)
+unfolding readIdentifier
+identifier-back s p w h l b z place =
+    let v = word-is s p w l b (identifier-nonzero w h) z in
+    sym (choice.no-le _ _ _ _ (omega (arith, v .0)) (choice.is-true _ _ _ (ap isIdentifier (v .1) ∙ h) (λ i. got (sym (v .1) i) (sym (v .0) i + 1))))
 
-  pub identifier-back : (place : ℕ) → readIdentifier s place p ≡ got w (p + length w + 1)
-  unfolding readIdentifier wordAt
-  identifier-back place =
-      let v : part s p (wordEnd s p) ≡ w = ap (part s p) word-back ∙ b in
-      sym (choice.no-le _ _ _ _ (omega (arith, word-back)) (choice.is-true _ _ _ (ap isIdentifier v ∙ h) (λ i. got (sym v i) (sym word-back i + 1))))
-
-  pub follow-back : (place : ℕ) → follow s place (p + 1) ≡ got w (p + length w + 1)
+-- those that the pool pointer q leads to
+module _ (s : List ℕ) (q : ℕ) (w : List ℕ) (h : isIdentifier w ≡ true) (f : 1 ≤ q) (l : q - 1 + length w < length s) (b : part s (q - 1) (q - 1 + length w) ≡ w) (z : getD s (q - 1 + length w) 0 ≡ 0) where
+  pub follow-back : (place : ℕ) → follow s place q ≡ got w (q - 1 + length w + 1)
   unfolding follow
   follow-back place =
-      let q : p + 1 - 1 ≡ p = omega arith in
-      sym (choice.no-eq _ _ _ _ (λ e. omega arith) (choice.no-lt _ _ _ _ (omega arith) (sym (ap (readIdentifier s place) q ∙ identifier-back place))))
+      sym (choice.no-eq _ _ _ _ (λ e. omega arith) (choice.no-lt _ _ _ _ (omega arith) (sym (identifier-back s (q - 1) w h l b z place))))
 
-  pub space-back : (place : ℕ) → followSpace s place (p + 1) ≡ got w (p + length w + 1)
+  pub space-back : (place : ℕ) → followSpace s place q ≡ got w (q - 1 + length w + 1)
   unfolding followSpace
   space-back place = sym (choice.no-eq _ _ _ _ (λ e. omega arith) (sym (follow-back place)))
 
-  pub name-back : (c : Context) (at : ℕ) → at + 4 ≤ length s → be 4 s at ≡ p + 1 → readName c s at ≡ got w (at + 4)
+  pub name-back : (c : Context) (at : ℕ) → at + 4 ≤ length s → be 4 s at ≡ q → readName c s at ≡ got w (at + 4)
   unfolding readName next field if_then_else_
-  name-back c at f q = rw (not-lt (length s) (at + 4) f, q, follow-back (c .base + at))
+  name-back c at f e = rw (not-lt (length s) (at + 4) f, e, follow-back (c .base + at))

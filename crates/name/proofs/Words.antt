@@ -4,16 +4,17 @@ use mathlib.Core.Path.{_≡_, refl, sym, ap, _∙_}
 use mathlib.Core.Bool.{Bool, true, false}
 use mathlib.Core.List.{List, [], _∷_}
 use Prim.Native.Nat.{ℕ, zero, suc, _+_, _-_, _≤_, _<_}
+use native.Mathlib.Decide.{decLe}
 use native.Mathlib.Omega.{arith}
 use lib.ListN.{length, getD}
-use lib.Seq.{take-length}
-use Rattle.number.specs.Choice.{if_then_else_, _<?_}
+use Rattle.number.specs.Choice.{if_then_else_}
 use Rattle.number.specs.Scan.{scan}
 use Rattle.number.specs.Part.{part}
 use Rattle.number.proofs.Choice.{both, is-true, is-false, from-yes-lt, from-not-lt, from-not-eq, yes-lt, not-lt, yes-eq, not-eq}
 use Rattle.number.proofs.Scans.{clash, scan-range, scan-found, scan-before, scan-is}
 use Rattle.number.proofs.Parts.{part-none, part-cons, length-part}
 use Rattle.key.specs.Word.{zeroByte, wordEnd}
+use Rattle.key.proofs.Ends.{word-from, word-zero}
 use Rattle.name.specs.Name.{letter, letters, isIdentifier, searchEnd}
 
 -- ---- the rule
@@ -39,7 +40,7 @@ module _ (w : List ℕ) (h : isIdentifier w ≡ true) where
   unfolding isIdentifier
   identifier-short = from-not-lt _ _ (kept _ _ (kept _ _ h .1) .0)
 
-  identifier-letters : letters w ≡ true
+  pub identifier-letters : letters w ≡ true
   unfolding isIdentifier
   identifier-letters = kept _ _ (kept _ _ h .1) .1
 
@@ -63,11 +64,6 @@ identifier-long w l = go (isIdentifier w) refl
     go : (b : Bool) → isIdentifier w ≡ b → isIdentifier w ≡ false
     go true e = absurd (let k = identifier-short w e in omega arith)
     go false e = e
-
--- all the bytes of a list, where they stand alone
-pub part-whole : (s : List ℕ) → part s 0 (length s) ≡ s
-unfolding part
-part-whole s = take-length s
 
 -- ---- the rule, byte by byte
 
@@ -111,17 +107,6 @@ unfolding searchEnd
 search-full s p = both (λ (n : ℕ). n < length s → n ≡ p + 256) _ _ _ (λ _ _. refl) (λ _ l. absurd (omega arith))
 
 module _ (s : List ℕ) (p : ℕ) where
-  -- the word ends at e: a zero byte stands there, and none before it
-  pub word-ends : (e : ℕ) → p ≤ e → e < length s → getD s e 0 ≡ 0 → ((j : ℕ) → p ≤ j → j < e → getD s j 0 ≡ 0 → ⊥) → wordEnd s p ≡ e
-  unfolding wordEnd zeroByte
-  word-ends e a b z f =
-      scan-is (zeroByte s) (length s - p) p e a (omega arith)
-      (λ _. yes-eq _ _ z) (λ j c d. not-eq _ _ (f j c d))
-
-  pub word-range : p ≤ length s → (p ≤ wordEnd s p) × (wordEnd s p ≤ length s)
-  unfolding wordEnd
-  word-range h = omega (arith, scan-range (zeroByte s) (length s - p) p)
-
   -- found before `stop`
   pub word-found : (stop : ℕ) → stop ≤ length s → scan (zeroByte s) (stop - p) p < stop → p ≤ stop → wordEnd s p ≡ scan (zeroByte s) (stop - p) p
   unfolding wordEnd
@@ -132,14 +117,10 @@ module _ (s : List ℕ) (p : ℕ) where
 
   -- not found before `stop`
   pub word-beyond : (stop : ℕ) → p ≤ stop → stop ≤ length s → stop ≤ scan (zeroByte s) (stop - p) p → stop ≤ wordEnd s p
-  unfolding wordEnd
-  word-beyond stop k l h = go (scan (zeroByte s) (length s - p) p <? stop) refl
-    where
-      go : (b : Bool) → (scan (zeroByte s) (length s - p) p <? stop) ≡ b → stop ≤ scan (zeroByte s) (length s - p) p
-      go true t =
-          let a = from-yes-lt _ _ t in
-          let r = scan-range (zeroByte s) (length s - p) p in
-          clash (zeroByte s (scan (zeroByte s) (length s - p) p))
-          (scan-found (zeroByte s) (length s - p) p (omega arith))
-          (scan-before (zeroByte s) (stop - p) p (scan (zeroByte s) (length s - p) p) (r .0) (omega arith))
-      go false t = from-not-lt _ _ t
+  unfolding zeroByte
+  word-beyond stop k l h = elim (decLe stop (wordEnd s p)) [
+    | yes a ↦ a
+    | no a ↦
+        clash (zeroByte s (wordEnd s p)) (yes-eq _ 0 (word-zero s p (omega arith)))
+        (scan-before (zeroByte s) (stop - p) p (wordEnd s p) (word-from s p) (omega arith))
+  ]

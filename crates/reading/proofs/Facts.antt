@@ -1,12 +1,11 @@
 -- What holds of every value that is read, and of its end.
 -- Assumes nothing.
-use mathlib.Core.Path.{_≡_, refl, sym, subst}
+use mathlib.Core.Path.{_≡_, refl, subst}
 use mathlib.Core.Bool.{Bool, true, false}
 use mathlib.Core.List.{List}
 use Prim.Native.Nat.{ℕ, _+_, _≤_, _<_}
-use native.Mathlib.Omega.{arith}
 use lib.ListN.{length, getD}
-use Rattle.number.specs.Choice.{if_then_else_, _<?_, _≤?_}
+use Rattle.number.specs.Choice.{if_then_else_}
 use Rattle.number.specs.Number.{be}
 use Rattle.number.proofs.Choice.{from-not-le, from-not-lt}
 use Rattle.reading.specs.declared.Context.{Context}

@@ -1,6 +1,6 @@
 -- The way to a value: one law for each line of a definition that is passed.
 -- Assumes nothing.
-use mathlib.Core.Path.{_≡_, refl, sym, ap, _∙_}
+use mathlib.Core.Path.{_≡_}
 use mathlib.Core.Bool.{Bool, true, false}
 use mathlib.Core.List.{List}
 use Prim.Native.Nat.{ℕ, _+_, _≤_, _<_}
@@ -9,7 +9,7 @@ use Rattle.number.specs.Choice.{if_then_else_}
 use Rattle.number.specs.Number.{be}
 use Rattle.number.proofs.Choice.{not-le, not-lt}
 use Rattle.reading.specs.declared.Context.{Context}
-use Rattle.reading.specs.Got.{Got, got, bad, next, byte, field}
+use Rattle.reading.specs.Got.{Got, got, next, byte, field}
 
 pub pass-next : {X Y : Type 0} (g : Got X) (k : X → ℕ → Got Y) {r : Got Y} {x : X} {e : ℕ} → g ≡ got x e → k x e ≡ r → next g k ≡ r
 unfolding next

@@ -1,12 +1,12 @@
 -- A run of records: how many there are, where the k-th stands when all are of one size, and that each was read.
 -- Assumes nothing.
-use mathlib.Core.Path.{_≡_, refl, sym, ap, _∙_}
-use mathlib.Core.List.{List, [], _∷_}
+use mathlib.Core.Path.{_≡_, sym, ap, _∙_}
+use mathlib.Core.List.{List, []}
 use Prim.Native.Nat.{ℕ, zero, suc, _+_, _-_, _*_, _≤_, _<_}
 use native.Mathlib.Omega.{arith}
 use native.Mathlib.Nat.{sub-zero}
 use lib.ListN.{length, getD}
-use Rattle.reading.specs.Got.{Got, got, bad, next, many, stepOf, Accepted}
+use Rattle.reading.specs.Got.{Got, got, many, stepOf, Accepted}
 use Rattle.reading.specs.declared.Step.{Step}
 use Rattle.reading.specs.declared.Step.the-variants.{End}
 use Rattle.reading.proofs.Steps.{told, many-none, Opened, many-open}

@@ -1,6 +1,6 @@
 -- A step is what a definition gives: one law for each kind of test, for `next`, a byte, a field, and `many`.
 -- Assumes nothing.
-use mathlib.Core.Path.{_≡_, refl, sym, ap, _∙_, subst}
+use mathlib.Core.Path.{_≡_, refl, sym, ap, _∙_}
 use mathlib.Core.Bool.{Bool, true, false}
 use mathlib.Core.List.{List, [], _∷_, _++_}
 use Prim.Native.Nat.{ℕ, zero, suc, _+_, _-_, _≤_, _<_}
@@ -8,7 +8,7 @@ use native.Mathlib.Omega.{arith}
 use lib.ListN.{length, getD}
 use Rattle.number.specs.Choice.{if_then_else_, _<?_, _≤?_, _=?_, _≠?_}
 use Rattle.number.specs.Number.{be}
-use Rattle.number.proofs.Choice.{yes-lt, not-lt, yes-le, not-le, yes-eq, not-eq, yes-ne, not-ne, from-not-le, from-not-lt}
+use Rattle.number.proofs.Choice.{yes-lt, not-lt, yes-le, not-le, yes-eq, not-eq, yes-ne, not-ne, from-not-le}
 use Rattle.reading.specs.declared.Step.{Step}
 use Rattle.reading.specs.declared.Step.the-variants.{End, Refused}
 use Rattle.reading.specs.declared.Context.{Context}

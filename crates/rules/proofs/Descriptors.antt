@@ -1,17 +1,14 @@
 -- Interface descriptors: what is read is shown and obeys the rules, and what is shown and obeys them is read.
 -- Assumes nothing.
 use mathlib.Core.Path.{_≡_, refl, sym, ap}
-use mathlib.Core.Bool.{Bool, true, false}
 use mathlib.Core.List.{List}
 use mathlib.Core.Option.{Option, none, some}
 use Prim.Native.Nat.{ℕ, _+_, _/_, _%_, _≤_}
 use native.Mathlib.Omega.{arith}
-use native.Mathlib.Decide.{ℕ-discrete}
 use lib.ListN.{length, getD}
-use Rattle.number.specs.Choice.{_=?_, _≠?_}
+use Rattle.number.specs.Choice.{_=?_}
 use Rattle.number.specs.Number.{be}
-use Rattle.number.proofs.Choice.{both, yes-eq, not-lt, not-eq, not-ne, from-yes-eq, from-not-lt, from-not-eq, from-not-ne}
-use Rattle.number.proofs.Scans.{clash}
+use Rattle.number.proofs.Choice.{both, yes-eq, not-lt, not-eq, from-not-lt, from-not-eq}
 use Rattle.reading.specs.Got.{Got, got}
 use Rattle.reading.specs.declared.Context.{Context}
 use Rattle.reading.proofs.Facts.{Facts, fact, f-got, f-unless, f-next, f-byte, f-field, f-self}
@@ -20,19 +17,16 @@ use Rattle.method.specs.Method.{Method, readMethod}
 use Rattle.descriptor.specs.Constant.{readConstant}
 use Rattle.descriptor.specs.Descriptor.{Descriptor, descriptor, indexed, readParent, readCounted, reservedInterface, readFlags, flagsIn, namesIn, readDescriptor}
 use Rattle.typelib.specs.Across.{parentIndex}
+use Rattle.typelib.proofs.WholeLaws.{parent-index}
 use Rattle.rules.specs.Shows.{Bytes, ShowsByte, ShowsField, Run, ShowsMethod, ShowsConstant, ShowsDescriptor}
 use Rattle.rules.specs.Rules.{All, MethodRule, ConstantRule, ParentRule, OneConstructor, GetterPairs, DescriptorRule}
 use Rattle.rules.proofs.Runs.{runs-facts, runs-back}
 use Rattle.rules.proofs.Pairs.{one-constructor, constructor-one, getter-pairs, pairs-getter}
 use Rattle.rules.proofs.Types.{byte-shows, field-shows, shows-byte, shows-field}
-use Rattle.rules.proofs.Methods.{method-shows, shows-method}
+use Rattle.rules.proofs.Methods.{none-reserved, reserved-none, method-shows, shows-method}
 use Rattle.rules.proofs.Constants.{constant-shows, shows-constant}
 
 -- ---- parents
-
-indexed-index : (i : ℕ) → parentIndex (indexed i) ≡ i
-unfolding indexed parentIndex
-indexed-index i = both (λ (u : Option ℕ). parentIndex u ≡ i) (i =? 0) none (some i) (λ e. sym (from-yes-eq i 0 e)) (λ _. refl)
 
 indexed-rule : (n i : ℕ) → i ≤ n → ParentRule n (indexed i)
 unfolding indexed
@@ -54,7 +48,7 @@ module _ (c : Context) (s : List ℕ) (p : ℕ) where
   unfolding readParent
   parent-facts =
       f-field _ _ _ _ _ 2 (λ l. f-unless _ _ _ _ _ (λ a.
-      f-got _ _ _ (rw (indexed-index (be 2 s p)) (field-shows s 2 p refl l), indexed-rule _ _ (from-not-lt _ _ a), refl)))
+      f-got _ _ _ (rw (parent-index (be 2 s p)) (field-shows s 2 p refl l), indexed-rule _ _ (from-not-lt _ _ a), refl)))
 
   shows-parent : (up : Option ℕ) → ShowsField 2 s p (parentIndex up) → ParentRule (c .count) up → readParent c s p ≡ got up (p + 2)
   unfolding readParent
@@ -81,24 +75,6 @@ module _ {X : Type 0} (rd : ℕ → Got X) (P : ℕ → X → ℕ → Type 0) (R
 
 -- ---- flags
 
-none-reserved : (minor f : ℕ) → reservedInterface minor f ≡ false → (f % 64 ≡ 0) × (minor ≡ 0 → f / 64 % 2 ≡ 0)
-unfolding reservedInterface
-none-reserved minor f =
-    both Q (f % 64 ≠? 0) _ _ (λ _ e. clash true refl e) (λ a.
-    both Q (minor =? 0) _ _
-    (λ _ e. let n = from-not-eq (f / 64 % 2) 1 e in (from-not-ne _ _ a, λ _. omega arith))
-    (λ z _. (from-not-ne _ _ a, λ m. absurd (from-not-eq minor 0 z m))))
-  where
-    Q : Bool → Type 0
-    Q t = t ≡ false → (f % 64 ≡ 0) × (minor ≡ 0 → f / 64 % 2 ≡ 0)
-
-reserved-none : (minor f : ℕ) → f % 64 ≡ 0 → (minor ≡ 0 → f / 64 % 2 ≡ 0) → reservedInterface minor f ≡ false
-unfolding reservedInterface
-reserved-none minor f a b = pass-false _ _ _ (not-ne _ _ a) (elim (ℕ-discrete minor 0) [
-  | yes z ↦ pass-true _ _ _ (yes-eq minor 0 z) (not-eq _ 1 (omega (arith, b z)))
-  | no n ↦ pass-false _ _ _ (not-eq minor 0 n) refl
-])
-
 -- the flags of a descriptor with these methods, and what its rules say of them
 record FlagsRule (minor : ℕ) (ms : List (Method ℕ)) (f : ℕ) : Type 0 where
   pub reserved : f % 64 ≡ 0
@@ -108,10 +84,10 @@ record FlagsRule (minor : ℕ) (ms : List (Method ℕ)) (f : ℕ) : Type 0 where
 
 module _ (c : Context) (s : List ℕ) (first : ℕ) (ms : List (Method ℕ)) (p : ℕ) where
   flags-facts : Facts (λ f e. ShowsByte s p f × (e ≡ p + 1) × FlagsRule (c .minor) ms f) (readFlags c s first (flagsIn ms) (namesIn ms) (length ms) p)
-  unfolding readFlags
+  unfolding readFlags reservedInterface
   flags-facts =
       f-byte _ _ _ _ _ (λ l. f-unless _ _ _ _ _ (λ a. f-unless _ _ _ _ _ (λ b. f-unless _ _ _ _ _ (λ d.
-      let r = none-reserved (c .minor) (getD s p 0) a in
+      let r = none-reserved (c .minor) (getD s p 0 % 64) (getD s p 0 / 64) a in
       f-got _ _ _ (
         byte-shows s p refl l,
         refl,
@@ -119,10 +95,10 @@ module _ (c : Context) (s : List ℕ) (first : ℕ) (ms : List (Method ℕ)) (p 
       )))))
 
   shows-flags : (f : ℕ) → ShowsByte s p f → FlagsRule (c .minor) ms f → readFlags c s first (flagsIn ms) (namesIn ms) (length ms) p ≡ got f (p + 1)
-  unfolding readFlags
+  unfolding readFlags reservedInterface
   shows-flags f h r =
       shows-byte _ _ _ _ refl h (
-      pass-false _ _ _ (reserved-none (c .minor) f (r .reserved) (r .function)) (
+      pass-false _ _ _ (reserved-none (c .minor) (f % 64) (f / 64) (r .reserved) (r .function)) (
       pass-false _ _ _ (constructor-one ms (r .constructors)) (
       pass-false _ _ _ (pairs-getter ms (r .pairs)) refl)))
 

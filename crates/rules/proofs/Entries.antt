@@ -14,9 +14,10 @@ use Rattle.reading.specs.Got.{Got, got, many}
 use Rattle.reading.specs.declared.Context.{Context}
 use Rattle.reading.proofs.Facts.{Facts, fact, f-got, f-if, f-unless, f-next}
 use Rattle.reading.proofs.Passes.{pass-next, pass-true, pass-false}
-use Rattle.reading.proofs.Rows.{many-at, many-length}
+use Rattle.reading.proofs.Rows.{many-at}
 use Rattle.key.specs.Key.{key}
 use Rattle.directory.specs.Directory.{Row, row, noRow, falls, outOfOrder, lacksIid, readRow, readDirectory}
+use Rattle.directory.proofs.DirectoryLaws.{rows-length, row-at}
 use Rattle.descriptor.specs.Descriptor.{Descriptor, descriptor}
 use Rattle.typelib.specs.Entry.{Entry, entry, entryKey, entryIid, entryDescriptor, readOwn, entriesOf, noEntry}
 use Rattle.typelib.proofs.EntryLaws.{entryWith, entries-length, entries-at}
@@ -179,21 +180,15 @@ module _ (s : List ℕ) (d : ℕ) where
 
 module _ (c : Context) (s pool : List ℕ) (n d : ℕ) where
   module _ {rows : List Row} {ds : List (Option (Descriptor ℕ))} {e e′ : ℕ} (front : readDirectory s pool n d ≡ got rows e) (owns : many (readOwn c s pool) n d ≡ got ds e′) where
-    rows-length : length rows ≡ n
-    unfolding readDirectory
-    rows-length = many-length (readRow s pool d) n d front
-
     -- what the two readings say of the entry at k
     entry-at : (k : ℕ) → k < n
         → ShowsEntry s pool (d + 28 * k) (getD (entriesOf rows ds) k noEntry) × EntryRule (c .minor) (c .count) (getD (entriesOf rows ds) k noEntry)
         × (iidOf (entriesOf rows ds) k ≡ be 16 s (d + 28 * k)) × (outOfOrder s d (d + 28 * k) ≡ false)
-    unfolding readDirectory
     entry-at k l =
-        let a = many-at (readRow s pool d) 28 (λ p x e h. fact _ _ (row-facts s pool d p) h .1) noRow n k d l front in
         let b = many-at (readOwn c s pool) 28 (λ p x e h. fact _ _ (own-facts c s pool p) h .2) none n k d l owns in
-        let r = fact _ _ (row-facts s pool d (d + 28 * k)) a in
+        let r = fact _ _ (row-facts s pool d (d + 28 * k)) (row-at s pool n d front k l) in
         let o = fact _ _ (own-facts c s pool (d + 28 * k)) b in
-        rw (entries-at rows ds k (omega (arith, rows-length))) (entry-of c s pool d (d + 28 * k) (getD rows k noRow) (getD ds k none) (r .0) (o .0) (o .1))
+        rw (entries-at rows ds k (omega (arith, rows-length s pool n d front))) (entry-of c s pool d (d + 28 * k) (getD rows k noRow) (getD ds k none) (r .0) (o .0) (o .1))
 
     pub directory-shows : ShowsEntries s pool d n (entriesOf rows ds) × All (EntryRule (c .minor) (c .count)) (entriesOf rows ds) × InOrder (entriesOf rows ds)
     directory-shows = (
@@ -207,7 +202,7 @@ module _ (c : Context) (s pool : List ℕ) (n d : ℕ) where
     )
       where
         count : length (entriesOf rows ds) ≡ n
-        count = entries-length rows ds ∙ rows-length
+        count = entries-length rows ds ∙ rows-length s pool n d front
 
   pub shows-directory : Bytes pool → (es : List (Entry ℕ)) → ShowsEntries s pool d n es → All (EntryRule (c .minor) (c .count)) es → InOrder es
       → (rows : List Row) × (ds : List (Option (Descriptor ℕ))) × (e : ℕ) × (e′ : ℕ)

@@ -1,14 +1,13 @@
 -- Keys none of which stood earlier are unique.
 -- Assumes nothing.
-use mathlib.Core.Path.{_≡_, refl, sym}
+use mathlib.Core.Path.{_≡_, refl}
 use mathlib.Core.Bool.{Bool, true, false}
-use mathlib.Core.List.{List, [], _∷_}
+use mathlib.Core.List.{List}
 use Prim.Native.Nat.{ℕ, _<_}
 use native.Mathlib.Omega.{arith}
 use lib.ListN.{length}
-use Rattle.number.specs.Choice.{if_then_else_, _<?_}
+use Rattle.number.specs.Choice.{_<?_}
 use Rattle.number.specs.Scan.{some}
-use Rattle.number.proofs.Choice.{both, no-lt, from-not-lt}
 use Rattle.number.proofs.Scans.{clash, some-yes, some-no, none-found}
 use Rattle.key.specs.Key.{Key, sameKey}
 use Rattle.key.proofs.Orders.{same-key, same-key-equal}

@@ -20,30 +20,33 @@ use Rattle.method.specs.Parameter.{Param, param, paramFlags, paramType, reserve
 use Rattle.method.specs.Numbers.{prefixes, wrongIid, wrongSize, wrongSizes, wrongNumbers, wrongArguments, wrongResult}
 use Rattle.method.specs.Method.{Signature, signature, Method, method, ruleSignature, readSignature, readMethod}
 use Rattle.rules.specs.Shows.{Bytes, ShowsByte, Run, ShowsName, ShowsParam, ShowsMethod}
-use Rattle.rules.specs.Rules.{All, Identifier, FlagRule, ParamRule, ArgumentRule, ResultRule, prefixAt, NamesIid, NamesSize, NumbersRule, SignatureRule, MethodRule}
+use Rattle.rules.specs.Rules.{All, Identifier, ParamRule, ArgumentRule, ResultRule, prefixAt, NamesIid, NamesSize, NumbersRule, SignatureRule, MethodRule}
 use Rattle.rules.proofs.Runs.{runs-facts, runs-back}
 use Rattle.rules.proofs.Names.{name-facts, shows-name}
 use Rattle.rules.proofs.Types.{byte-shows, shows-byte, type-facts, shows-type}
 
 -- ---- flags
 
-none-reserved : (minor f : ℕ) → reservedParam minor f ≡ false → FlagRule minor f
-unfolding reservedParam
-none-reserved minor f =
-    both Q (f % 8 ≠? 0) _ _ (λ _ e. clash true refl e) (λ a.
-    both Q (minor =? 0) _ _
-    (λ _ e. let n = from-not-eq (f / 8 % 2) 1 e in record { reserved = from-not-ne _ _ a; dipper = λ _. omega arith })
-    (λ z _. record { reserved = from-not-ne _ _ a; dipper = λ m. absurd (from-not-eq minor 0 z m) }))
-  where
-    Q : Bool → Type 0
-    Q t = t ≡ false → FlagRule minor f
+-- reserved are the bits a, and with minor version 0 the lowest bit of b
+abbrev pub reserved : ℕ → ℕ → ℕ → Bool
+reserved minor a b = if a ≠? 0 then true else if minor =? 0 then b % 2 =? 1 else false
 
-reserved-none : (minor f : ℕ) → FlagRule minor f → reservedParam minor f ≡ false
-unfolding reservedParam
-reserved-none minor f r = pass-false _ _ _ (not-ne _ _ (r .reserved)) (elim (ℕ-discrete minor 0) [
-  | yes z ↦ pass-true _ _ _ (yes-eq minor 0 z) (not-eq _ 1 (omega (arith, r .dipper z)))
-  | no n ↦ pass-false _ _ _ (not-eq minor 0 n) refl
-])
+module _ (minor a b : ℕ) where
+  pub none-reserved : reserved minor a b ≡ false → (a ≡ 0) × (minor ≡ 0 → b % 2 ≡ 0)
+  none-reserved =
+      both Q (a ≠? 0) _ _ (λ _ e. clash true refl e) (λ h.
+      both Q (minor =? 0) _ _
+      (λ _ e. let n = from-not-eq (b % 2) 1 e in (from-not-ne _ _ h, λ _. omega arith))
+      (λ z _. (from-not-ne _ _ h, λ m. absurd (from-not-eq minor 0 z m))))
+    where
+      Q : Bool → Type 0
+      Q t = t ≡ false → (a ≡ 0) × (minor ≡ 0 → b % 2 ≡ 0)
+
+  pub reserved-none : a ≡ 0 → (minor ≡ 0 → b % 2 ≡ 0) → reserved minor a b ≡ false
+  reserved-none h k = pass-false _ _ _ (not-ne _ _ h) (elim (ℕ-discrete minor 0) [
+    | yes z ↦ pass-true _ _ _ (yes-eq minor 0 z) (not-eq _ 1 (omega (arith, k z)))
+    | no n ↦ pass-false _ _ _ (not-eq minor 0 n) refl
+  ])
 
 -- the two uses of `wrongParam`
 of-result : (f : ℕ) → wrongParam true f ≡ (64 ≤? f)
@@ -103,23 +106,24 @@ not-wrong false minor n x l r = of-argument _ ∙ out-retval (paramFlags x) (r .
 
 module _ (c : Context) (s : List ℕ) (result : Bool) (p : ℕ) where
   pub param-facts : Facts (λ x e. ShowsParam s p x e × ParamRuleOf result (c .minor) (c .count) x) (readParam result c s p)
-  unfolding readParam paramFlags paramType
+  unfolding readParam reservedParam paramFlags paramType
   param-facts =
       f-byte _ _ _ _ _ (λ l. f-unless _ _ _ _ _ (λ a. f-unless _ _ _ _ _ (λ b.
+      let f = none-reserved (c .minor) (getD s p 0 % 8) (getD s p 0 / 8) a in
       f-next _ _ _ _ (type-facts c s 8 (p + 1)) (λ t e h. f-got _ _ _ (
         (byte-shows s p refl l, h .0),
-        rule-of result (c .minor) (c .count) (param (getD s p 0) t) (record { flags = none-reserved _ _ a; type = h .1; nested = h .2 }) b,
+        rule-of result (c .minor) (c .count) (param (getD s p 0) t) (record { flags = record { reserved = f .0; dipper = f .1 }; type = h .1; nested = h .2 }) b,
       )))))
 
   pub param-shows : {x : Param ℕ} {e : ℕ} → readParam result c s p ≡ got x e → ShowsParam s p x e × ParamRuleOf result (c .minor) (c .count) x
   param-shows h = fact _ _ param-facts h
 
   pub shows-param : Bytes s → (x : Param ℕ) (e : ℕ) → ShowsParam s p x e → ParamRuleOf result (c .minor) (c .count) x → readParam result c s p ≡ got x e
-  unfolding readParam paramFlags paramType
+  unfolding readParam reservedParam paramFlags paramType
   shows-param small (param f t) e h r =
       let q = of-rule result (c .minor) (c .count) (param f t) r in
       let l : f < 256 = rw (← h .0 .value) (small .small p) in
-      shows-byte _ _ _ _ refl (h .0) (pass-false _ _ _ (reserved-none _ f (q .flags)) (
+      shows-byte _ _ _ _ refl (h .0) (pass-false _ _ _ (reserved-none (c .minor) (f % 8) (f / 8) (q .flags .reserved) (q .flags .dipper)) (
       pass-false _ _ _ (not-wrong result (c .minor) (c .count) (param f t) l r) (
       pass-next _ _ (shows-type c s 8 (p + 1) (h .1) (q .type) (q .nested)) refl)))
 

@@ -1,6 +1,6 @@
 -- Neighbours in order are all in order.
 -- Assumes nothing.
-use mathlib.Core.Path.{_≡_, refl, sym, _∙_}
+use mathlib.Core.Path.{_≡_, refl, sym}
 use mathlib.Core.Bool.{false}
 use mathlib.Core.List.{List}
 use mathlib.Core.Logic.{_⊎_, inl, inr}
@@ -9,19 +9,19 @@ use native.Mathlib.Omega.{arith}
 use native.Mathlib.Decide.{ℕ-discrete}
 use lib.ListN.{length}
 use Rattle.number.specs.Choice.{_≤?_}
-use Rattle.number.proofs.Choice.{is-eq, no-eq, not-le, from-not-le}
+use Rattle.number.proofs.Choice.{is-eq, no-eq, not-le}
 use Rattle.number.proofs.Scans.{below}
 use Rattle.directory.specs.Directory.{falls}
+use Rattle.directory.proofs.DirectoryLaws.{falls-below}
 use Rattle.typelib.specs.Entry.{Entry}
 use Rattle.rules.specs.Rules.{iidOf, InOrder}
 
 -- ---- one IID after another
 
 pub follows : (i j : ℕ) → falls i j ≡ false → (i ≡ 0) ⊎ (i < j)
-unfolding falls
 follows i j e = elim (ℕ-discrete i 0) [
   | yes q ↦ inl q
-  | no q ↦ inr (from-not-le j i (no-eq i 0 false (j ≤? i) q refl ∙ e))
+  | no q ↦ inr (falls-below i j e q)
 ]
 
 pub no-fall : (i j : ℕ) → (i ≡ 0) ⊎ (i < j) → falls i j ≡ false

@@ -10,15 +10,16 @@ use native.Mathlib.Omega.{arith}
 use lib.ListN.{length, getD}
 use Rattle.number.specs.Choice.{_≤?_, _=?_}
 use Rattle.number.specs.Number.{be}
-use Rattle.number.proofs.Choice.{both, yes-le, not-lt, not-le, yes-eq, not-eq, from-yes-le, from-not-lt, from-not-le, from-yes-eq, from-not-eq}
+use Rattle.number.proofs.Choice.{both, yes-le, not-lt, not-le, yes-eq, not-eq, from-yes-le, from-not-le, from-yes-eq, from-not-eq}
 use Rattle.number.proofs.Scans.{clash}
 use Rattle.reading.specs.Got.{Got, got, next, byte, field}
 use Rattle.reading.specs.declared.Context.{Context}
-use Rattle.reading.proofs.Facts.{Facts, fact, f-bad, f-got, f-unless, f-next, f-byte, f-field}
+use Rattle.reading.proofs.Facts.{Facts, fact, f-bad, f-got, f-unless, f-next, f-byte, f-self}
 use Rattle.reading.proofs.Passes.{pass-next, pass-true, pass-false, pass-byte, pass-field}
 use Rattle.types.specs.Types.{Ty, simple, interface, interfaceIs, array, sized, classOf, isReserved, needsPointer, lacksPointer, readIndex, readRest, typeWith, readArray, readType}
 use Rattle.types.specs.declared.Class.{Class}
 use Rattle.types.specs.declared.Class.the-variants.{Reserved, Plain, Text, Interface, InterfaceIs, Array, Sized}
+use Rattle.types.proofs.View as view
 use Rattle.rules.specs.Shows.{ShowsByte, ShowsField, ShowsType}
 use Rattle.rules.specs.Rules.{PrefixRule, InDirectory, TypeRule, nesting}
 
@@ -167,11 +168,8 @@ module _ {Y : Type 0} (c : Context) (s : List ℕ) (q : ℕ) (k : ℕ → ℕ �
 
 module _ (c : Context) (s : List ℕ) (p : ℕ) where
   pub index-facts : Facts (λ i e. ShowsField 2 s p i × InDirectory (c .count) i × (e ≡ p + 2)) (readIndex c s p)
-  unfolding readIndex
   index-facts =
-      f-field _ _ _ _ _ 2 (λ l. f-unless _ _ _ _ _ (λ a. f-unless _ _ _ _ _ (λ b.
-      let n = from-not-eq (be 2 s p) 0 a in
-      f-got _ _ _ (field-shows s 2 p refl l, (omega arith, from-not-lt _ _ b), refl))))
+      f-self _ _ _ (λ i e h _. (record { inside = h .room; value = sym (h .number) }, (h .low, h .high), h .end)) (view.index-facts c s p)
 
   pub shows-index : {i : ℕ} → ShowsField 2 s p i → InDirectory (c .count) i → readIndex c s p ≡ got i (p + 2)
   unfolding readIndex

@@ -1,19 +1,17 @@
 -- The tables of pointers and of first keys, against the directory.
 -- Assumes nothing.
-use mathlib.Core.Path.{_≡_, refl, sym, ap, _∙_}
+use mathlib.Core.Path.{_≡_, ap, _∙_}
 use mathlib.Core.List.{List}
-use Prim.Native.Nat.{ℕ, _+_, _≤_, _<_}
+use Prim.Native.Nat.{ℕ, _≤_, _<_}
 use native.Mathlib.Omega.{arith}
-use lib.ListN.{length, getD}
 use Rattle.number.specs.Choice.{_<?_}
 use Rattle.number.specs.Scan.{scan}
 use Rattle.number.proofs.Scans.{scan-ext}
-use Rattle.key.specs.Word.{Leads}
-use Rattle.key.specs.Key.{Key, keyAt}
+use Rattle.key.specs.Key.{keyAt}
 use Rattle.key.specs.First.{firstSame, keyIn, Keyed, Filled}
 use Rattle.key.proofs.Firsts.{first-ext}
 use Rattle.typelib.specs.Across.{repeated}
-use Rattle.typelib.specs.Directory.{Lies, Named, namePointer, spacePointer, keyOn}
+use Rattle.typelib.specs.Directory.{Named, namePointer, spacePointer, keyOn}
 use Rattle.typelib.specs.Tables.{lower}
 
 module _ (s pool spaces names : List ℕ) (n d : ℕ)

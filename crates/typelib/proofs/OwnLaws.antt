@@ -1,20 +1,19 @@
 -- A descriptor pointer decides the verdict on its descriptor.
 -- Assumes nothing.
 use mathlib.Core.Path.{_≡_, refl, sym, ap, _∙_}
-use mathlib.Core.Bool.{Bool, true, false}
-use mathlib.Core.Logic.{_⊎_, inl, inr}
+use mathlib.Core.Bool.{true}
+use mathlib.Core.Logic.{inl, inr}
 use mathlib.Core.List.{List}
 use mathlib.Core.Option.{Option, none, some}
-use Prim.Native.Nat.{ℕ, zero, suc, _+_, _-_, _*_, _≤_, _<_}
+use Prim.Native.Nat.{ℕ, _+_, _-_, _*_, _≤_, _<_}
 use native.Mathlib.Nat.{sub-zero}
 use native.Mathlib.Omega.{arith}
-use lib.ListN.{length, getD}
-use Rattle.number.specs.Choice.{if_then_else_, _=?_}
+use lib.ListN.{length}
 use Rattle.number.specs.Number.{be}
 use Rattle.number.specs.Scan.{some as one}
 use Rattle.number.proofs.Choice.{from-yes-eq, from-not-eq, from-not-lt}
 use Rattle.number.proofs.Scans.{below, some-found}
-use Rattle.reading.specs.Got.{Got, got, bad, stepOf, many, Accepted}
+use Rattle.reading.specs.Got.{got, stepOf, many}
 use Rattle.reading.specs.declared.Context.{Context}
 use Rattle.reading.specs.declared.Step.{Step}
 use Rattle.reading.specs.declared.Step.the-variants.{End}

@@ -2,7 +2,6 @@
 -- Assumes nothing.
 use mathlib.Core.Path.{_≡_, refl, sym, ap, _∙_, subst}
 use mathlib.Core.Bool.{Bool, true, false, not}
-use mathlib.Core.Logic.{_⊎_, inl, inr}
 use mathlib.Core.List.{List}
 use mathlib.Core.Option.{Option, none, some}
 use Prim.Native.Nat.{ℕ, zero, suc, _+_, _-_, _*_, _≤_, _<_}
@@ -28,14 +27,13 @@ use Rattle.head.specs.declared.Header.{Header}
 use Rattle.directory.specs.Directory.{Row, row, noRow, rowKey, readDirectory}
 use Rattle.directory.proofs.DirectoryLaws.{rows-length, row-told}
 use Rattle.descriptor.specs.Descriptor.{Descriptor, parentOf, indexed}
-use Rattle.descriptor.proofs.RecordLaws.{ParentAt, descriptor-parent}
+use Rattle.descriptor.proofs.RecordLaws.{descriptor-parent}
 use Rattle.typelib.specs.Entry.{Entry, entry, entryKey, entryDescriptor, readOwn, entriesOf, keysIn, descriptorIn}
 use Rattle.typelib.specs.Across.{repeated, firstRepeated, parentIndex, above, aboveIn, chainEnds, circles, firstCircling, readAcross}
 use Rattle.typelib.specs.Directory.{Lies, Named, Rooted, namePointer, spacePointer, ownPointer, keyOn, aboveOn}
-use Rattle.typelib.specs.Typelib.{Front, front, Fronted, Typelib, typelib, headerOf, poolOf, contextOf, readFront, readDescriptors, readBehind, readTypelib, countOf, verdictOf}
+use Rattle.typelib.specs.Typelib.{Fronted, Typelib, typelib, headerOf, poolOf, contextOf, readFront, readDescriptors, readBehind, readTypelib, countOf, verdictOf}
 use Rattle.reading.specs.declared.Verdict.{Verdict}
 use Rattle.reading.specs.declared.Verdict.the-variants.{Accepted, Refused}
-use Rattle.typelib.proofs.ChainLaws.{chain-none, chain-out, chain-up}
 use Rattle.typelib.proofs.EntryLaws.{entryWith, entries-at}
 use Rattle.typelib.proofs.OwnLaws.{Leads, nowhere, descriptor, own-says, own-size}
 use Rattle.typelib.proofs.FrontLaws.{fronted-header, fronted-rows}
@@ -113,7 +111,7 @@ above-some : (x : Descriptor ℕ) → above (some x) ≡ parentIndex (parentOf x
 unfolding above
 above-some x = refl
 
-parent-index : (i : ℕ) → parentIndex (indexed i) ≡ i
+pub parent-index : (i : ℕ) → parentIndex (indexed i) ≡ i
 unfolding indexed parentIndex if_then_else_
 parent-index i = both (λ (o : Option ℕ). parentIndex o ≡ i) (i =? 0) none (some i) (λ z. sym (from-yes-eq i 0 z)) (λ _. refl)
 

@@ -8,18 +8,12 @@ use native.Mathlib.Omega.{arith}
 use lib.ListN.{length, getD}
 use Rattle.number.specs.Number.{be}
 use Rattle.number.proofs.Choice.{from-not-eq, from-not-lt}
-use Rattle.reading.specs.Got.{Got, got, bad}
+use Rattle.reading.specs.Got.{got}
 use Rattle.reading.specs.declared.Context.{Context}
-use Rattle.reading.proofs.Facts.{Facts, fact, f-bad, f-got, f-unless, f-next, f-byte, f-field, f-self}
+use Rattle.reading.proofs.Facts.{Facts, fact, f-bad, f-got, f-unless, f-next, f-byte, f-field, f-self, f-read}
 use Rattle.types.specs.declared.Class.{Class}
 use Rattle.types.specs.declared.Class.the-variants.{Reserved, Plain, Text, Interface, InterfaceIs, Array, Sized}
 use Rattle.types.specs.Types.{Ty, simple, interface, interfaceIs, array, sized, prefix, classOf, isReserved, lacksPointer, readIndex, readRest, typeWith, readArray, readType}
-
--- the reading itself, as what holds of what it gives
-pub itself : {X : Type 0} (g : Got X) → Facts (λ x e. g ≡ got x e) g
-unfolding Facts
-itself (got x e) = refl
-itself (bad n q) = tt
 
 -- ---- an index
 
@@ -105,7 +99,7 @@ module _ (c : Context) (s : List ℕ) where
   array-facts zero p = f-bad _ _ _
   array-facts (suc left) p =
       f-byte _ _ _ _ _ (λ a. f-byte _ _ _ _ _ (λ b.
-      f-next (λ (u : Ty ℕ) (e : ℕ). readType left c s (p + 3) ≡ got u e) _ _ _ (rw (three p) (itself (readType left c s (p + 3)))) (λ u e h.
+      f-next (λ (u : Ty ℕ) (e : ℕ). readType left c s (p + 3) ≡ got u e) _ _ _ (rw (three p) (f-read _ _ (λ u e h. h))) (λ u e h.
       f-got _ _ _ (record { room = omega arith; below = left; more = refl; element = u; is = (λ i. array (getD s p 0) (getD s (p + 1) 0) (two p i) u); read = h }))))
 
   rest-facts : (left p : ℕ) → p < length s → (k : Class) → Facts (TypeAs left c s p k) (readRest (readArray left c s) c s k p (getD s p 0) (p + 1))
