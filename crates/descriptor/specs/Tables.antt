@@ -23,12 +23,12 @@ cell t i = getD t i 0
 unfoldable pub wordIn : List ℕ → List ℕ → ℕ → List ℕ
 wordIn s t i = wordAt s (getD t i 0 - 1)
 
--- one getter more, the method n, beside what v says
+-- what is known of a name's getters, v, when method n is one more of them: 2000 stands for several, as no position is over 1,023
 unfoldable pub oneMore : ℕ → ℕ → ℕ
 oneMore v n = if v =? 0 then n + 1 else 2000
 
--- Of the first n methods, where g gives for each the first of its name: 0 where none of the name that starts at k is a getter;
--- 1 more than its position where one is; 2000 where several are.
+-- Of the first n methods, where g gives for each the first method of its name: what is known of the getters whose name's first method is k.
+-- 0 where there is none; 1 more than its position where there is one; 2000 where there are several.
 unfoldable pub gettersOf : (ℕ → ℕ) → (ℕ → ℕ) → ℕ → ℕ → ℕ
 gettersOf f g zero k = 0
 gettersOf f g (suc n) k =
@@ -37,10 +37,11 @@ gettersOf f g (suc n) k =
     gettersOf f g n k) else
     gettersOf f g n k
 
--- method j is a setter, and a getter of its name, by what t says of each name, is not just before it
+-- v, what is known of the getters of setter j's name, is neither none nor the one just before j
 unfoldable pub strayOf : ℕ → ℕ → Bool
 strayOf v j = if v =? 0 then false else v ≠? j
 
+-- method j is a setter, and a getter of its name, by what t says of each name, is not just before it
 unfoldable pub straySetter : (ℕ → ℕ) → (ℕ → ℕ) → (ℕ → ℕ) → ℕ → Bool
 straySetter f g t j = if isSetter f j then strayOf (t (g j)) j else false
 

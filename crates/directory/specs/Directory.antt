@@ -1,4 +1,4 @@
--- Document 01, "Directory entry": refusals 10, 11, 13 and 12, in this order for each entry.
+-- Document 01, "Directory entry". For each entry: 10; the name's 11 or 13; the namespace's 13 or 11; 12.
 -- Assumes nothing.
 use mathlib.Core.Bool.{Bool, false}
 use mathlib.Core.List.{List, []}

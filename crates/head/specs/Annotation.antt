@@ -3,7 +3,7 @@
 use mathlib.Core.Bool.{Bool}
 use mathlib.Core.List.{List, [], _∷_}
 use Prim.Native.Nat.{ℕ, zero, suc, _+_, _-_, _%_}
-use lib.ListN.{length, getD}
+use lib.ListN.{getD}
 use Rattle.number.specs.Choice.{if_then_else_, _<?_, _≤?_, _=?_, _≠?_}
 use Rattle.number.specs.Number.{be}
 use Rattle.number.specs.Scan.{scan}
@@ -44,7 +44,7 @@ readBody place limit s tag p =
 unfoldable pub readAnnotation : ℕ → List ℕ → ℕ → Got Annotation
 readAnnotation limit s p = if limit ≤? p then bad 9 p else readBody p limit s (getD s p 0 % 128) (p + 1)
 
--- those from p on, at most f of them, up to the first that is marked last
+-- those from p on, at most f of them, up to the first that is marked last; f is never used up
 unfoldable pub annotationsWithin : ℕ → ℕ → List ℕ → ℕ → Got (List Annotation)
 annotationsWithin zero limit s p = bad 9 p
 annotationsWithin (suc f) limit s p =
@@ -53,7 +53,7 @@ annotationsWithin (suc f) limit s p =
     next (annotationsWithin f limit s e) λ more e.
     got (a ∷ more) e
 
--- Annotations start at 32. Each takes a byte at least, so there are no more than bytes.
+-- Annotations start at 32. Each takes a byte at least, so there are never more than `limit`.
 unfoldable pub readAnnotations : ℕ → List ℕ → Got (List Annotation)
 readAnnotations limit s = annotationsWithin limit limit s 32
 

@@ -1,10 +1,10 @@
 -- Document 01, "Header" and "Positions": refusals 1 to 8, in number order.
 -- Assumes nothing.
-use mathlib.Core.Bool.{Bool, true, false}
+use mathlib.Core.Bool.{Bool, true}
 use mathlib.Core.List.{List, [], _∷_}
 use Prim.Native.Nat.{ℕ, _+_, _*_, _%_}
 use lib.ListN.{length, getD}
-use Rattle.number.specs.Choice.{if_then_else_, _<?_, _≤?_, _=?_, _≠?_}
+use Rattle.number.specs.Choice.{if_then_else_, _<?_, _=?_, _≠?_}
 use Rattle.number.specs.Number.{be}
 use Rattle.number.specs.Scan.{scan}
 use Rattle.reading.specs.Got.{Got, got, bad}

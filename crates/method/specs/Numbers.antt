@@ -6,7 +6,7 @@ use Prim.Native.Nat.{ℕ, _/_, _%_}
 use lib.ListN.{length, getD}
 use Rattle.number.specs.Choice.{if_then_else_, _<?_, _≤?_, _=?_, _≠?_}
 use Rattle.types.specs.Types.{Ty, simple, interface, interfaceIs, array, sized, prefix}
-use Rattle.method.specs.Parameter.{Param, paramFlags, paramType}
+use Rattle.method.specs.Parameter.{Param, paramType}
 
 -- the prefixes of the arguments' types, by argument number
 unfoldable pub prefixes : {R : Type 0} → List (Param R) → List ℕ
@@ -44,7 +44,8 @@ unfoldable pub wrongArguments : {R : Type 0} → List ℕ → List (Param R) →
 wrongArguments pre [] = false
 wrongArguments pre (x ∷ ps) = if wrongNumbers pre (paramType x) then true else wrongArguments pre ps
 
--- Unless not-XPCOM, 0x20 of the method's flags f, or the result has retval, 0x20 of its flags g, the result is tag 13 or 6 without pointer; b is its prefix.
+-- Unless not-XPCOM, 0x20 of the method's flags f, or the result has retval, 0x20 of its flags g, the result is tag 13 or 6 without pointer;
+-- b is its prefix, which has no other bit set then, since unique and reference need pointer.
 unfoldable pub wrongResult : ℕ → ℕ → ℕ → Bool
 wrongResult f g b =
     if f / 32 % 2 =? 1 then false else

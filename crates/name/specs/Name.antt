@@ -24,7 +24,7 @@ unfoldable pub letters : List ℕ → Bool
 letters [] = true
 letters (b ∷ w) = if letter b then letters w else false
 
--- Document 01, "Identifier", of the bytes before the zero byte: 1 to 255 letters. A name is judged whole.
+-- Document 01, "Identifier", of the bytes before the zero byte: 1 to 255 letters. The rule is asked of all of them at once.
 unfoldable pub isIdentifier : List ℕ → Bool
 isIdentifier w =
     if length w =? 0 then false else
@@ -42,14 +42,14 @@ readIdentifier s place p =
     if isIdentifier (wordAt s p) then got (wordAt s p) (wordEnd s p + 1) else
     bad 11 place
 
--- Document 01, "Pool pointer": what the pointer q leads to, 1 being the pool's first byte, where a name must be present
+-- Document 01, "Pool pointer": what the pointer q leads to, 1 being the pool's first byte, where an identifier must be present
 unfoldable pub follow : List ℕ → ℕ → ℕ → Got (List ℕ)
 follow s place q =
     if q =? 0 then bad 11 place else
     if length s <? q then bad 13 place else
     readIdentifier s place (q - 1)
 
--- a namespace may be absent: the default, which has no bytes
+-- a namespace may be absent: the default, which has no bytes (nobody uses the end that is given here)
 unfoldable pub followSpace : List ℕ → ℕ → ℕ → Got (List ℕ)
 followSpace s place q = if q =? 0 then got [] 0 else follow s place q
 

@@ -32,11 +32,11 @@ many rd (suc n) p =
     next (many rd n e) λ xs e.
     got (x ∷ xs) e
 
--- a byte of the pool; one that isn't there is outside the pool
+-- a byte of the pool; where it isn't there, 13 at its place
 unfoldable pub byte : Context → List ℕ → ℕ → Got ℕ
 byte c s p = if length s ≤? p then bad 13 (c .base + p) else got (getD s p 0) (p + 1)
 
--- a number of k bytes of the pool, the most significant first
+-- a number of k bytes of the pool, the most significant first; where it doesn't fit, 13 at its first byte
 unfoldable pub field : ℕ → Context → List ℕ → ℕ → Got ℕ
 field k c s p = if length s <? p + k then bad 13 (c .base + p) else got (be k s p) (p + k)
 

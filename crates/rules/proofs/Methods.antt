@@ -20,7 +20,7 @@ use Rattle.method.specs.Parameter.{Param, param, paramFlags, paramType, reserve
 use Rattle.method.specs.Numbers.{prefixes, wrongIid, wrongSize, wrongSizes, wrongNumbers, wrongArguments, wrongResult}
 use Rattle.method.specs.Method.{Signature, signature, Method, method, ruleSignature, readSignature, readMethod}
 use Rattle.rules.specs.Shows.{Bytes, ShowsByte, Run, ShowsName, ShowsParam, ShowsMethod}
-use Rattle.rules.specs.Rules.{All, Identifier, ParamRule, ArgumentRule, ResultRule, prefixAt, NamesIid, NamesSize, NumbersRule, SignatureRule, MethodRule}
+use Rattle.rules.specs.Rules.{PrefixRule, TypeRule, All, Identifier, ParamRule, ArgumentRule, ResultRule, prefixAt, NamesIid, NamesSize, NumbersRule, SignatureRule, MethodRule}
 use Rattle.rules.proofs.Runs.{runs-facts, runs-back}
 use Rattle.rules.proofs.Names.{name-facts, shows-name}
 use Rattle.rules.proofs.Types.{byte-shows, shows-byte, type-facts, shows-type}
@@ -216,14 +216,21 @@ module _ (ps : List (Param ℕ)) where
 -- ---- the result rule
 
 abbrev Kind : ℕ → ℕ → ℕ → Type 0
-Kind f g b = (f / 32 % 2 ≡ 1) ⊎ ((g / 32 % 2 ≡ 1) ⊎ ((b ≡ 13) ⊎ (b ≡ 6)))
+Kind f g b = (f / 32 % 2 ≡ 1) ⊎ ((g / 32 % 2 ≡ 1) ⊎ (((b % 32 ≡ 13) ⊎ (b % 32 ≡ 6)) × (b < 128)))
+
+void-tag : (b : ℕ) → b ≡ 13 → (b % 32 ≡ 13) × (b < 128)
+void-tag b e = rw e (refl, omega arith)
+
+uint32-tag : (b : ℕ) → b ≡ 6 → (b % 32 ≡ 6) × (b < 128)
+uint32-tag b e = rw e (refl, omega arith)
 
 kind-is : (f g b : ℕ) → wrongResult f g b ≡ false → Kind f g b
 unfolding wrongResult
 kind-is f g b =
     both Q (f / 32 % 2 =? 1) _ _ (λ e _. inl (from-yes-eq _ 1 e)) (λ _.
     both Q (g / 32 % 2 =? 1) _ _ (λ e _. inr (inl (from-yes-eq _ 1 e))) (λ _.
-    both Q (b =? 13) _ _ (λ e _. inr (inr (inl (from-yes-eq b 13 e)))) (λ _ e. inr (inr (inr (from-not-ne b 6 e))))))
+    both Q (b =? 13) _ _ (λ e _. let w = void-tag b (from-yes-eq b 13 e) in inr (inr (inl (w .0), w .1))) (λ _ e.
+    let w = uint32-tag b (from-not-ne b 6 e) in inr (inr (inr (w .0), w .1)))))
   where
     Q : Bool → Type 0
     Q t = t ≡ false → Kind f g b
@@ -234,12 +241,40 @@ unfolding if_then_else_
 either true u h = refl
 either false u h = h refl
 
-is-kind : (f g b : ℕ) → Kind f g b → wrongResult f g b ≡ false
+-- a prefix without pointer has neither unique nor reference: it is its tag
+unique-bit : (b : ℕ) → 64 ≤ b → b < 128 → b / 64 % 2 ≡ 1
+unique-bit b h l = omega arith
+
+reference-bit : (b : ℕ) → 32 ≤ b → b < 64 → b / 32 % 2 ≡ 1
+reference-bit b h l = omega arith
+
+bare : (minor b : ℕ) → PrefixRule minor b → b < 128 → b < 32
+bare minor b r l = elim (decLe 64 b) [
+  | yes h ↦ absurd (let w = r .unique (unique-bit b h l) in omega arith)
+  | no h ↦ elim (decLe 32 b) [
+    | yes g ↦ absurd (let w = r .reference (reference-bit b g (omega arith)) in omega arith)
+    | no g ↦ omega arith
+  ]
+]
+
+own-tag : (b : ℕ) → b < 32 → b ≡ b % 32
+own-tag b l = omega arith
+
+is-kind : (minor f g b : ℕ) → PrefixRule minor b → Kind f g b → wrongResult f g b ≡ false
 unfolding wrongResult
-is-kind f g b (inl h) = pass-true _ _ _ (yes-eq _ 1 h) refl
-is-kind f g b (inr (inl h)) = either _ _ (λ _. pass-true _ _ _ (yes-eq _ 1 h) refl)
-is-kind f g b (inr (inr (inl h))) = either _ _ (λ _. either _ _ (λ _. pass-true _ _ _ (yes-eq b 13 h) refl))
-is-kind f g b (inr (inr (inr h))) = either _ _ (λ _. either _ _ (λ _. either _ _ (λ _. not-ne b 6 h)))
+is-kind minor f g b r (inl h) = pass-true _ _ _ (yes-eq _ 1 h) refl
+is-kind minor f g b r (inr (inl h)) = either _ _ (λ _. pass-true _ _ _ (yes-eq _ 1 h) refl)
+is-kind minor f g b r (inr (inr (inl h, l))) = either _ _ (λ _. either _ _ (λ _. pass-true _ _ _ (yes-eq b 13 (own-tag b (bare minor b r l) ∙ h)) refl))
+is-kind minor f g b r (inr (inr (inr h, l))) = either _ _ (λ _. either _ _ (λ _. either _ _ (λ _. not-ne b 6 (own-tag b (bare minor b r l) ∙ h))))
+
+-- the prefix of a type that obeys the rules
+prefix-rule : (minor n : ℕ) (t : Ty ℕ) → TypeRule minor n t → PrefixRule minor (prefix t)
+unfolding prefix
+prefix-rule minor n (simple b) r = r
+prefix-rule minor n (interface b i) r = r .0
+prefix-rule minor n (interfaceIs b a) r = r
+prefix-rule minor n (array b x y t) r = r .0
+prefix-rule minor n (sized b x y) r = r
 
 -- ---- signatures
 
@@ -270,7 +305,7 @@ module _ (c : Context) (s : List ℕ) (first f p : ℕ) where
       pass-next _ _ (runs-back (readParam false c s) (ShowsParam s) (ArgumentRule (c .minor) (c .count)) (λ p x e. shows-param c s false p small x e) (p + 1) ps (h .1 .0) (h .1 .1) (k .arguments)) (
       pass-next _ _ (shows-param c s true (h .1 .0) small r e (h .1 .2) (k .result)) (
       pass-false _ _ _ (are-arguments ps ps (k .numbers)) (pass-false _ _ _ (are-numbers ps _ (k .resultNumbers)) (
-      pass-false _ _ _ (is-kind f _ _ (k .resultKind)) refl)))))
+      pass-false _ _ _ (is-kind (c .minor) f _ _ (prefix-rule (c .minor) (c .count) (paramType r) (k .result .0 .type)) (k .resultKind)) refl)))))
 
 -- ---- methods
 

@@ -88,7 +88,7 @@ ArgumentRule minor n x = ParamRule minor n x × (paramFlags x / 32 % 2 ≡ 1 →
 abbrev pub ResultRule : ℕ → ℕ → Param ℕ → Type 0
 ResultRule minor n x = ParamRule minor n x × (paramFlags x / 128 % 2 ≡ 0) × (paramFlags x / 64 % 2 ≡ 0)
 
--- what stands past the arguments
+-- the prefix of argument a's type; 0 past the arguments
 abbrev pub prefixAt : List (Param ℕ) → ℕ → ℕ
 prefixAt ps a = prefix (paramType (getD ps a (param 0 (simple 0))))
 
@@ -114,7 +114,7 @@ pub record SignatureRule (minor n f : ℕ) (ps : List (Param ℕ)) (r : Param �
   pub numbers : All (λ x. NumbersRule ps (paramType x)) ps
   pub resultNumbers : NumbersRule ps (paramType r)
   -- unless not-XPCOM or the result has retval, the result is tag 13 or 6 without pointer
-  pub resultKind : (f / 32 % 2 ≡ 1) ⊎ ((paramFlags r / 32 % 2 ≡ 1) ⊎ ((prefix (paramType r) ≡ 13) ⊎ (prefix (paramType r) ≡ 6)))
+  pub resultKind : (f / 32 % 2 ≡ 1) ⊎ ((paramFlags r / 32 % 2 ≡ 1) ⊎ (((prefix (paramType r) % 32 ≡ 13) ⊎ (prefix (paramType r) % 32 ≡ 6)) × (prefix (paramType r) < 128)))
 
 abbrev pub MethodRule : ℕ → ℕ → Method ℕ → Type 0
 MethodRule minor n (method f w (signature ps r)) = (f % 8 ≡ 0) × Identifier w × SignatureRule minor n f ps r

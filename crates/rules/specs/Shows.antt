@@ -1,4 +1,5 @@
--- These bytes show this value: layout only. Where each field lies, where pointers lead, how many records there are; no rule on a value, no order of tests.
+-- These bytes show this value: layout only. Where each field lies, where pointers lead, how many records there are; no rule on a value
+-- (but one: a namespace that is present is not empty), no order of tests.
 -- `s` is the pool, but in the definitions on entries and files it is the file; a record stands at p and ends before e.
 -- Assumes nothing.
 use mathlib.Core.Path.{_≡_}
@@ -17,7 +18,7 @@ use Rattle.head.specs.Shows.{ShowsNotes}
 use Rattle.types.specs.Types.{Ty, simple, interface, interfaceIs, array, sized}
 use Rattle.method.specs.Parameter.{Param, param}
 use Rattle.method.specs.Method.{signature, Method, method}
-use Rattle.descriptor.specs.Constant.{Constant, constant, valueSize}
+use Rattle.descriptor.specs.Constant.{Constant, constant}
 use Rattle.descriptor.specs.Descriptor.{Descriptor, descriptor}
 use Rattle.typelib.specs.Entry.{Entry, entry, noEntry}
 use Rattle.typelib.specs.Across.{parentIndex}
@@ -77,8 +78,12 @@ ShowsMethod s p (method f w (signature ps r)) e =
 
 -- ---- constants, descriptors
 
+-- the bytes of a value: two for the types 1 and 5, four for 2 and 6
+abbrev pub Stored : ℕ → ℕ → Type 0
+Stored k n = (((k ≡ 1) ⊎ (k ≡ 5)) × (n ≡ 2)) ⊎ (((k ≡ 2) ⊎ (k ≡ 6)) × (n ≡ 4))
+
 abbrev pub ShowsConstant : List ℕ → ℕ → Constant → ℕ → Type 0
-ShowsConstant s p (constant w k v) e = ShowsName s p w × ShowsByte s (p + 4) k × ShowsField (valueSize k) s (p + 5) v × (e ≡ p + 5 + valueSize k)
+ShowsConstant s p (constant w k v) e = ShowsName s p w × ShowsByte s (p + 4) k × ((n : ℕ) × Stored k n × ShowsField n s (p + 5) v × (e ≡ p + 5 + n))
 
 -- parent, method count, methods, constant count, constants, flags
 abbrev pub ShowsDescriptor : List ℕ → ℕ → Descriptor ℕ → ℕ → Type 0

@@ -28,7 +28,7 @@ pub data Front : Type 0 where
 unfoldable pub poolOf : Header → List ℕ → List ℕ
 poolOf h s = drop (h .pool) s
 
--- what the file says to every record
+-- what the reader of every record is given of the file
 unfoldable pub contextOf : Header → Context
 contextOf h = record { base = h .pool; minor = h .minor; count = h .count }
 

@@ -62,7 +62,7 @@ needsPointer InterfaceIs = true
 needsPointer Array = true
 needsPointer Sized = true
 
--- unique and reference need pointer, and so do some tags
+-- without pointer, 0x80, neither unique, 0x40, nor reference, 0x20, may be set, and no tag from 16 to 22 may stand
 unfoldable pub lacksPointer : Class → ℕ → Bool
 lacksPointer k b =
     if 128 ≤? b then false else
@@ -77,7 +77,7 @@ readIndex c s p =
     if c .count <? i then bad 15 (c .base + p) else
     got i e
 
--- what follows the prefix b at p, from e on, given what reads an array
+-- what follows the prefix b at p, from e on, given what reads an array; a reserved tag was refused before
 unfoldable pub readRest : (ℕ → ℕ → ℕ → Got (Ty ℕ)) → Context → List ℕ → Class → ℕ → ℕ → ℕ → Got (Ty ℕ)
 readRest arrayAt c s Reserved p b e = bad 14 (c .base + p)
 readRest arrayAt c s Plain p b e = got (simple b) e
