@@ -1,4 +1,5 @@
-//! Under the feature `linked`: link the static library that exports `saniotka_check`.
+//! Under the feature `linked`: link the static library that exports `saniotka_check`, and what
+//! the features `questions` and `links` say.
 
 use std::env;
 use std::path::Path;

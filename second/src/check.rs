@@ -1,5 +1,6 @@
 //! The check of a typelib: refusals 1 to 19, in the order and with the places of document 01.
 
+use crate::accepted::{Accepted, Key};
 use std::collections::HashSet;
 
 /// Why and where a file is refused.
@@ -24,17 +25,23 @@ pub const MAX_ARRAYS: usize = 8;
 pub const MAX_IDENTIFIER: usize = 255;
 
 const HEADER: usize = 32;
-const ENTRY: usize = 28;
+pub(crate) const ENTRY: usize = 28;
 
 /// Checks a file: the number of its interfaces, or its refusal.
 pub fn check(file: &[u8]) -> Result<usize, Refusal> {
+    Ok(accept(file)?.n)
+}
+
+/// Checks a file and keeps what the check found in it.
+pub fn accept(file: &[u8]) -> Result<Accepted<'_>, Refusal> {
     let lib = header(file)?;
     lib.annotations()?;
     let keys = lib.directory()?;
     let parents = lib.descriptors()?;
     lib.unique_keys(&keys)?;
     lib.parent_chains(&parents)?;
-    Ok(lib.n)
+    let Typelib { n, directory, pool, .. } = lib;
+    Ok(Accepted { file, n, directory, pool, keys, parents })
 }
 
 /// A file whose header is good.
@@ -45,9 +52,6 @@ struct Typelib<'a> {
     directory: usize,
     pool: usize,
 }
-
-/// Namespace (empty for the default) and name.
-type Key<'a> = (&'a [u8], &'a [u8]);
 
 /// Header and positions: 1 to 8 in number order.
 fn header(file: &[u8]) -> Result<Typelib<'_>, Refusal> {
@@ -95,7 +99,7 @@ fn header(file: &[u8]) -> Result<Typelib<'_>, Refusal> {
 
 /// The 4-byte number at `at`, which lies inside the file.
 #[inline]
-fn word(file: &[u8], at: usize) -> usize {
+pub(crate) fn word(file: &[u8], at: usize) -> usize {
     u32::from_be_bytes([file[at], file[at + 1], file[at + 2], file[at + 3]]) as usize
 }
 
@@ -116,6 +120,12 @@ const LETTERS: [bool; 256] = {
     }
     table
 };
+
+/// Whether these bytes are an identifier, given without the zero byte.
+pub(crate) fn is_identifier(bytes: &[u8]) -> bool {
+    let letter = |b: &u8| LETTERS[usize::from(*b)];
+    (1..=MAX_IDENTIFIER).contains(&bytes.len()) && bytes.iter().all(letter)
+}
 
 impl<'a> Typelib<'a> {
     fn entry(&self, i: usize) -> usize {

@@ -191,7 +191,12 @@ fn differs(file: &[u8], kind: &str, answers: &[(&str, Option<Answer>)]) {
     for (who, answer) in answers {
         println!("  {who}: {}", answer.map_or("not known".to_string(), shown));
     }
-    let path = std::env::temp_dir().join("second-difference.xpt");
+    keep("second-difference.xpt", file);
+}
+
+/// Saves a file for looking into a difference, and prints it when it is small.
+pub(crate) fn keep(name: &str, file: &[u8]) {
+    let path = std::env::temp_dir().join(name);
     match std::fs::write(&path, file) {
         Ok(()) => println!("  saved as {}", path.display()),
         Err(error) => println!("  not saved: {error}"),
@@ -202,7 +207,8 @@ fn differs(file: &[u8], kind: &str, answers: &[(&str, Option<Answer>)]) {
 }
 
 /// Runs over every generated file; stops at the first difference. Whether all is well.
-pub fn run(other: Option<Check>) -> bool {
+pub fn run(seed: u64, other: Option<Check>) -> bool {
+    println!("Checks, seed {seed}\n");
     let mut coverage = Coverage {
         files: 0,
         bytes: 0,
@@ -229,7 +235,7 @@ pub fn run(other: Option<Check>) -> bool {
         coverage.count(file, known.is_some(), kind, own);
     };
     let sink: &mut Sink = &mut sink;
-    everything(sink);
+    everything(seed, sink);
     if stopped {
         return false;
     }

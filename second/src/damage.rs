@@ -1268,8 +1268,8 @@ pub fn random_pools(rounds: usize, rng: &mut Rng, sink: &mut Sink) {
 }
 
 /// Hands every generated file to the sink, good and damaged.
-pub fn everything(sink: &mut Sink) {
-    let rng = &mut Rng::new(2);
+pub fn everything(seed: u64, sink: &mut Sink) {
+    let rng = &mut Rng::new(seed);
     for good in generate::marked() {
         sink(&good, Some(Ok(usize::from(good[19]))), "marked");
         all_bytes(&good, sink);

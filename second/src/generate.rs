@@ -233,14 +233,9 @@ pub fn annotations(rng: &mut Rng) -> Vec<Annotation> {
     list
 }
 
-/// A good typelib of up to the given size, in a random layout.
-pub fn random(rng: &mut Rng, size: Size) -> Typelib {
-    let minor = u8::from(rng.percent(70));
-    let n = rng.range(0, size.entries);
-    let zeros = if rng.percent(50) { 0 } else { rng.range(0, n) };
-    let words: Vec<_> = (0..8).map(|_| identifier(rng, size.name)).collect();
-
-    let mut lib = Typelib {
+/// A random layout without contents.
+pub fn layout(rng: &mut Rng, minor: u8) -> Typelib {
+    Typelib {
         minor,
         annotations: annotations(rng),
         directory_gap: if rng.percent(80) { 0 } else { rng.below(9) },
@@ -251,8 +246,17 @@ pub fn random(rng: &mut Rng, size: Size) -> Typelib {
         order: *rng.pick(&[Order::Entries, Order::NamesFirst, Order::NamesLast, Order::Shuffled]),
         sharing: *rng.pick(&[Sharing::None, Sharing::None, Sharing::Equal, Sharing::Overlap]),
         ..Typelib::default()
-    };
+    }
+}
 
+/// A good typelib of up to the given size, in a random layout.
+pub fn random(rng: &mut Rng, size: Size) -> Typelib {
+    let minor = u8::from(rng.percent(70));
+    let n = rng.range(0, size.entries);
+    let zeros = if rng.percent(50) { 0 } else { rng.range(0, n) };
+    let words: Vec<_> = (0..8).map(|_| identifier(rng, size.name)).collect();
+
+    let mut lib = layout(rng, minor);
     let mut keys = HashSet::new();
     let ids = iids(rng, n - zeros);
     let mut descriptors = 0;
@@ -293,6 +297,84 @@ pub fn random(rng: &mut Rng, size: Size) -> Typelib {
             true => 0,
             false => *rng.pick(&parents) as u16,
         };
+        lib.descriptors.push(descriptor(rng, minor, n, size, &words, parent));
+    }
+    lib
+}
+
+/// Words that are easily taken for one another: prefixes, other case, long ones.
+fn near_words(rng: &mut Rng) -> Vec<Vec<u8>> {
+    let word = identifier(rng, 6);
+    let mut words = vec![word.clone(), identifier(rng, 6), identifier(rng, 2), b"_".to_vec()];
+    words.push(word.iter().map(|b| b.to_ascii_uppercase()).collect());
+    if word.len() > 1 {
+        words.push(word[..word.len() - 1].to_vec());
+    }
+    if word.len() < MAX_IDENTIFIER {
+        words.push([&word[..], b"0"].concat());
+    }
+    if rng.percent(20) {
+        let mut long = vec![b'x'; MAX_IDENTIFIER];
+        words.push(long.clone());
+        long[MAX_IDENTIFIER - 1] = b'y';
+        words.push(long);
+    }
+    words
+}
+
+/// Interfaces that inherit from one another over several levels, with few words for the names of
+/// all methods and constants; chains that end and chains that meet an unresolved entry.
+pub fn family(rng: &mut Rng) -> Typelib {
+    let size = Size { entries: 0, methods: 4, arguments: 2, constants: 3, name: 6 };
+    let minor = u8::from(rng.percent(70));
+    let n = rng.range(1, 16);
+    let zeros = if rng.percent(60) { 0 } else { rng.range(0, n / 2) };
+    let incomplete = if rng.percent(40) { 0 } else { 25 };
+    let mut lib = layout(rng, minor);
+    let words = [near_words(rng), near_words(rng)].concat();
+    let (names, spaces) = (near_words(rng), near_words(rng));
+
+    let ids = iids(rng, n - zeros);
+    let mut keys = HashSet::new();
+    let mut descriptors = 0;
+    for i in 0..n {
+        let key = loop {
+            let namespace = rng.percent(60).then(|| rng.pick(&spaces).clone());
+            let name = if rng.percent(10) { identifier(rng, 6) } else { rng.pick(&names).clone() };
+            let key = (namespace, name);
+            if keys.insert(key.clone()) {
+                break key;
+            }
+        };
+        let iid = if i < zeros { [0; 16] } else { ids[i - zeros] };
+        let mut descriptor = None;
+        if i >= zeros && rng.percent(90) {
+            if descriptors == 0 || rng.percent(92) {
+                descriptors += 1;
+                descriptor = Some(descriptors - 1);
+            } else {
+                descriptor = Some(rng.below(descriptors));
+            }
+        }
+        lib.entries.push(Entry { iid, name: key.1, namespace: key.0, descriptor });
+    }
+    let mut renumbered: Vec<usize> = (0..descriptors).collect();
+    rng.shuffle(&mut renumbered);
+    for entry in &mut lib.entries {
+        entry.descriptor = entry.descriptor.map(|d| renumbered[d]);
+    }
+    // The parent: unresolved, the next lower descriptor or any lower one, so that chains end.
+    for d in 0..descriptors {
+        let those = |may_be: &dyn Fn(Option<usize>) -> bool| -> Vec<usize> {
+            (1..=n).filter(|i| may_be(lib.entries[i - 1].descriptor)).collect()
+        };
+        let candidates = match rng.below(100) {
+            0..4 => Vec::new(),
+            kind if kind < 4 + incomplete => those(&|other| other.is_none()),
+            kind if kind < 85 => those(&|other| other.is_some_and(|other| other + 1 == d)),
+            _ => those(&|other| other.is_some_and(|other| other < d)),
+        };
+        let parent = if candidates.is_empty() { 0 } else { *rng.pick(&candidates) as u16 };
         lib.descriptors.push(descriptor(rng, minor, n, size, &words, parent));
     }
     lib

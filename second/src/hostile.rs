@@ -14,7 +14,7 @@ pub struct Case {
 
 pub fn cases() -> Vec<Case> {
     let all = [
-        ("a: 1,024 entries share one descriptor", shared_descriptor()),
+        ("a: 1,024 entries share one descriptor", shared_descriptor(false)),
         ("b: arrays whose numbers name the last argument", deep_arguments()),
         ("c: getters and setters of nearly one name", near_names()),
         ("d: descriptors that overlap, long methods", overlapping(true)),
@@ -23,6 +23,7 @@ pub fn cases() -> Vec<Case> {
         ("f: keys with a long common start", near_keys()),
         ("g: an ordinary file", ordinary()),
         ("h: descriptors that overlap, accessors", overlapping(false)),
+        ("i: 240,000 references to a key of 510 bytes", shared_descriptor(true)),
     ];
     let case = |(name, bytes): (&'static str, Vec<u8>)| {
         let n = usize::from(u16::from_be_bytes([bytes[18], bytes[19]]));
@@ -41,8 +42,9 @@ fn long_name(number: usize) -> Vec<u8> {
     name
 }
 
-/// (a) One descriptor of nearly the whole file, for every entry.
-fn shared_descriptor() -> Vec<u8> {
+/// (a) and (i) One descriptor of nearly the whole file, for every entry. It refers to the last,
+/// whose key is as long as can be in (i).
+fn shared_descriptor(long_key: bool) -> Vec<u8> {
     let argument = Parameter::new(IN, Type::with(POINTER | INTERFACE, [4, 0, 0]));
     let result = Parameter::new(0, Type::simple(VOID));
     let method = Method::new(0, b"m", vec![argument; 242], result);
@@ -55,6 +57,10 @@ fn shared_descriptor() -> Vec<u8> {
     lib.sharing = Sharing::Equal;
     lib.add(d);
     lib.entries.iter_mut().for_each(|entry| entry.descriptor = Some(0));
+    if long_key {
+        lib.entries[MAX_INTERFACES - 1].name = long_name(0);
+        lib.entries[MAX_INTERFACES - 1].namespace = Some(long_name(1));
+    }
     lib.bytes()
 }
 
@@ -139,6 +145,26 @@ fn overlapping(long: bool) -> Vec<u8> {
         bytes[built.entry(i) + 24..][..4].copy_from_slice(&pointer.to_be_bytes());
     }
     bytes
+}
+
+/// A file of at most 50 KB whose listing has 540 KB for each entry: the entries share a
+/// descriptor, whose methods and constants share a name of the greatest length.
+pub fn long_listing(count: usize) -> Vec<u8> {
+    let d = Descriptor {
+        methods: vec![Method::plain(0, &long_name(0)); MAX_METHODS],
+        constants: vec![Constant::new(&long_name(0), 1, 0x8000); MAX_CONSTANTS],
+        ..Descriptor::default()
+    };
+    let mut lib = Typelib { entries: entries(count), ..Typelib::default() };
+    lib.sharing = Sharing::Equal;
+    lib.add(d);
+    lib.entries.iter_mut().for_each(|entry| entry.descriptor = Some(0));
+    lib.bytes()
+}
+
+/// Chains of 1,024 parents, upward and downward.
+pub fn chains() -> [Vec<u8>; 2] {
+    [chain(true), chain(false)]
 }
 
 /// (e) Each entry is the parent of the one before it, or after it.

@@ -1,17 +1,58 @@
-//! A second, independent program for document 01: the check of a typelib, and what compares it
-//! with the first.
+//! A second, independent program for document 01: the check of a typelib, its questions, listing,
+//! normal form and links, and what compares them with the first.
 
+pub mod accepted;
+pub mod asking;
 pub mod builder;
 pub mod check;
 pub mod coverage;
 pub mod damage;
 pub mod generate;
 pub mod hostile;
+pub mod link;
 #[cfg(feature = "linked")]
 pub mod linked;
+pub mod linking;
+pub mod listed;
+pub mod listing;
+pub mod model;
+pub mod normal;
+pub mod pairs;
+pub mod questions;
 pub mod rng;
+pub mod tally;
 
 /// What a check answers.
 pub type Answer = Result<usize, check::Refusal>;
 
 pub type Check = fn(&[u8]) -> Answer;
+
+/// What a run is asked for on the command line: names of parts, none for all, and a seed.
+pub struct Chosen {
+    parts: Vec<String>,
+    pub seed: u64,
+}
+
+impl Chosen {
+    const SEED: u64 = 2;
+
+    /// Ends the program where a part is not known.
+    pub fn from_arguments(known: &[&str]) -> Chosen {
+        let mut chosen = Chosen { parts: Vec::new(), seed: Chosen::SEED };
+        for argument in std::env::args().skip(1) {
+            match argument.parse() {
+                Ok(seed) => chosen.seed = seed,
+                Err(_) if known.contains(&&*argument) => chosen.parts.push(argument),
+                Err(_) => {
+                    eprintln!("{argument} is none of: {}, or a seed", known.join(", "));
+                    std::process::exit(2);
+                }
+            }
+        }
+        chosen
+    }
+
+    pub fn has(&self, part: &str) -> bool {
+        self.parts.is_empty() || self.parts.iter().any(|chosen| chosen == part)
+    }
+}

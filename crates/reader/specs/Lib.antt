@@ -1,1 +1,5 @@
+pub mod Values
+pub mod Records
+pub mod Rules
+pub mod Layout
 pub mod Reader

@@ -6,6 +6,7 @@ use Rattle.reading.specs.Got.{Got}
 use Rattle.typelib.specs.Typelib.{Typelib, readTypelib, verdictOf}
 use Rattle.reading.specs.declared.Verdict.{Verdict}
 pub mod Laws
+pub mod Chains
 pub mod Marked
 
 -- what a file says, or its refusal

@@ -2,8 +2,8 @@
 -- Assumes nothing.
 use native.Mathlib.Omega.{arith}
 use mathlib.Core.Path.{sym, _∙_}
-use Rattle.cabi.proofs.Laws.{no-room, writes-count, writes-refusal}
 use borrow.Author.Needs.{needs}
+use Rattle.cabi.proofs.Laws.{no-room, writes-count, writes-refusal}
 use Rattle.cabi.proofs.saniotka_check.Statement.{statement}
 use Rattle.cabi.proofs.saniotka_check.Tie as tie
 

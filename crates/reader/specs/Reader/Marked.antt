@@ -1,10 +1,10 @@
--- Document 01, "Marked cases" P1 to P11, as one table, proved by one claim.
+-- Document 01, "Marked cases" P1 to P11, and the second file of P13, as one table, proved by one claim.
 -- Assumes nothing.
 use mathlib.Core.Path.{_≡_, refl, ap}
 use mathlib.Core.List.{List, [], _∷_, _++_, map}
 use mathlib.Core.Option.{none, some}
 use Prim.Native.Nat.{ℕ}
-use lib.ListN.{take, set}
+use lib.ListN.{getD, take, set}
 use Rattle.number.specs.Choice.{if_then_else_, _<?_, _≤?_, _=?_, _≠?_}
 use Rattle.number.specs.Number.{be}
 use Rattle.number.specs.Scan.{scan, some as one, tally}
@@ -33,13 +33,13 @@ use Rattle.reader.specs.Reader.{decode, checkOf}
 
 -- ---- the files
 
-pub P1 : List ℕ
+unfoldable pub P1 : List ℕ
 P1 =
     magic
     ++ (0x01 ∷ 0x01 ∷ 0x00 ∷ 0x00 ∷ 0x00 ∷ 0x00 ∷ 0x00 ∷ 0x24 ∷ 0x00 ∷ 0x00 ∷ 0x00 ∷ 0x00 ∷ 0x00 ∷ 0x00 ∷ 0x00 ∷ 0x24 ∷ [])
     ++ (0x80 ∷ 0x00 ∷ 0x00 ∷ 0x00 ∷ [])
 
-pub P2 : List ℕ
+unfoldable pub P2 : List ℕ
 P2 =
     magic
     ++ (0x01 ∷ 0x01 ∷ 0x00 ∷ 0x01 ∷ 0x00 ∷ 0x00 ∷ 0x00 ∷ 0x45 ∷ 0x00 ∷ 0x00 ∷ 0x00 ∷ 0x24 ∷ 0x00 ∷ 0x00 ∷ 0x00 ∷ 0x40 ∷ [])
@@ -48,7 +48,7 @@ P2 =
     ++ (0x00 ∷ 0x00 ∷ 0x00 ∷ 0x01 ∷ 0x00 ∷ 0x00 ∷ 0x00 ∷ 0x00 ∷ 0x00 ∷ 0x00 ∷ 0x00 ∷ 0x00 ∷ [])
     ++ (0x54 ∷ 0x61 ∷ 0x6e ∷ 0x6b ∷ 0x00 ∷ [])
 
-pub P3 : List ℕ
+unfoldable pub P3 : List ℕ
 P3 =
     magic
     ++ (0x01 ∷ 0x01 ∷ 0x00 ∷ 0x01 ∷ 0x00 ∷ 0x00 ∷ 0x00 ∷ 0x52 ∷ 0x00 ∷ 0x00 ∷ 0x00 ∷ 0x24 ∷ 0x00 ∷ 0x00 ∷ 0x00 ∷ 0x40 ∷ [])
@@ -89,20 +89,30 @@ P10 = set P3 79 0x81
 pub P11 : List ℕ
 P11 = set P3 51 0
 
+-- P3 whose value is fffd
+unfoldable pub P13 : List ℕ
+P13 = set P3 78 0xfd
+
 -- ---- what they say
 
 -- n = 0; the annotation is tag 0, marked last
-pub says1 : Typelib
+unfoldable pub says1 : Typelib
 says1 = typelib (record { minor = 1; count = 0; directory = 0; pool = 36 }) (empty ∷ []) []
 
-pub says2 : Typelib
+unfoldable pub says2 : Typelib
 says2 = typelib (record { minor = 1; count = 1; directory = 36; pool = 64 }) (empty ∷ []) (entry (key [] (0x54 ∷ 0x61 ∷ 0x6e ∷ 0x6b ∷ [])) 0 none ∷ [])
 
 -- an interface A of IID 1, without parent or methods, scriptable, with the constant K of type 1 and value fffe
-pub says3 : Typelib
+unfoldable pub says3 : Typelib
 says3 =
     typelib (record { minor = 1; count = 1; directory = 36; pool = 64 }) (empty ∷ [])
     (entry (key [] (0x41 ∷ [])) 1 (some (descriptor none [] (constant (0x4b ∷ []) 1 0xfffe ∷ []) 0x80)) ∷ [])
+
+-- the same with the value fffd
+unfoldable pub says13 : Typelib
+says13 =
+    typelib (record { minor = 1; count = 1; directory = 36; pool = 64 }) (empty ∷ [])
+    (entry (key [] (0x41 ∷ [])) 1 (some (descriptor none [] (constant (0x4b ∷ []) 1 0xfffd ∷ []) 0x80)) ∷ [])
 
 -- ---- the table
 
@@ -111,7 +121,7 @@ pub record Case : Type 0 where
   pub file : List ℕ
   pub decoded : Got Typelib
 
-pub table : List Case
+unfoldable pub table : List Case
 table =
     record { file = P1; decoded = got says1 36 }
     ∷ record { file = P2; decoded = got says2 69 }
@@ -124,17 +134,40 @@ table =
     ∷ record { file = P9; decoded = bad 16 76 }
     ∷ record { file = P10; decoded = bad 14 79 }
     ∷ record { file = P11; decoded = bad 12 60 }
+    ∷ record { file = P13; decoded = got says13 82 }
     ∷ []
 
 pub marked : map (λ (c : Case). decode (c .file)) table ≡ map (λ (c : Case). c .decoded) table
-unfolding table P1 P2 P3 P4 P5 P6 P7 P8 P9 P10 P11 says1 says2 says3 decode if_then_else_ _<?_ _≤?_ _=?_ _≠?_ be scan one tally part next many byte field zeroByte wordEnd wordAt compareWords isSame sameWord thenBy compareKeys sameKey sameAs firstSame letter letters isIdentifier readIdentifier follow followSpace readName offMagic magicEnd unknownMinor lengthFault misplacedPool misplacedDirectory readPositions readFields readHeader offAscii asciiEnd readText readBody readAnnotation annotationsWithin readAnnotations annotationLimit falls outOfOrder lacksIid readRow readDirectory prefix classOf isReserved needsPointer lacksPointer readIndex readRest typeWith readArray readType paramFlags paramType reservedParam wrongParam readParam prefixes wrongIid wrongSize wrongSizes wrongNumbers wrongArguments wrongResult methodFlags methodName ruleSignature readSignature readMethod noMethod valueSize readConstant isConstructor manyConstructors isGetter isSetter strayPair strayGetter strayPairs parentOf indexed readParent readCounted reservedInterface readFlags flagsIn namesIn readDescriptor entryKey entryDescriptor readOwn entriesOf noEntry keysIn descriptorIn repeated firstRepeated parentIndex above aboveIn chainEnds circles firstCircling readAcross poolOf contextOf readListed readFront readDescriptors headerOf readBehind readTypelib verdictOf
+unfolding table P1 P2 P3 P4 P5 P6 P7 P8 P9 P10 P11 P13 says1 says2 says3 says13 decode if_then_else_ _<?_ _≤?_ _=?_ _≠?_ be scan one tally part next many byte field zeroByte wordEnd wordAt compareWords isSame sameWord thenBy compareKeys sameKey sameAs firstSame letter letters isIdentifier readIdentifier follow followSpace readName offMagic magicEnd unknownMinor lengthFault misplacedPool misplacedDirectory readPositions readFields readHeader offAscii asciiEnd readText readBody readAnnotation annotationsWithin readAnnotations annotationLimit falls outOfOrder lacksIid readRow readDirectory prefix classOf isReserved needsPointer lacksPointer readIndex readRest typeWith readArray readType paramFlags paramType reservedParam wrongParam readParam prefixes wrongIid wrongSize wrongSizes wrongNumbers wrongArguments wrongResult methodFlags methodName ruleSignature readSignature readMethod noMethod valueSize readConstant isConstructor manyConstructors isGetter isSetter strayPair strayGetter strayPairs parentOf indexed readParent readCounted reservedInterface readFlags flagsIn namesIn readDescriptor entryKey entryDescriptor readOwn entriesOf noEntry keysIn descriptorIn repeated firstRepeated parentIndex above aboveIn chainEnds circles firstCircling readAcross poolOf contextOf readListed readFront readDescriptors headerOf readBehind readTypelib verdictOf
 marked = refl
+
+-- what the k-th file of the table decodes to, counted from 0
+decodesTo : (k : ℕ) → getD (map (λ (c : Case). decode (c .file)) table) k (bad 0 0) ≡ getD (map (λ (c : Case). c .decoded) table) k (bad 0 0)
+decodesTo k = ap (λ (gs : List (Got Typelib)). getD gs k (bad 0 0)) marked
+
+pub decodes1 : decode P1 ≡ got says1 36
+unfolding table
+decodes1 = decodesTo 0
+
+pub decodes2 : decode P2 ≡ got says2 69
+unfolding table
+decodes2 = decodesTo 1
+
+pub decodes3 : decode P3 ≡ got says3 82
+unfolding table
+decodes3 = decodesTo 2
+
+pub decodes13 : decode P13 ≡ got says13 82
+unfolding table
+decodes13 = decodesTo 11
 
 -- the same as answers of the check
 abbrev refused : ℕ → ℕ → Verdict
 refused n q = Refused (record { no = n; place = q })
 
-pub answers : map (λ (c : Case). checkOf (c .file)) table
-    ≡ Accepted 0 ∷ Accepted 1 ∷ Accepted 1 ∷ refused 6 20 ∷ refused 5 17 ∷ refused 1 31 ∷ refused 19 36 ∷ refused 15 66 ∷ refused 16 76 ∷ refused 14 79 ∷ refused 12 60 ∷ []
-unfolding table says1 says2 says3 checkOf verdictOf headerOf
+unfoldable pub verdicts : List Verdict
+verdicts = Accepted 0 ∷ Accepted 1 ∷ Accepted 1 ∷ refused 6 20 ∷ refused 5 17 ∷ refused 1 31 ∷ refused 19 36 ∷ refused 15 66 ∷ refused 16 76 ∷ refused 14 79 ∷ refused 12 60 ∷ Accepted 1 ∷ []
+
+pub answers : map (λ (c : Case). checkOf (c .file)) table ≡ verdicts
+unfolding table verdicts says1 says2 says3 says13 checkOf verdictOf headerOf
 answers = ap (map verdictOf) marked

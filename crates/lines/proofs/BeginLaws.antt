@@ -1,0 +1,46 @@
+-- What is printed, by its first line.
+-- Assumes nothing.
+use mathlib.Core.Path.{_≡_, refl, sym, _∙_}
+use mathlib.Core.List.{List, [], _++_, append-nil}
+use Prim.Native.Nat.{ℕ, _≤_, _<_}
+use native.Mathlib.Omega.{arith}
+use lib.ListN.{length}
+use lib.Seq.{sets}
+use Rattle.number.proofs.Choice.{is-lt, no-lt}
+use Rattle.reading.specs.Got.{got}
+use Rattle.reading.specs.declared.Refusal.{Refusal}
+use Rattle.reading.specs.declared.Verdict.{Verdict}
+use Rattle.reading.specs.declared.Verdict.the-variants.{Accepted, Refused}
+use Rattle.text.specs.Line.{lineOf}
+use Rattle.reader.specs.declared.Layout.{Layout}
+use Rattle.reader.specs.Values.{Typelib, headerOf, entriesIn}
+use Rattle.reader.specs.Reader.{decode, checkOf}
+use Rattle.reader.specs.Reader.Laws.{refused-decodes}
+use Rattle.reader.specs.Layout.{LaidOut}
+use Rattle.lines.specs.Listing.{tooLong, entryLines, listingOf, printedOf}
+use Rattle.lines.specs.Writing.{Wrote}
+use Rattle.lines.specs.Cursor.{EntriesLeft}
+
+module _ (s : List ℕ) where
+  pub printed-long : 65536 < length s → printedOf s ≡ tooLong ++ []
+  unfolding printedOf
+  printed-long h = sym (is-lt _ _ _ _ h refl)
+
+  module _ (h : length s ≤ 65536) where
+    printed-listing : printedOf s ≡ listingOf (decode s)
+    unfolding printedOf
+    printed-listing = sym (no-lt _ _ _ _ h refl)
+
+    pub printed-refused : (x : Refusal) → checkOf s ≡ Refused x → printedOf s ≡ lineOf (Refused x) ++ []
+    unfolding listingOf
+    printed-refused x e = printed-listing ∙ rw (refused-decodes s e) (sym (append-nil (lineOf (Refused x))))
+
+    pub printed-accepted : (t : Typelib) (e n : ℕ) → decode s ≡ got t e → n ≡ headerOf t .count → printedOf s ≡ lineOf (Accepted n) ++ entryLines (entriesIn t) 1 (entriesIn t)
+    unfolding listingOf
+    printed-accepted t e n d c = printed-listing ∙ rw (d, c) refl
+
+pub entries-start : (s : List ℕ) (l : Layout) (t : Typelib) → LaidOut s l (entriesIn t) → EntriesLeft s l 0 (entryLines (entriesIn t) 1 (entriesIn t))
+entries-start s l t h = record { entries = entriesIn t; laid = h; few = omega arith; whole = refl }
+
+pub verdict-wrote : (l : List ℕ) (v x : Verdict) {r : ℕ} {l₁ : List ℕ} → v ≡ x → (r ≡ length (lineOf v)) × ((r ≤ 64) × (l₁ ≡ sets l 0 (lineOf v))) → Wrote l 0 (lineOf x) r l₁
+verdict-wrote l v x e h = rw (← e) (record { next = omega (arith, h .0); stored = h .1 .1 })

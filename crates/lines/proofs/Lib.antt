@@ -1,0 +1,11 @@
+pub mod WritingLaws
+pub mod WordLaws
+pub mod ValueLaws
+pub mod LineLaws
+pub mod OwnLaws
+pub mod SlotLaws
+pub mod PieceLaws
+pub mod FillLaws
+pub mod BeginLaws
+pub mod PrintLaws
+pub mod Examples

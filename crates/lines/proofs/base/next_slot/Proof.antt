@@ -1,0 +1,28 @@
+-- `lines::base::next_slot` meets its contract, by each of the two slots.
+-- Assumes nothing.
+use Rattle.number.proofs.Tools.{ap, arith, needs}
+use Rattle.lookup.specs.Question.{slotNumber}
+use Rattle.lines.proofs.SlotLaws.{slot-more, slot-unknown}
+use Rattle.lines.proofs.base.next_slot.Statement.{statement}
+use Rattle.lines.proofs.base.next_slot.Tie as tie
+
+add-t5 : tie.Need-add-t5
+unfolding slotNumber
+add-t5 c = omega (arith, ap slotNumber (c .before .slot .given .1))
+
+returns : tie.Need-returns
+unfolding slotNumber
+returns c =
+    let a = c .before .before .before .args in
+    let v = c .before .slot .given in
+    (λ above p e. slot-more (a .slot) above p (v .0 .0) e (v .1), omega (arith, ap slotNumber (v .1)))
+
+returns-2 : tie.Need-returns-2
+unfolding slotNumber
+returns-2 c =
+    let a = c .before .before .before .args in
+    let v = c .before .slot2 .given in
+    (λ above p e. slot-unknown (a .slot) above p (v .0 .0) e (v .1), omega arith)
+
+pub next-slot-spec : {M : Type 1} → statement M
+next-slot-spec = tie.close (tie.spec (λ c. search needs) add-t5 (λ c. search needs) returns returns-2)

@@ -1,0 +1,4 @@
+pub mod Listing
+pub mod Writing
+pub mod Cursor
+pub mod Marked

@@ -1,0 +1,35 @@
+-- What a writer into a lent buffer promises.
+-- Assumes nothing.
+use mathlib.Core.Path.{_≡_}
+use mathlib.Core.List.{List}
+use Prim.Native.Nat.{ℕ, _+_, _≤_}
+use lib.ListN.{length}
+use lib.Seq.{sets}
+use Rattle.reader.specs.Values.{Method, methodName, Constant, constantName}
+use Rattle.reader.specs.Records.{ShowsMethod, ShowsConstant}
+use Rattle.reader.specs.Rules.{Identifier}
+
+-- the bytes were stored from `at` on, nothing else was changed, and r is the place after them
+pub record Wrote (before : List ℕ) (at : ℕ) (bytes : List ℕ) (r : ℕ) (after : List ℕ) : Type 0 where
+  pub next : r ≡ at + length bytes
+  pub stored : after ≡ sets before at bytes
+
+-- so many bytes from `at` on lie in the buffer
+abbrev pub Room : List ℕ → ℕ → ℕ → Type 0
+Room out at n = at + n ≤ length out
+
+-- no file is longer than this, nor its pool
+abbrev pub Small : List ℕ → Type 0
+Small pool = length pool ≤ 1048576
+
+-- ---- records that are shown, with a name that is an identifier
+
+abbrev pub NamedMethod : List ℕ → ℕ → Method ℕ → ℕ → Type 0
+NamedMethod pool p m e = ShowsMethod pool p m e × Identifier (methodName m)
+
+abbrev pub NamedConstant : List ℕ → ℕ → Constant → ℕ → Type 0
+NamedConstant pool p x e = ShowsConstant pool p x e × Identifier (constantName x)
+
+-- for each record that is shown, its line, which f gives, was written
+pub record WroteOf {X : Type 0} (P : X → ℕ → Type 0) (f : X → List ℕ) (before : List ℕ) (at r : ℕ) (after : List ℕ) : Type 0 where
+  pub each : (x : X) (e : ℕ) → P x e → Wrote before at (f x) r after

@@ -1,0 +1,135 @@
+// The listing of a typelib, made piece by piece into a lent buffer: it can be far longer than the file.
+mod base;
+mod line;
+mod pieces;
+mod value;
+mod word;
+
+use lookup::Slot;
+use reader::Layout;
+use reader::Verdict;
+ghost use mathlib.Core.Path.{_≡_};
+ghost use Prim.Native.Nat.{_≤_};
+ghost use lib.ListN.{length, drop};
+ghost use Rattle.lines.specs.Cursor.{Begun, isDone, Filling, Starting};
+
+// Where the methods of an entry, counted from 0, go on: how many are left, the place of the next in the pool, and its slot.
+pub struct MethodsAt {
+    pub entry: usize,
+    pub left: usize,
+    pub at: usize,
+    pub slot: Slot,
+}
+
+// Where its constants go on.
+pub struct ConstantsAt {
+    pub entry: usize,
+    pub left: usize,
+    pub at: usize,
+}
+
+// What is to be printed next: nothing, the entry of this number, counted from 0, or what stands under one.
+pub enum Cursor {
+    Done,
+    AtEntry(usize),
+    AtMethods(MethodsAt),
+    AtConstants(ConstantsAt),
+}
+
+// The place after what was written, and what is to be printed next.
+pub struct Piece {
+    pub at: usize,
+    pub cursor: Cursor,
+}
+
+// How many bytes of the buffer were filled, and what is to be printed next.
+pub struct Filled {
+    pub length: usize,
+    pub cursor: Cursor,
+}
+
+// The length of the first line, the layout of the file, and what is to be printed next.
+pub struct Start {
+    pub length: usize,
+    pub layout: Layout,
+    pub cursor: Cursor,
+}
+
+// Whether all was printed.
+pub fn is_done(c: Cursor) -> bool
+    ensures { λ r. ⌜ r ≡ isDone c ⌝ }
+{
+    match c {
+        Cursor::Done => true,
+        Cursor::AtEntry(_) => false,
+        Cursor::AtMethods(_) => false,
+        Cursor::AtConstants(_) => false,
+    }
+}
+
+// Pieces while there is room for one.
+fn fill_from(file: &[u8], pool: &[u8], l: Layout, first: Cursor, out: &mut [u8]) -> Filled
+    requires { ⌜ Begun (now file) l first × ((now pool ≡ drop (l .pool) (now file)) × (1024 ≤ length (now out))) ⌝ }
+    ensures { λ r. ⌜ Filling (now (file .entry)) l first (now (out .entry)) r (now (out .exit)) ⌝ }
+{
+    let mut c = first;
+    let mut at: usize = 0;
+    while 1024 <= out.len() - at {
+        if is_done(c) {
+            return Filled {
+                length: at,
+                cursor: c,
+            };
+        }
+        let p = pieces::put_piece(file, pool, l, c, out, at);
+        at = p.at;
+        c = p.cursor;
+    }
+    Filled {
+        length: at,
+        cursor: c,
+    }
+}
+
+// The next lines of the listing, as many as are sure to fit.
+pub fn fill(file: &[u8], l: Layout, c: Cursor, out: &mut [u8]) -> Filled
+    requires { ⌜ Begun (now file) l c × (1024 ≤ length (now out)) ⌝ }
+    ensures { λ r. ⌜ Filling (now (file .entry)) l c (now (out .entry)) r (now (out .exit)) ⌝ }
+{
+    let at = l.pool;
+    let pool = &file[at..];
+    fill_from(file, pool, l, c, out)
+}
+
+// The first line, and where the rest of the listing starts; nothing is left of a file that was refused, or is too long to list.
+pub fn begin(file: &[u8], line: &mut [u8; 64]) -> Start
+    ensures { λ r. ⌜ Starting (now (file .entry)) (now (line .entry)) r (now (line .exit)) ⌝ }
+{
+    let none = Layout {
+        count: 0,
+        directory: 0,
+        pool: 0,
+    };
+    if 65536 < file.len() {
+        let length = text::put_bytes(line, 0, b"input too long\n");
+        return Start {
+            length,
+            layout: none,
+            cursor: Cursor::Done,
+        };
+    }
+    let v = reader::check(file);
+    let length = text::put_verdict(v, line);
+    match v {
+        Verdict::Accepted(_) => Start {
+            length,
+            layout: reader::layout_of(file),
+            cursor: Cursor::AtEntry(0),
+        },
+        Verdict::Refused(_) => Start {
+            length,
+            layout: none,
+            cursor: Cursor::Done,
+        },
+    }
+}

@@ -1,0 +1,44 @@
+-- Document 01, "Marked cases": P1 to P3 are each their own normal form; P12 and P13.
+-- Assumes nothing.
+use mathlib.Core.Path.{_≡_, refl}
+use native.Mathlib.Decide.{ℕ-discrete}
+use Rattle.number.specs.Choice.{if_then_else_, _<?_, _=?_}
+use Rattle.number.specs.Scan.{scan, some as one}
+use Rattle.key.specs.Word.{compareWords, isSame}
+use Rattle.key.specs.Key.{thenBy, compareKeys, sameKey}
+use Rattle.reader.specs.Values.{entriesIn, parentOf, entryKey}
+use Rattle.reader.specs.Reader.{decode}
+use Rattle.reader.specs.Reader.Marked.{P1, P2, P3, P13, says1, says2, says3, says13, decodes1, decodes2, decodes3, decodes13}
+use Rattle.meaning.specs.Meaning.{mapParent, mapDescriptor, mapOwn, mapEntry, meaning}
+use Rattle.meaning.specs.Index.{keysOf, indexOf}
+use Rattle.facts.specs.Equal.{cons?, list?, some?, option?, word?, key?, param?, method?, descriptor?, decided, sameDescriptor}
+use Rattle.facts.specs.Facts.{prepend, said, saysIid, saysDescriptor}
+use Rattle.facts.specs.Union.{valuesOf, firstOf, orZero, iidIn, descriptorFor, compareNumbers, compareBy, beside, insert, sort, entryFor, union}
+use Rattle.facts.specs.Conditions.{anyOf, differ, twoIids, sharesWith, sharedIid, twoDescriptors, parentFrom, parentIn, climb, isSome, endless}
+use Rattle.facts.specs.Valid.{blank, entryAt}
+use Rattle.facts.specs.Link.{suchAt, anySuch, firstSuch, linkBoth, linkEntries, normalEntries}
+use Rattle.normal.specs.BigEndian.{bytesOf}
+use Rattle.normal.specs.Size.{sum, valueWidth, constantSize, descriptorSize, nameSize, methodNameSize, constantName, constantNameSize, namesSize, spaceSize, ownSize, entrySize, entryLength, normalLength}
+use Rattle.normal.specs.Record.{run, nameAfter, methodsBytes, constantBytes, constantsBytes, parentNumber, constantsFrom, descriptorBytes, nameBytes, constantNameBytes, namesBytes}
+use Rattle.normal.specs.Normal.{spaceFrom, ownFrom, namesFrom, spaceBytes, ownBytes, entryPool, poolBytes, spacePointer, ownPointer, entryBytes, directoryBytes, minorOf, normalHeader, headerBytes, noteBytes, fileBytes, normalForm}
+use Rattle.link.specs.declared.Which.the-variants.{Union}
+use Rattle.link.specs.Outcome.{refused, written, refusalOf, encoded, normalOf, linkOf}
+
+pub record Marked : Type 0 where
+  pub own1 : normalOf (decode P1) ≡ written P1
+  pub own2 : normalOf (decode P2) ≡ written P2
+  pub own3 : normalOf (decode P3) ≡ written P3
+  -- P12, P1 linked with P3: P3
+  pub linked12 : linkOf (decode P1) (decode P3) ≡ written P3
+  -- P13, P3 linked with P3 whose value is fffd: 23 at 1
+  pub linked13 : linkOf (decode P3) (decode P13) ≡ refused (refusalOf Union 23 1)
+
+pub marked : Marked
+unfolding P1 P2 P3 says1 says2 says3 says13 encoded normalOf linkOf entriesIn mapParent mapDescriptor mapOwn mapEntry meaning normalEntries linkEntries linkBoth anySuch firstSuch suchAt one scan if_then_else_ _<?_ _=?_ compareWords isSame thenBy compareKeys sameKey parentOf entryKey cons? list? some? option? word? key? param? method? descriptor? decided sameDescriptor prepend said saysIid saysDescriptor valuesOf firstOf orZero iidIn descriptorFor compareNumbers compareBy beside insert sort entryFor union anyOf differ twoIids sharesWith sharedIid twoDescriptors parentFrom parentIn climb isSome endless blank entryAt ℕ-discrete keysOf indexOf bytesOf sum valueWidth constantSize descriptorSize nameSize methodNameSize constantName constantNameSize namesSize spaceSize ownSize entrySize entryLength normalLength run nameAfter methodsBytes constantBytes constantsBytes parentNumber constantsFrom descriptorBytes nameBytes constantNameBytes namesBytes spaceFrom ownFrom namesFrom spaceBytes ownBytes entryPool poolBytes spacePointer ownPointer entryBytes directoryBytes minorOf normalHeader headerBytes noteBytes fileBytes normalForm
+marked = record {
+  own1 = rw decodes1 refl;
+  own2 = rw decodes2 refl;
+  own3 = rw decodes3 refl;
+  linked12 = rw (decodes1, decodes3) refl;
+  linked13 = rw (decodes3, decodes13) refl;
+}

@@ -1,0 +1,11 @@
+pub mod ChainLaws
+pub mod MethodLaws
+pub mod ConstantLaws
+pub mod InterfaceLaws
+pub mod Entries
+pub mod Walks
+pub mod MethodWalks
+pub mod ConstantWalks
+pub mod Width
+pub mod Asks
+pub mod Answers

@@ -1,0 +1,5 @@
+pub mod Chain
+pub mod Method
+pub mod Constant
+pub mod Question
+pub mod Holding

@@ -1,0 +1,4 @@
+pub mod Meaning
+pub mod Refs
+pub mod Index
+pub mod Chain

@@ -1,0 +1,119 @@
+-- P1, P2 and P3 meet what read-back asks, so each is accepted with the meaning whose normal form it is.
+-- Assumes nothing.
+use mathlib.Core.Path.{_≡_, refl, sym}
+use mathlib.Core.Logic.{inl, inr}
+use mathlib.Core.List.{List, [], _∷_}
+use mathlib.Core.Option.{none, some}
+use Prim.Native.Nat.{ℕ, zero, suc, _^_, _≤_}
+use native.Mathlib.Bridge.{le-by-compare, IsLe}
+use native.Mathlib.Omega.{arith}
+use lib.ListN.{length, getD}
+use Rattle.number.specs.Choice.{if_then_else_, _=?_}
+use Rattle.key.specs.Key.{Key}
+use Rattle.reading.specs.Got.{got}
+use Rattle.reader.specs.Values.{parentOf, Entry}
+use Rattle.reader.specs.Rules.{Identifier, InOrder, UniqueKeys}
+use Rattle.reader.specs.Reader.{decode}
+use Rattle.meaning.specs.Meaning.{mapParent, mapDescriptor, mapOwn, mapEntry}
+use Rattle.meaning.specs.Index.{renumbered}
+use Rattle.meaning.specs.Chain.{parentRef}
+use Rattle.meaning.proofs.Indexes.{length-renumbered}
+use Rattle.meaning.proofs.Chains.{chains-end}
+use Rattle.normal.specs.Size.{sum, valueWidth, constantSize, descriptorSize, nameSize, methodNameSize, constantName, constantNameSize, namesSize, spaceSize, ownSize, entrySize, entryLength, normalLength}
+use Rattle.normal.specs.Normal.{normalTypelib}
+use Rattle.normal.specs.Encodable.{Sound, Encodable, Readable}
+use Rattle.normal.proofs.Back.{read-back}
+use Rattle.normal.proofs.Examples.{P1, P2, P3, tank, withConstant, marked}
+
+-- ---- at most one entry, without parent
+
+module _ (us : List (Entry Key)) (few : length us ≤ 1) where
+  order-one : InOrder (renumbered us)
+  order-one i j l m = absurd (omega (arith, length-renumbered us))
+
+  keys-one : UniqueKeys (renumbered us)
+  keys-one i j l m e = absurd (omega (arith, length-renumbered us))
+
+  readable-one : (d : Entry Key) → ((i : ℕ) → parentRef (getD us i d) ≡ none) → Encodable us → Readable us
+  readable-one d e enc = record {
+    encodable = enc;
+    order = order-one;
+    keys = keys-one;
+    chains = chains-end us (enc .closed) (λ _. none) d (λ i l. sym (e i)) (λ i l. (0, rw (e i) tt));
+  }
+
+-- ---- the three meanings
+
+readable-none : Readable []
+unfolding normalLength sum tank parentRef
+readable-none = readable-one [] (omega arith) tank (λ i. refl) (record { few = omega arith; short = omega arith; each = tt; closed = tt })
+
+sound-tank : Sound tank
+unfolding tank mapEntry mapOwn IsLe
+sound-tank = record {
+  rule = (
+    record {
+      some = omega arith;
+      few = omega arith;
+      letters = (inr (inl (omega arith, omega arith)), (inr (inr (inr (omega arith, omega arith))), (inr (inr (inr (omega arith, omega arith))), (inr (inr (inr (omega arith, omega arith))), tt))));
+    },
+    inl refl,
+    tt,
+  );
+  ranged = (le-by-compare 1 (256 ^ 16) tt, tt);
+}
+
+readable-tank : Readable (tank ∷ [])
+unfolding tank parentRef normalLength sum entryLength entrySize nameSize spaceSize ownSize
+readable-tank = readable-one (tank ∷ []) (omega arith) tank parents (record { few = omega arith; short = omega arith; each = (sound-tank, tt); closed = (tt, tt) })
+  where
+    parents : (i : ℕ) → parentRef (getD (tank ∷ []) i tank) ≡ none
+    parents zero = refl
+    parents (suc i) = refl
+
+-- one upper-case letter
+letter-word : (b : ℕ) → 65 ≤ b → b ≤ 90 → Identifier (b ∷ [])
+letter-word b l m = record { some = omega arith; few = omega arith; letters = (inr (inl (l, m)), tt) }
+
+sound-constant : Sound withConstant
+unfolding withConstant mapEntry mapOwn mapDescriptor mapParent valueWidth if_then_else_ _=?_ IsLe
+sound-constant = record {
+  rule = (
+    letter-word 0x41 (omega arith) (omega arith),
+    inl refl,
+    (
+      λ e. omega arith,
+      record {
+        parent = tt;
+        fewMethods = omega arith;
+        methods = tt;
+        fewConstants = omega arith;
+        constants = ((letter-word 0x4b (omega arith) (omega arith), inl refl), tt);
+        reserved = refl;
+        function = λ z. refl;
+        constructors = λ i j l m x y. absurd (omega arith);
+        pairs = λ i j l m x y q. absurd (omega arith);
+      },
+    ),
+  );
+  ranged = (le-by-compare 2 (256 ^ 16) tt, (tt, (le-by-compare 0xffff 65536 tt, tt), omega arith));
+}
+
+readable-constant : Readable (withConstant ∷ [])
+unfolding withConstant parentRef parentOf normalLength sum entryLength entrySize nameSize spaceSize ownSize descriptorSize constantSize valueWidth namesSize methodNameSize constantNameSize constantName if_then_else_ _=?_
+readable-constant = readable-one (withConstant ∷ []) (omega arith) withConstant parents (record { few = omega arith; short = omega arith; each = (sound-constant, tt); closed = ((tt, tt), tt) })
+  where
+    parents : (i : ℕ) → parentRef (getD (withConstant ∷ []) i withConstant) ≡ none
+    parents zero = refl
+    parents (suc i) = refl
+
+-- ---- read back
+
+pub read-none : decode P1 ≡ got (normalTypelib []) (length P1)
+read-none = rw (← marked .0) (read-back [] readable-none)
+
+pub read-tank : decode P2 ≡ got (normalTypelib (tank ∷ [])) (length P2)
+read-tank = rw (← marked .1) (read-back (tank ∷ []) readable-tank)
+
+pub read-constant : decode P3 ≡ got (normalTypelib (withConstant ∷ [])) (length P3)
+read-constant = rw (← marked .2) (read-back (withConstant ∷ []) readable-constant)

@@ -1,0 +1,51 @@
+-- Document 01, "Marked cases": P1, P2 and P3 are the normal forms of their meanings.
+-- Assumes nothing.
+use mathlib.Core.Path.{_≡_, refl}
+use mathlib.Core.List.{List, [], _∷_, _++_}
+use mathlib.Core.Option.{none, some}
+use Prim.Native.Nat.{ℕ}
+use Rattle.number.specs.Choice.{if_then_else_, _=?_}
+use Rattle.key.specs.Key.{Key, key}
+use Rattle.reader.specs.Values.{constant, descriptor, Entry, entry}
+use Rattle.reader.specs.Records.{magic}
+use Rattle.meaning.specs.Index.{keysOf, indexOf}
+use Rattle.normal.specs.BigEndian.{bytesOf}
+use Rattle.normal.specs.Size.{sum, valueWidth, constantSize, descriptorSize, nameSize, methodNameSize, constantName, constantNameSize, namesSize, spaceSize, ownSize, entrySize, entryLength, normalLength}
+use Rattle.normal.specs.Record.{run, nameAfter, methodsBytes, constantBytes, constantsBytes, parentNumber, constantsFrom, descriptorBytes, nameBytes, constantNameBytes, namesBytes}
+use Rattle.normal.specs.Normal.{spaceFrom, ownFrom, namesFrom, spaceBytes, ownBytes, entryPool, poolBytes, spacePointer, ownPointer, entryBytes, directoryBytes, minorOf, normalHeader, headerBytes, noteBytes, fileBytes, normalForm}
+
+unfoldable pub P1 : List ℕ
+P1 =
+    magic
+    ++ (0x01 ∷ 0x01 ∷ 0x00 ∷ 0x00 ∷ 0x00 ∷ 0x00 ∷ 0x00 ∷ 0x24 ∷ 0x00 ∷ 0x00 ∷ 0x00 ∷ 0x00 ∷ 0x00 ∷ 0x00 ∷ 0x00 ∷ 0x24 ∷ [])
+    ++ (0x80 ∷ 0x00 ∷ 0x00 ∷ 0x00 ∷ [])
+
+unfoldable pub P2 : List ℕ
+P2 =
+    magic
+    ++ (0x01 ∷ 0x01 ∷ 0x00 ∷ 0x01 ∷ 0x00 ∷ 0x00 ∷ 0x00 ∷ 0x45 ∷ 0x00 ∷ 0x00 ∷ 0x00 ∷ 0x24 ∷ 0x00 ∷ 0x00 ∷ 0x00 ∷ 0x40 ∷ [])
+    ++ (0x80 ∷ 0x00 ∷ 0x00 ∷ 0x00 ∷ [])
+    ++ (0x00 ∷ 0x00 ∷ 0x00 ∷ 0x00 ∷ 0x00 ∷ 0x00 ∷ 0x00 ∷ 0x00 ∷ 0x00 ∷ 0x00 ∷ 0x00 ∷ 0x00 ∷ 0x00 ∷ 0x00 ∷ 0x00 ∷ 0x00 ∷ [])
+    ++ (0x00 ∷ 0x00 ∷ 0x00 ∷ 0x01 ∷ 0x00 ∷ 0x00 ∷ 0x00 ∷ 0x00 ∷ 0x00 ∷ 0x00 ∷ 0x00 ∷ 0x00 ∷ [])
+    ++ (0x54 ∷ 0x61 ∷ 0x6e ∷ 0x6b ∷ 0x00 ∷ [])
+
+unfoldable pub P3 : List ℕ
+P3 =
+    magic
+    ++ (0x01 ∷ 0x01 ∷ 0x00 ∷ 0x01 ∷ 0x00 ∷ 0x00 ∷ 0x00 ∷ 0x52 ∷ 0x00 ∷ 0x00 ∷ 0x00 ∷ 0x24 ∷ 0x00 ∷ 0x00 ∷ 0x00 ∷ 0x40 ∷ [])
+    ++ (0x80 ∷ 0x00 ∷ 0x00 ∷ 0x00 ∷ [])
+    ++ (0x00 ∷ 0x00 ∷ 0x00 ∷ 0x00 ∷ 0x00 ∷ 0x00 ∷ 0x00 ∷ 0x00 ∷ 0x00 ∷ 0x00 ∷ 0x00 ∷ 0x00 ∷ 0x00 ∷ 0x00 ∷ 0x00 ∷ 0x01 ∷ [])
+    ++ (0x00 ∷ 0x00 ∷ 0x00 ∷ 0x01 ∷ 0x00 ∷ 0x00 ∷ 0x00 ∷ 0x00 ∷ 0x00 ∷ 0x00 ∷ 0x00 ∷ 0x03 ∷ [])
+    ++ (0x41 ∷ 0x00 ∷ 0x00 ∷ 0x00 ∷ 0x00 ∷ 0x00 ∷ 0x00 ∷ 0x01 ∷ 0x00 ∷ 0x00 ∷ 0x00 ∷ 0x11 ∷ 0x01 ∷ 0xff ∷ 0xfe ∷ 0x80 ∷ 0x4b ∷ 0x00 ∷ [])
+
+-- the entry of P2
+unfoldable pub tank : Entry Key
+tank = entry (key [] (0x54 ∷ 0x61 ∷ 0x6e ∷ 0x6b ∷ [])) 0 none
+
+-- the entry of P3
+unfoldable pub withConstant : Entry Key
+withConstant = entry (key [] (0x41 ∷ [])) 1 (some (descriptor none [] (constant (0x4b ∷ []) 1 0xfffe ∷ []) 0x80))
+
+pub marked : (normalForm [] ≡ P1) × (normalForm (tank ∷ []) ≡ P2) × (normalForm (withConstant ∷ []) ≡ P3)
+unfolding P1 P2 P3 tank withConstant if_then_else_ _=?_ keysOf indexOf bytesOf sum valueWidth constantSize descriptorSize nameSize methodNameSize constantName constantNameSize namesSize spaceSize ownSize entrySize entryLength normalLength run nameAfter methodsBytes constantBytes constantsBytes parentNumber constantsFrom descriptorBytes nameBytes constantNameBytes namesBytes spaceFrom ownFrom namesFrom spaceBytes ownBytes entryPool poolBytes spacePointer ownPointer entryBytes directoryBytes minorOf normalHeader headerBytes noteBytes fileBytes normalForm
+marked = (refl, refl, refl)

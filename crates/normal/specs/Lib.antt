@@ -1,0 +1,6 @@
+pub mod BigEndian
+pub mod Size
+pub mod Record
+pub mod Normal
+pub mod Ranged
+pub mod Encodable

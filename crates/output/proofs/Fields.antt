@@ -1,0 +1,78 @@
+-- Fields stored one after another: those before the directory, and those of a directory entry.
+-- Assumes nothing.
+use mathlib.Core.Path.{_≡_, refl, sym, ap, _∙_}
+use mathlib.Core.List.{List, [], _∷_, _++_}
+use Prim.Native.Nat.{ℕ, _+_, _*_, _^_, _<_}
+use native.Mathlib.Omega.{arith}
+use lib.ListN.{length, length-append}
+use lib.Seq.{sets}
+use Rattle.number.proofs.Choice.{is-eq, no-eq}
+use Rattle.decimal.proofs.Stores.{chain}
+use Rattle.reader.specs.Records.{magic}
+use Rattle.normal.specs.BigEndian.{bytesOf}
+use Rattle.normal.specs.Normal.{headerBytes, noteBytes}
+use Rattle.normal.proofs.Numbers.{bytes-add}
+use Rattle.normal.proofs.Lengths.{length-bytes, length-header}
+use Rattle.tables.specs.Numbers.{wide}
+use Rattle.output.specs.declared.Parts.{Parts}
+use Rattle.output.specs.Front.{directoryAt, frontHeader, frontBytes}
+use Rattle.output.specs.Row.{pointerTo, rowBytes}
+
+-- ---- before the directory
+
+pub directory-none : (c : ℕ) → c ≡ 0 → 0 ≡ directoryAt c
+unfolding directoryAt
+directory-none c e = is-eq _ _ _ _ e refl
+
+pub directory-some : (c : ℕ) → (c ≡ 0 → ⊥) → 36 ≡ directoryAt c
+unfolding directoryAt
+directory-some c n = no-eq _ _ _ _ n refl
+
+pub length-front : (c len : ℕ) → length (frontBytes c len) ≡ 36
+unfolding frontBytes noteBytes
+length-front c len = length-append (headerBytes (frontHeader c) len) (0x80 ∷ 0x00 ∷ 0x00 ∷ 0x00 ∷ []) ∙ omega (arith, length-header (frontHeader c) len)
+
+pub front-stored : (c len d : ℕ) (l l₁ l₂ l₃ l₄ l₅ l₆ : List ℕ) → l₁ ≡ sets l 0 (magic ++ (1 ∷ 1 ∷ [])) → l₂ ≡ sets l₁ 18 (bytesOf 2 c) → l₃ ≡ sets l₂ 20 (bytesOf 4 len) → d ≡ directoryAt c → l₄ ≡ sets l₃ 24 (bytesOf 4 d) → l₅ ≡ sets l₄ 28 (bytesOf 4 (36 + 28 * c)) → l₆ ≡ sets l₅ 32 noteBytes → l₆ ≡ sets l 0 (frontBytes c len)
+unfolding frontBytes frontHeader headerBytes
+front-stored c len d l l₁ l₂ l₃ l₄ l₅ l₆ e f g z h i j =
+    let a : List ℕ = magic ++ (1 ∷ 1 ∷ []) in
+    let b : List ℕ = a ++ bytesOf 2 c in
+    let k : List ℕ = b ++ bytesOf 4 len in
+    let m : List ℕ = k ++ bytesOf 4 (directoryAt c) in
+    let n : List ℕ = m ++ bytesOf 4 (36 + 28 * c) in
+    let lb : length b ≡ 20 = length-append a (bytesOf 2 c) ∙ omega (arith, length-bytes 2 c) in
+    let lk : length k ≡ 24 = length-append b (bytesOf 4 len) ∙ omega (arith, length-bytes 4 len, lb) in
+    let lm : length m ≡ 28 = length-append k (bytesOf 4 (directoryAt c)) ∙ omega (arith, length-bytes 4 (directoryAt c), lk) in
+    let ln : length n ≡ 32 = length-append m (bytesOf 4 (36 + 28 * c)) ∙ omega (arith, length-bytes 4 (36 + 28 * c), lm) in
+    let two : l₂ ≡ sets l 0 b = chain l a (bytesOf 2 c) 0 18 e refl f in
+    let three : l₃ ≡ sets l 0 k = chain l b (bytesOf 4 len) 0 20 two (omega (arith, lb)) g in
+    let four : l₄ ≡ sets l 0 m = chain l k (bytesOf 4 (directoryAt c)) 0 24 three (omega (arith, lk)) (h ∙ ap (λ (v : ℕ). sets l₃ 24 (bytesOf 4 v)) z) in
+    let five : l₅ ≡ sets l 0 n = chain l m (bytesOf 4 (36 + 28 * c)) 0 28 four (omega (arith, lm)) i in
+    chain l n noteBytes 0 32 five (omega (arith, ln)) j
+
+-- ---- a directory entry
+
+pub pointer-none : (q size : ℕ) → size ≡ 0 → 0 ≡ pointerTo q size
+unfolding pointerTo
+pointer-none q size e = is-eq _ _ _ _ e refl
+
+pub pointer-some : (q size : ℕ) → (size ≡ 0 → ⊥) → q ≡ pointerTo q size
+unfolding pointerTo
+pointer-some q size n = no-eq _ _ _ _ n refl
+
+pub row-stored : (high low q : ℕ) (k : Parts) (own v w : ℕ) (l l₁ l₂ l₃ l₄ l₅ : List ℕ) → low < 256 ^ 8 → l₁ ≡ sets l 0 (bytesOf 8 high) → l₂ ≡ sets l₁ 8 (bytesOf 8 low) → l₃ ≡ sets l₂ 16 (bytesOf 4 q) → v ≡ pointerTo (q + k .name) (k .space) → l₄ ≡ sets l₃ 20 (bytesOf 4 v) → w ≡ pointerTo (q + k .name + k .space) own → l₅ ≡ sets l₄ 24 (bytesOf 4 w) → l₅ ≡ sets l 0 (rowBytes (wide high low) q k own)
+unfolding rowBytes wide
+row-stored high low q k own v w l l₁ l₂ l₃ l₄ l₅ s e f g y h z i =
+    let u : ℕ = high * 256 ^ 8 + low in
+    let a : List ℕ = bytesOf 16 u in
+    let v' : ℕ = pointerTo (q + k .name) (k .space) in
+    let w' : ℕ = pointerTo (q + k .name + k .space) own in
+    let b : List ℕ = a ++ bytesOf 4 q in
+    let m : List ℕ = b ++ bytesOf 4 v' in
+    let la : length a ≡ 16 = length-bytes 16 u in
+    let lb : length b ≡ 20 = length-append a (bytesOf 4 q) ∙ omega (arith, length-bytes 4 q, la) in
+    let lm : length m ≡ 24 = length-append b (bytesOf 4 v') ∙ omega (arith, length-bytes 4 v', lb) in
+    let two : l₂ ≡ sets l 0 a = chain l (bytesOf 8 high) (bytesOf 8 low) 0 8 e (omega (arith, length-bytes 8 high)) f ∙ ap (sets l 0) (sym (bytes-add 8 8 high low s)) in
+    let three : l₃ ≡ sets l 0 b = chain l a (bytesOf 4 q) 0 16 two (omega (arith, la)) g in
+    let four : l₄ ≡ sets l 0 m = chain l b (bytesOf 4 v') 0 20 three (omega (arith, lb)) (h ∙ ap (λ (x : ℕ). sets l₃ 20 (bytesOf 4 x)) y) in
+    chain l m (bytesOf 4 w') 0 24 four (omega (arith, lm)) (i ∙ ap (λ (x : ℕ). sets l₄ 24 (bytesOf 4 x)) z)

@@ -1,0 +1,8 @@
+pub mod Areas
+pub mod Fields
+pub mod Words
+pub mod Owns
+pub mod Rows
+pub mod Entries
+pub mod Turns
+pub mod Unions

@@ -1,0 +1,19 @@
+-- `output::front::directory_at` meets its contract.
+-- Assumes nothing.
+use Rattle.number.proofs.Tools.{arith}
+use Rattle.output.proofs.Fields as laws
+use Rattle.output.proofs.front.directory_at.Statement.{statement}
+use Rattle.output.proofs.front.directory_at.Tie as tie
+
+returns : tie.Need-returns
+returns c = laws.directory-none _ (omega arith)
+
+returns-2 : tie.Need-returns-2
+returns-2 c = laws.directory-some _ (λ e. omega arith)
+
+pub directory-at-spec : {M : Type 1} → statement M
+directory-at-spec =
+    tie.close
+    (tie.spec
+    returns
+    returns-2)

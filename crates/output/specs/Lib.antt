@@ -1,0 +1,4 @@
+pub mod Files
+pub mod View
+pub mod Front
+pub mod Row

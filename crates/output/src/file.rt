@@ -1,0 +1,164 @@
+// The length of the file, and its bytes.
+ghost use mathlib.Core.Path.{_≡_};
+ghost use mathlib.Core.List.{_++_};
+ghost use Prim.Native.Nat.{ℕ, _+_, _≤_, _<_};
+ghost use lib.ListN.{length};
+ghost use lib.Seq.{sets};
+ghost use Rattle.normal.specs.Size.{entrySize};
+ghost use Rattle.normal.specs.Normal.{entryPool, entryBytes, directoryBytes, poolBytes};
+ghost use Rattle.tables.specs.Tables.{cell};
+ghost use Rattle.tables.specs.Numbers.{wide, numberIn};
+ghost use Rattle.output.specs.Files.{Pair, HoldBoth, Given, Fits, Gives, Puts};
+ghost use Rattle.output.specs.View.{entryOf, viewEntries, Viewed, placeOf, capped, viewLength, viewBytes};
+use crate::front::put_front;
+use crate::index;
+use crate::keys::put_row_key;
+use crate::keys::row_parts;
+use crate::own::put_row_own;
+use crate::own::row_own_size;
+use crate::row::put_row;
+use reader::Layout;
+
+// The length of the file of the first c rows of t, of which `holders` tells whose descriptors they have.
+// One over 1,048,576 for any length over it: it stops there.
+pub fn total_size(
+    a: &[u8],
+    pool: &[u8],
+    l: Layout,
+    b: &[u8],
+    pool2: &[u8],
+    l2: Layout,
+    t: &[u16; 2048],
+    holders: &[u16; 2048],
+    c: usize,
+) -> usize
+    requires { ⌜ Given (HoldBoth (now a) (now pool) l (now b) (now pool2) l2) × Viewed (l .count + l2 .count) (now t) (now holders) c × (2048 ≡ length (now t)) × (2048 ≡ length (now holders)) ⌝ }
+    ensures { λ r. ⌜ ((iid : ℕ → ℕ) → Gives (HoldBoth (now (a .entry)) (now (pool .entry)) l (now (b .entry)) (now (pool2 .entry)) l2) (λ x. capped (viewLength x iid (cell (now (holders .entry))) (now (t .entry)) c)) r) ⌝ }
+{
+    let mut size: usize = 36;
+    let mut q: usize = 0;
+    while q < c {
+        let r = index(t[q]);
+        let own = row_own_size(a, pool, l, b, pool2, l2, index(holders[r]));
+        let k = row_parts(a, pool, l, b, pool2, l2, r);
+        size += 28 + k.name + k.space + own;
+        if 1048576 < size {
+            return 1048577;
+        }
+        q += 1;
+    }
+    size
+}
+
+// The entry of row r: its part of the pool at `at`, which is the pool pointer p, and its directory entry at `dir`. The answer is the place after that part.
+fn put_one(
+    a: &[u8],
+    pool: &[u8],
+    l: Layout,
+    b: &[u8],
+    pool2: &[u8],
+    l2: Layout,
+    r: usize,
+    h: usize,
+    p: usize,
+    high: u64,
+    low: u64,
+    place: &[u16; 2048],
+    dir: usize,
+    at: usize,
+    out: &mut [u8],
+) -> usize
+    requires { ⌜ Fits (HoldBoth (now a) (now pool) l (now b) (now pool2) l2) (λ x. at + entrySize (entryOf x r (wide high low) h)) (length (now out)) × Fits (HoldBoth (now a) (now pool) l (now b) (now pool2) l2) (λ x. at + entrySize (entryOf x r (wide high low) h)) 1048576 × (p ≤ at) × (r < l .count + l2 .count) × (h ≤ l .count + l2 .count) × (dir + 28 ≤ at) × (2048 ≡ length (now place)) ⌝ }
+    ensures { λ e. ⌜ ((x : Pair) → HoldBoth (now (a .entry)) (now (pool .entry)) l (now (b .entry)) (now (pool2 .entry)) l2 x → (e ≡ at + entrySize (entryOf x r (wide high low) h)) × (now (out .exit) ≡ sets (sets (now (out .entry)) dir (entryBytes p (entryOf x r (wide high low) h))) at (entryPool (placeOf (now (place .entry))) p (entryOf x r (wide high low) h)))) ⌝ }
+{
+    let k = put_row_key(a, pool, l, b, pool2, l2, r, &mut out[at..]);
+    let size = k.name + k.space;
+    let next = at + size;
+    let own = put_row_own(
+        a,
+        pool,
+        l,
+        b,
+        pool2,
+        l2,
+        h,
+        p + size,
+        place,
+        &mut out[next..],
+    );
+    put_row(high, low, p, k, own, &mut out[dir..]);
+    next + own
+}
+
+// The directory and the pool of the first c rows of t.
+fn put_rows(
+    a: &[u8],
+    pool: &[u8],
+    l: Layout,
+    b: &[u8],
+    pool2: &[u8],
+    l2: Layout,
+    t: &[u16; 2048],
+    holders: &[u16; 2048],
+    high: &[u64; 2048],
+    low: &[u64; 2048],
+    place: &[u16; 2048],
+    c: usize,
+    out: &mut [u8],
+) -> usize
+    requires { ⌜ Fits (HoldBoth (now a) (now pool) l (now b) (now pool2) l2) (λ x. viewLength x (numberIn (now high) (now low)) (cell (now holders)) (now t) c) (length (now out)) × Fits (HoldBoth (now a) (now pool) l (now b) (now pool2) l2) (λ x. viewLength x (numberIn (now high) (now low)) (cell (now holders)) (now t) c) 1048576 × Viewed (l .count + l2 .count) (now t) (now holders) c × (2048 ≡ length (now t)) × (2048 ≡ length (now holders)) × (2048 ≡ length (now high)) × (2048 ≡ length (now low)) × (2048 ≡ length (now place)) ⌝ }
+    ensures { λ e. ⌜ ((x : Pair) → HoldBoth (now (a .entry)) (now (pool .entry)) l (now (b .entry)) (now (pool2 .entry)) l2 x → (e ≡ viewLength x (numberIn (now (high .entry)) (now (low .entry))) (cell (now (holders .entry))) (now (t .entry)) c) × (now (out .exit) ≡ sets (now (out .entry)) 36 (directoryBytes 1 (viewEntries x (numberIn (now (high .entry)) (now (low .entry))) (cell (now (holders .entry))) (now (t .entry)) c) ++ poolBytes (placeOf (now (place .entry))) 1 (viewEntries x (numberIn (now (high .entry)) (now (low .entry))) (cell (now (holders .entry))) (now (t .entry)) c)))) ⌝ }
+{
+    let base = 36 + 28 * c;
+    let mut at = base;
+    let mut q: usize = 0;
+    while q < c {
+        let r = index(t[q]);
+        let h = index(holders[r]);
+        let p = at - base + 1;
+        let hi = high[r];
+        let lo = low[r];
+        let d = 36 + 28 * q;
+        at = put_one(a, pool, l, b, pool2, l2, r, h, p, hi, lo, place, d, at, out);
+        q += 1;
+    }
+    at
+}
+
+// The file of the first c rows of t: `holders` tells whose descriptors they have, high and low their IIDs, and place the index of every row.
+pub fn put_file(
+    a: &[u8],
+    pool: &[u8],
+    l: Layout,
+    b: &[u8],
+    pool2: &[u8],
+    l2: Layout,
+    t: &[u16; 2048],
+    holders: &[u16; 2048],
+    high: &[u64; 2048],
+    low: &[u64; 2048],
+    place: &[u16; 2048],
+    c: usize,
+    out: &mut [u8],
+) -> usize
+    requires { ⌜ Fits (HoldBoth (now a) (now pool) l (now b) (now pool2) l2) (λ x. viewLength x (numberIn (now high) (now low)) (cell (now holders)) (now t) c) (length (now out)) × Fits (HoldBoth (now a) (now pool) l (now b) (now pool2) l2) (λ x. viewLength x (numberIn (now high) (now low)) (cell (now holders)) (now t) c) 1048576 × Viewed (l .count + l2 .count) (now t) (now holders) c × (2048 ≡ length (now t)) × (2048 ≡ length (now holders)) × (2048 ≡ length (now high)) × (2048 ≡ length (now low)) × (2048 ≡ length (now place)) ⌝ }
+    ensures { λ r. ⌜ Puts (HoldBoth (now (a .entry)) (now (pool .entry)) l (now (b .entry)) (now (pool2 .entry)) l2) (λ x. viewLength x (numberIn (now (high .entry)) (now (low .entry))) (cell (now (holders .entry))) (now (t .entry)) c) (λ x. viewBytes (now (place .entry)) x (numberIn (now (high .entry)) (now (low .entry))) (cell (now (holders .entry))) (now (t .entry)) c) (now (out .entry)) r (now (out .exit)) ⌝ }
+{
+    let end = put_rows(
+        a,
+        pool,
+        l,
+        b,
+        pool2,
+        l2,
+        t,
+        holders,
+        high,
+        low,
+        place,
+        c,
+        out,
+    );
+    put_front(c, end, out);
+    end
+}

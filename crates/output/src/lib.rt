@@ -1,0 +1,21 @@
+// The normal form of the entries that tables tell of the rows of two files: its length and its bytes.
+// Where there are two files, a and b, each has its pool and its layout behind it.
+ghost use mathlib.Core.Path.{_≡_};
+
+pub mod file;
+mod front;
+mod keys;
+mod own;
+mod row;
+
+// How many bytes the name and the namespace of a key take in the pool.
+pub struct Parts {
+    pub name: usize,
+    pub space: usize,
+}
+
+fn index(x: u16) -> usize
+    ensures { λ r. ⌜ r ≡ x ⌝ }
+{
+    x as usize
+}

@@ -1,0 +1,285 @@
+-- Types and parameters of both pools.
+-- Assumes nothing.
+use mathlib.Core.Path.{_≡_, refl, sym, ap, _∙_}
+use mathlib.Core.Bool.{Bool}
+use mathlib.Core.List.{List}
+use Prim.Native.Nat.{ℕ, _+_, _-_, _%_, _≤_, _<_}
+use native.Mathlib.Omega.{arith}
+use lib.ListN.{length, getD}
+use Rattle.number.specs.Choice.{if_then_else_}
+use Rattle.number.specs.Number.{be}
+use Rattle.reader.specs.Values.{Ty, simple, interface, interfaceIs, array, sized, prefix, Param, param, paramFlags}
+use Rattle.reader.specs.Layout.{Stands, Tells}
+use Rattle.reader.proofs.Shown.{type-in}
+use Rattle.meaning.specs.Meaning.{mapTy, mapParam}
+use Rattle.same.specs.Match.{Rowed, HasType, HasParam, Matched, alike, apart, Matches, Decides}
+use Rattle.same.proofs.Decisions.{decides-as}
+use Rattle.same.proofs.Pairs.{leaf, moved, told-apart}
+
+-- ---- what the bytes say of a type
+
+module _ (s : List ℕ) (a p : ℕ) where
+  pub record SeenSimple (t : Ty ℕ) (e : ℕ) : Type 0 where
+    pub parts : t ≡ simple (getD s p 0)
+    pub ends : e ≡ p + 1
+
+  pub record SeenInterface (t : Ty ℕ) (e : ℕ) : Type 0 where
+    pub parts : t ≡ interface (getD s p 0) (be 2 s (p + 1))
+    pub inside : p + 1 + 2 ≤ length s
+    pub row : Rowed a (be 2 s (p + 1))
+    pub ends : e ≡ p + 3
+
+  pub record SeenIid (t : Ty ℕ) (e : ℕ) : Type 0 where
+    pub parts : t ≡ interfaceIs (getD s p 0) (getD s (p + 1) 0)
+    pub inside : p + 1 < length s
+    pub ends : e ≡ p + 2
+
+  pub record SeenArray (t : Ty ℕ) (e : ℕ) : Type 0 where
+    pub element : Ty ℕ
+    pub parts : t ≡ array (getD s p 0) (getD s (p + 1) 0) (getD s (p + 1 + 1) 0) element
+    pub inside : p + 1 + 1 < length s
+    pub has : HasType s a (p + 3) element e
+
+  pub record SeenSized (t : Ty ℕ) (e : ℕ) : Type 0 where
+    pub parts : t ≡ sized (getD s p 0) (getD s (p + 1) 0) (getD s (p + 1 + 1) 0)
+    pub inside : p + 1 + 1 < length s
+    pub ends : e ≡ p + 3
+
+  two-on : (y : ℕ) → getD s (p + 2) 0 ≡ y → y ≡ getD s (p + 1 + 1) 0
+  two-on y h = let z : p + 1 + 1 ≡ p + 2 = omega arith in rw z (sym h)
+
+  pub seen-simple : getD s p 0 % 32 ≤ 17 → (t : Ty ℕ) (e : ℕ) → HasType s a p t e → SeenSimple t e
+  seen-simple l (simple b) e h = record { parts = λ i. simple (sym (h .shown .0 .value) i); ends = h .shown .2 }
+  seen-simple l (interface b r) e h = absurd (omega (arith, h .shown .0 .value, h .shown .1))
+  seen-simple l (interfaceIs b x) e h = absurd (omega (arith, h .shown .0 .value, h .shown .1))
+  seen-simple l (array b x y t) e h = absurd (omega (arith, h .shown .0 .value, h .shown .1))
+  seen-simple l (sized b x y) e h = absurd (omega (arith, h .shown .0 .value, h .shown .1))
+
+  pub seen-interface : getD s p 0 % 32 ≡ 18 → (t : Ty ℕ) (e : ℕ) → HasType s a p t e → SeenInterface t e
+  seen-interface l (simple b) e h = absurd (omega (arith, h .shown .0 .value, h .shown .1))
+  seen-interface l (interface b r) e h =
+      let z = h .shown .2 .value in
+      record { parts = λ i. interface (sym (h .shown .0 .value) i) (sym z i); inside = h .shown .2 .inside; row = rw z (h .rows); ends = h .shown .3 }
+  seen-interface l (interfaceIs b x) e h = absurd (omega (arith, h .shown .0 .value, h .shown .1))
+  seen-interface l (array b x y t) e h = absurd (omega (arith, h .shown .0 .value, h .shown .1))
+  seen-interface l (sized b x y) e h = absurd (omega (arith, h .shown .0 .value, h .shown .1))
+
+  pub seen-iid : getD s p 0 % 32 ≡ 19 → (t : Ty ℕ) (e : ℕ) → HasType s a p t e → SeenIid t e
+  seen-iid l (simple b) e h = absurd (omega (arith, h .shown .0 .value, h .shown .1))
+  seen-iid l (interface b r) e h = absurd (omega (arith, h .shown .0 .value, h .shown .1))
+  seen-iid l (interfaceIs b x) e h =
+      record { parts = λ i. interfaceIs (sym (h .shown .0 .value) i) (sym (h .shown .2 .value) i); inside = h .shown .2 .inside; ends = h .shown .3 }
+  seen-iid l (array b x y t) e h = absurd (omega (arith, h .shown .0 .value, h .shown .1))
+  seen-iid l (sized b x y) e h = absurd (omega (arith, h .shown .0 .value, h .shown .1))
+
+  pub seen-array : getD s p 0 % 32 ≡ 20 → (t : Ty ℕ) (e : ℕ) → HasType s a p t e → SeenArray t e
+  seen-array l (simple b) e h = absurd (omega (arith, h .shown .0 .value, h .shown .1))
+  seen-array l (interface b r) e h = absurd (omega (arith, h .shown .0 .value, h .shown .1))
+  seen-array l (interfaceIs b x) e h = absurd (omega (arith, h .shown .0 .value, h .shown .1))
+  seen-array l (array b x y t) e h =
+      let z = two-on y (h .shown .3 .value) in
+      record {
+        element = t;
+        parts = λ i. array (sym (h .shown .0 .value) i) (sym (h .shown .2 .value) i) (z i) t;
+        inside = omega (arith, h .shown .3 .inside);
+        has = record { shown = h .shown .4; rows = h .rows };
+      }
+  seen-array l (sized b x y) e h = absurd (omega (arith, h .shown .0 .value, h .shown .1))
+
+  pub seen-sized : 21 ≤ getD s p 0 % 32 → (t : Ty ℕ) (e : ℕ) → HasType s a p t e → SeenSized t e
+  seen-sized l (simple b) e h = absurd (omega (arith, h .shown .0 .value, h .shown .1))
+  seen-sized l (interface b r) e h = absurd (omega (arith, h .shown .0 .value, h .shown .1))
+  seen-sized l (interfaceIs b x) e h = absurd (omega (arith, h .shown .0 .value, h .shown .1))
+  seen-sized l (array b x y t) e h = absurd (omega (arith, h .shown .0 .value, h .shown .1))
+  seen-sized l (sized b x y) e h =
+      let z = two-on y (h .shown .4 .value) in
+      record { parts = λ i. sized (sym (h .shown .0 .value) i) (sym (h .shown .3 .value) i) (z i); inside = omega (arith, h .shown .4 .inside); ends = h .shown .5 }
+
+  -- ---- where it stands
+
+  pub type-here : Stands (HasType s a p) → p < length s
+  type-here h = type-in s p (record { value = h .value; end = h .end; shown = h .shown .shown })
+
+  pub interface-here : getD s p 0 % 32 ≡ 18 → Stands (HasType s a p) → (p + 1 + 2 ≤ length s) × Rowed a (be 2 s (p + 1))
+  interface-here l h = let v = seen-interface l (h .value) (h .end) (h .shown) in (v .inside, v .row)
+
+  pub iid-here : getD s p 0 % 32 ≡ 19 → Stands (HasType s a p) → p + 1 < length s
+  iid-here l h = seen-iid l (h .value) (h .end) (h .shown) .inside
+
+  pub array-inside : getD s p 0 % 32 ≡ 20 → Stands (HasType s a p) → p + 1 + 1 < length s
+  array-inside l h = seen-array l (h .value) (h .end) (h .shown) .inside
+
+  -- its element
+  pub array-here : getD s p 0 % 32 ≡ 20 → Stands (HasType s a p) → Stands (HasType s a (p + 3))
+  array-here l h = let v = seen-array l (h .value) (h .end) (h .shown) in record { value = v .element; end = h .end; shown = v .has }
+
+  pub sized-here : 21 ≤ getD s p 0 % 32 → Stands (HasType s a p) → p + 1 + 1 < length s
+  sized-here l h = seen-sized l (h .value) (h .end) (h .shown) .inside
+
+  prefix-tells : Tells (HasType s a p) prefix (getD s p 0)
+  unfolding prefix
+  prefix-tells = record { each = go }
+    where
+      go : (t : Ty ℕ) (e : ℕ) → HasType s a p t e → getD s p 0 ≡ prefix t
+      go (simple b) e h = h .shown .0 .value
+      go (interface b r) e h = h .shown .0 .value
+      go (interfaceIs b x) e h = h .shown .0 .value
+      go (array b x y t) e h = h .shown .0 .value
+      go (sized b x y) e h = h .shown .0 .value
+
+  pub param-inside : Stands (HasParam s a p) → p < length s
+  param-inside h = go (h .value) (h .end) (h .shown)
+    where
+      go : (x : Param ℕ) (e : ℕ) → HasParam s a p x e → p < length s
+      go (param f t) e h = h .shown .0 .inside
+
+  -- its type
+  pub param-here : Stands (HasParam s a p) → Stands (HasType s a (p + 1))
+  param-here h = go (h .value) (h .end) (h .shown)
+    where
+      go : (x : Param ℕ) (e : ℕ) → HasParam s a p x e → Stands (HasType s a (p + 1))
+      go (param f t) e h = record { value = t; end = e; shown = record { shown = h .shown .1; rows = h .rows } }
+
+  param-tells : Tells (HasParam s a p) paramFlags (getD s p 0)
+  unfolding paramFlags
+  param-tells = record { each = go }
+    where
+      go : (x : Param ℕ) (e : ℕ) → HasParam s a p x e → getD s p 0 ≡ paramFlags x
+      go (param f t) e h = h .shown .0 .value
+
+-- ---- equal with their references mapped
+
+module _ (g h : ℕ → ℕ) where
+  prefix-kept : (f : ℕ → ℕ) (t : Ty ℕ) → prefix (mapTy f t) ≡ prefix t
+  unfolding prefix mapTy
+  prefix-kept f (simple b) = refl
+  prefix-kept f (interface b r) = refl
+  prefix-kept f (interfaceIs b x) = refl
+  prefix-kept f (array b x y t) = refl
+  prefix-kept f (sized b x y) = refl
+
+  same-prefix : (t u : Ty ℕ) → mapTy g t ≡ mapTy h u → prefix t ≡ prefix u
+  same-prefix t u e = sym (prefix-kept g t) ∙ ap prefix e ∙ prefix-kept h u
+
+  same-flags : (x y : Param ℕ) → mapParam g x ≡ mapParam h y → paramFlags x ≡ paramFlags y
+  unfolding paramFlags mapParam
+  same-flags (param f t) (param i u) e = cc
+
+  module _ {t v u w : Ty ℕ} (x : t ≡ v) (y : u ≡ w) where
+    there : mapTy g v ≡ mapTy h w → mapTy g t ≡ mapTy h u
+    there z = ap (mapTy g) x ∙ z ∙ sym (ap (mapTy h) y)
+
+    back : mapTy g t ≡ mapTy h u → mapTy g v ≡ mapTy h w
+    back z = sym (ap (mapTy g) x) ∙ z ∙ ap (mapTy h) y
+
+  module _ (b c : ℕ) (e : b ≡ c) where
+    simples : mapTy g (simple b) ≡ mapTy h (simple c)
+    unfolding mapTy
+    simples = λ i. simple (e i)
+
+    interfaces : {x : Bool} (r s : ℕ) → Decides (g r ≡ h s) x → Decides (mapTy g (interface b r) ≡ mapTy h (interface c s)) x
+    unfolding mapTy
+    interfaces r s d = decides-as d (λ z i. interface (e i) (z i)) (λ z. cc)
+
+    iids : {x : Bool} (i j : ℕ) → Decides (i ≡ j) x → Decides (mapTy g (interfaceIs b i) ≡ mapTy h (interfaceIs c j)) x
+    unfolding mapTy
+    iids i j d = decides-as d (λ z k. interfaceIs (e k) (z k)) (λ z. cc)
+
+    sizes : {x : Bool} (i j k l : ℕ) → Decides ((i ≡ k) × (j ≡ l)) x → Decides (mapTy g (sized b i j) ≡ mapTy h (sized c k l)) x
+    unfolding mapTy
+    sizes i j k l d = decides-as d (λ z n. sized (e n) (z .0 n) (z .1 n)) (λ z. (cc, cc))
+
+    module _ (i j k l : ℕ) (t u : Ty ℕ) where
+      arrays : i ≡ k → j ≡ l → mapTy g t ≡ mapTy h u → mapTy g (array b i j t) ≡ mapTy h (array c k l u)
+      unfolding mapTy
+      arrays x y z = λ n. array (e n) (x n) (y n) (z n)
+
+      array-parts : mapTy g (array b i j t) ≡ mapTy h (array c k l u) → ((i ≡ k) × (j ≡ l)) × (mapTy g t ≡ mapTy h u)
+      unfolding mapTy
+      array-parts z = ((cc, cc), cc)
+
+-- ---- two types
+
+module _ (s t : List ℕ) (a b : ℕ) (g h : ℕ → ℕ) (p q : ℕ) where
+  pub type-apart : (getD s p 0 ≡ getD t q 0 → ⊥) → Matches (HasType s a) (HasType t b) (mapTy g) (mapTy h) p q 0
+  type-apart n = told-apart (HasType s a) (HasType t b) (mapTy g) (mapTy h) p q prefix (getD s p 0) (getD t q 0) (prefix-tells s a p) (prefix-tells t b q) (same-prefix g h) n
+
+  module _ (e : getD s p 0 ≡ getD t q 0) where
+    pub simple-match : getD s p 0 % 32 ≤ 17 → Matches (HasType s a) (HasType t b) (mapTy g) (mapTy h) p q (p + 1)
+    simple-match l = record {
+      each = λ x i m y j n.
+          let u = seen-simple s a p l x i m in
+          let v = seen-simple t b q (omega arith) y j n in
+          alike (record {
+            fact = there g h (u .parts) (v .parts) (simples g h (getD s p 0) (getD t q 0) e);
+            some = omega arith;
+            after = omega arith;
+            ends = sym (u .ends);
+            level = omega (arith, v .ends);
+          });
+    }
+
+    module _ (r : ℕ) (w : Bool) where
+      pub interface-match : getD s p 0 % 32 ≡ 18 → Decides (g (be 2 s (p + 1)) ≡ h (be 2 t (q + 1))) w → r ≡ (if w then p + 3 else 0)
+          → Matches (HasType s a) (HasType t b) (mapTy g) (mapTy h) p q r
+      interface-match l d z = record {
+        each = λ x i m y j n.
+            let u = seen-interface s a p l x i m in
+            let v = seen-interface t b q (omega arith) y j n in
+            leaf w 3 (decides-as (interfaces g h (getD s p 0) (getD t q 0) e (be 2 s (p + 1)) (be 2 t (q + 1)) d) (there g h (u .parts) (v .parts)) (back g h (u .parts) (v .parts)))
+            (omega arith) (u .ends) (v .ends) z;
+      }
+
+      pub iid-match : getD s p 0 % 32 ≡ 19 → Decides (getD s (p + 1) 0 ≡ getD t (q + 1) 0) w → r ≡ (if w then p + 2 else 0)
+          → Matches (HasType s a) (HasType t b) (mapTy g) (mapTy h) p q r
+      iid-match l d z = record {
+        each = λ x i m y j n.
+            let u = seen-iid s a p l x i m in
+            let v = seen-iid t b q (omega arith) y j n in
+            leaf w 2 (decides-as (iids g h (getD s p 0) (getD t q 0) e (getD s (p + 1) 0) (getD t (q + 1) 0) d) (there g h (u .parts) (v .parts)) (back g h (u .parts) (v .parts)))
+            (omega arith) (u .ends) (v .ends) z;
+      }
+
+      pub sized-match : 21 ≤ getD s p 0 % 32 → Decides ((getD s (p + 1) 0 ≡ getD t (q + 1) 0) × (getD s (p + 1 + 1) 0 ≡ getD t (q + 1 + 1) 0)) w → r ≡ (if w then p + 3 else 0)
+          → Matches (HasType s a) (HasType t b) (mapTy g) (mapTy h) p q r
+      sized-match l d z = record {
+        each = λ x i m y j n.
+            let u = seen-sized s a p l x i m in
+            let v = seen-sized t b q (omega arith) y j n in
+            leaf w 3 (decides-as (sizes g h (getD s p 0) (getD t q 0) e (getD s (p + 1) 0) (getD s (p + 1 + 1) 0) (getD t (q + 1) 0) (getD t (q + 1 + 1) 0) d) (there g h (u .parts) (v .parts)) (back g h (u .parts) (v .parts)))
+            (omega arith) (u .ends) (v .ends) z;
+      }
+
+    module _ (l : getD s p 0 % 32 ≡ 20) where
+      array-back : {x y : Ty ℕ} {i j : ℕ} (u : SeenArray s a p x i) (v : SeenArray t b q y j) → mapTy g x ≡ mapTy h y
+          → ((getD s (p + 1) 0 ≡ getD t (q + 1) 0) × (getD s (p + 1 + 1) 0 ≡ getD t (q + 1 + 1) 0)) × (mapTy g (u .element) ≡ mapTy h (v .element))
+      array-back u v z =
+          array-parts g h (getD s p 0) (getD t q 0) e (getD s (p + 1) 0) (getD s (p + 1 + 1) 0) (getD t (q + 1) 0) (getD t (q + 1 + 1) 0) (u .element) (v .element) (back g h (u .parts) (v .parts) z)
+
+      pub array-apart : ((getD s (p + 1) 0 ≡ getD t (q + 1) 0) × (getD s (p + 1 + 1) 0 ≡ getD t (q + 1 + 1) 0) → ⊥) → Matches (HasType s a) (HasType t b) (mapTy g) (mapTy h) p q 0
+      array-apart f = record { each = λ x i m y j n. apart (λ z. f (array-back (seen-array s a p l x i m) (seen-array t b q (omega arith) y j n) z .0)) refl }
+
+      pub array-match : (getD s (p + 1) 0 ≡ getD t (q + 1) 0) × (getD s (p + 1 + 1) 0 ≡ getD t (q + 1 + 1) 0) → (r : ℕ)
+          → Matches (HasType s a) (HasType t b) (mapTy g) (mapTy h) (p + 3) (q + 3) r → Matches (HasType s a) (HasType t b) (mapTy g) (mapTy h) p q r
+      array-match f r o = record {
+        each = λ x i m y j n.
+            let u = seen-array s a p l x i m in
+            let v = seen-array t b q (omega arith) y j n in
+            moved 3 (o .each (u .element) i (u .has) (v .element) j (v .has))
+            (λ z. there g h (u .parts) (v .parts) (arrays g h (getD s p 0) (getD t q 0) e (getD s (p + 1) 0) (getD s (p + 1 + 1) 0) (getD t (q + 1) 0) (getD t (q + 1 + 1) 0) (u .element) (v .element) (f .0) (f .1) z))
+            (λ z. array-back u v z .1);
+      }
+
+  -- ---- two parameters
+
+  pub param-apart : (getD s p 0 ≡ getD t q 0 → ⊥) → Matches (HasParam s a) (HasParam t b) (mapParam g) (mapParam h) p q 0
+  param-apart n = told-apart (HasParam s a) (HasParam t b) (mapParam g) (mapParam h) p q paramFlags (getD s p 0) (getD t q 0) (param-tells s a p) (param-tells t b q) (same-flags g h) n
+
+  pub param-match : getD s p 0 ≡ getD t q 0 → (r : ℕ) → Matches (HasType s a) (HasType t b) (mapTy g) (mapTy h) (p + 1) (q + 1) r → Matches (HasParam s a) (HasParam t b) (mapParam g) (mapParam h) p q r
+  unfolding mapParam
+  param-match e r o = record { each = go }
+    where
+      go : (x : Param ℕ) (i : ℕ) → HasParam s a p x i → (y : Param ℕ) (j : ℕ) → HasParam t b q y j → Matched (mapParam g x ≡ mapParam h y) p q i j r
+      go (param f x) i m (param k y) j n =
+          let z : f ≡ k = sym (m .shown .0 .value) ∙ e ∙ n .shown .0 .value in
+          moved 1 (o .each x i (record { shown = m .shown .1; rows = m .rows }) y j (record { shown = n .shown .1; rows = n .rows })) (λ u l. param (z l) (u l)) (λ u. cc)

@@ -1,0 +1,15 @@
+-- `tables::numbers::same_pair` meets its contract.
+-- Assumes nothing.
+use Rattle.tables.proofs.NumberLaws as laws
+use Rattle.number.proofs.Tools.{arith}
+use Rattle.tables.proofs.numbers.same_pair.Statement.{statement}
+use Rattle.tables.proofs.numbers.same_pair.Tie as tie
+
+returns : tie.Need-returns
+returns c = laws.same-equal _ _ _ _ (omega arith)
+
+returns-2 : tie.Need-returns-2
+returns-2 c = laws.same-other _ _ _ _ (λ e. omega arith) (omega arith) (omega arith)
+
+pub same-pair-spec : {M : Type 1} → statement M
+same-pair-spec = tie.close (tie.spec returns returns-2)

@@ -1,0 +1,12 @@
+pub mod Numbers
+pub mod Lent
+pub mod Copies
+pub mod Words
+pub mod Sources
+pub mod Turns
+pub mod Sizes
+pub mod Names
+pub mod Types
+pub mod Methods
+pub mod Descriptors
+pub mod Fits

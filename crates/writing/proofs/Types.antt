@@ -1,0 +1,150 @@
+-- Types and parameters: their room, and their bytes.
+-- Assumes nothing.
+use mathlib.Core.Path.{_≡_, ap, _∙_}
+use mathlib.Core.List.{List, [], _∷_, _++_}
+use Prim.Native.Nat.{ℕ, _+_, _-_, _%_, _≤_}
+use native.Mathlib.Omega.{arith}
+use lib.ListN.{length, getD, length-append}
+use lib.Seq.{sets}
+use Rattle.number.specs.Number.{be}
+use Rattle.number.specs.Part.{part}
+use Rattle.number.proofs.Parts.{length-part}
+use Rattle.reader.specs.Values.{Ty, simple, interface, interfaceIs, array, sized, Param, param}
+use Rattle.reader.specs.Records.{ShowsType, ShowsParam}
+use Rattle.reader.specs.Layout.{Ends}
+use Rattle.meaning.specs.Refs.{TypeRefs, ParamRefs}
+use Rattle.normal.specs.BigEndian.{bytesOf}
+use Rattle.normal.specs.Size.{typeSize, paramSize}
+use Rattle.normal.specs.Record.{run, typeBytes, paramBytes}
+use Rattle.normal.proofs.Lengths.{length-bytes, length-param}
+use Rattle.writing.specs.Source.{Known, InTable}
+use Rattle.writing.specs.Wrote.{Room, Wrote}
+use Rattle.writing.proofs.Copies.{one-byte, two-bytes, three-bytes}
+use Rattle.writing.proofs.Lent.{rest, back, lent-after}
+use Rattle.writing.proofs.Sizes as sizes
+use Rattle.writing.proofs.Turns.{Writes, run-writes, wrote-ends}
+
+module _ (s : List ℕ) (shift p n : ℕ) (h : Room (Known (ShowsType s) (TypeRefs (InTable shift)) p) typeSize n) where
+  -- every type has its prefix
+  pub prefix-room : (p + 1 ≤ length s) × (1 ≤ n)
+  unfolding typeSize
+  prefix-room = go (h .value) (h .end) (h .shown .shown) (h .room)
+    where
+      go : (t : Ty ℕ) (e : ℕ) → ShowsType s p t e → typeSize t ≤ n → (p + 1 ≤ length s) × (1 ≤ n)
+      go (simple b) e k r = (omega (arith, k .0 .inside), omega arith)
+      go (interface b i) e k r = (omega (arith, k .0 .inside), omega arith)
+      go (interfaceIs b a) e k r = (omega (arith, k .0 .inside), omega arith)
+      go (array b x y t) e k r = (omega (arith, k .0 .inside), omega arith)
+      go (sized b x y) e k r = (omega (arith, k .0 .inside), omega arith)
+
+  pub interface-room : getD s p 0 % 32 ≡ 18 → (p + 3 ≤ length s) × (InTable shift (be 2 s (p + 1)) × (3 ≤ n))
+  unfolding typeSize
+  interface-room l = go (h .value) (h .end) (h .shown .shown) (h .shown .fact) (h .room)
+    where
+      go : (t : Ty ℕ) (e : ℕ) → ShowsType s p t e → TypeRefs (InTable shift) t → typeSize t ≤ n → (p + 3 ≤ length s) × (InTable shift (be 2 s (p + 1)) × (3 ≤ n))
+      go (simple b) e k a r = absurd (omega (arith, k .0 .value, k .1))
+      go (interface b i) e k a r = (omega (arith, k .2 .inside), (rw (k .2 .value) a, omega arith))
+      go (interfaceIs b x) e k a r = absurd (omega (arith, k .0 .value, k .1))
+      go (array b x y t) e k a r = absurd (omega (arith, k .0 .value, k .1))
+      go (sized b x y) e k a r = absurd (omega (arith, k .0 .value, k .1))
+
+  pub iid-room : getD s p 0 % 32 ≡ 19 → (p + 2 ≤ length s) × (2 ≤ n)
+  unfolding typeSize
+  iid-room l = go (h .value) (h .end) (h .shown .shown) (h .room)
+    where
+      go : (t : Ty ℕ) (e : ℕ) → ShowsType s p t e → typeSize t ≤ n → (p + 2 ≤ length s) × (2 ≤ n)
+      go (simple b) e k r = absurd (omega (arith, k .0 .value, k .1))
+      go (interface b i) e k r = absurd (omega (arith, k .0 .value, k .1))
+      go (interfaceIs b x) e k r = (omega (arith, k .2 .inside), omega arith)
+      go (array b x y t) e k r = absurd (omega (arith, k .0 .value, k .1))
+      go (sized b x y) e k r = absurd (omega (arith, k .0 .value, k .1))
+
+  -- an array's two argument numbers, or those of a sized string
+  pub sized-room : 20 ≤ getD s p 0 % 32 → (p + 3 ≤ length s) × (3 ≤ n)
+  unfolding typeSize
+  sized-room l = go (h .value) (h .end) (h .shown .shown) (h .room)
+    where
+      go : (t : Ty ℕ) (e : ℕ) → ShowsType s p t e → typeSize t ≤ n → (p + 3 ≤ length s) × (3 ≤ n)
+      go (simple b) e k r = absurd (omega (arith, k .0 .value, k .1))
+      go (interface b i) e k r = absurd (omega (arith, k .0 .value, k .1))
+      go (interfaceIs b x) e k r = absurd (omega (arith, k .0 .value, k .1))
+      go (array b x y t) e k r = (omega (arith, k .3 .inside), omega arith)
+      go (sized b x y) e k r = (omega (arith, k .4 .inside), omega arith)
+
+  pub element-room : getD s p 0 % 32 ≡ 20 → Room (Known (ShowsType s) (TypeRefs (InTable shift)) (p + 3)) typeSize (n - 3)
+  unfolding typeSize
+  element-room l = go (h .value) (h .end) (h .shown .shown) (h .shown .fact) (h .room)
+    where
+      go : (t : Ty ℕ) (e : ℕ) → ShowsType s p t e → TypeRefs (InTable shift) t → typeSize t ≤ n → Room (Known (ShowsType s) (TypeRefs (InTable shift)) (p + 3)) typeSize (n - 3)
+      go (simple b) e k a r = absurd (omega (arith, k .0 .value, k .1))
+      go (interface b i) e k a r = absurd (omega (arith, k .0 .value, k .1))
+      go (interfaceIs b x) e k a r = absurd (omega (arith, k .0 .value, k .1))
+      go (array b x y t) e k a r = record { value = t; end = e; shown = record { shown = k .4; fact = a }; room = omega arith }
+      go (sized b x y) e k a r = absurd (omega (arith, k .0 .value, k .1))
+
+module _ (s : List ℕ) (f : ℕ → ℕ) (shift p : ℕ) where
+  -- by its tag: the bytes as they are, an index renumbered, or three bytes and an element
+  pub type-wrote : (l : List ℕ) (r : ℕ) (l₁ : List ℕ)
+      → (getD s p 0 % 32 ≤ 17 → (r ≡ 1) × (l₁ ≡ sets l 0 (part s p (p + 1))))
+      → (getD s p 0 % 32 ≡ 18 → (r ≡ 3) × (l₁ ≡ sets l 0 (getD s p 0 ∷ bytesOf 2 (f (be 2 s (p + 1))))))
+      → (getD s p 0 % 32 ≡ 19 → (r ≡ 2) × (l₁ ≡ sets l 0 (part s p (p + 2))))
+      → (getD s p 0 % 32 ≡ 20 → Wrote (Known (ShowsType s) (TypeRefs (InTable shift)) (p + 3)) (λ (t : Ty ℕ). part s p (p + 3) ++ typeBytes f t) l r l₁)
+      → (21 ≤ getD s p 0 % 32 → (r ≡ 3) × (l₁ ≡ sets l 0 (part s p (p + 3))))
+      → Wrote (Known (ShowsType s) (TypeRefs (InTable shift)) p) (typeBytes f) l r l₁
+  unfolding typeBytes
+  type-wrote l r l₁ plain face iid list size = record { each = λ t e k. go t e (k .shown) (k .fact) }
+    where
+      by : (n : ℕ) (vs ws : List ℕ) → (r ≡ n) × (l₁ ≡ sets l 0 vs) → vs ≡ ws → n ≡ length ws → (r ≡ length ws) × (l₁ ≡ sets l 0 ws)
+      by n vs ws a e m = (a .0 ∙ m, a .1 ∙ ap (sets l 0) e)
+
+      go : (t : Ty ℕ) (e : ℕ) → ShowsType s p t e → TypeRefs (InTable shift) t → (r ≡ length (typeBytes f t)) × (l₁ ≡ sets l 0 (typeBytes f t))
+      go (simple b) e k a = by 1 (part s p (p + 1)) (b ∷ []) (plain (omega (arith, k .0 .value, k .1))) (one-byte s p b (k .0)) (omega arith)
+      go (interface b i) e k a = by 3 (getD s p 0 ∷ bytesOf 2 (f (be 2 s (p + 1)))) (b ∷ bytesOf 2 (f i)) (face (omega (arith, k .0 .value, k .1))) (λ j. k .0 .value j ∷ bytesOf 2 (f (k .2 .value j))) (omega (arith, length-bytes 2 (f i)))
+      go (interfaceIs b x) e k a = by 2 (part s p (p + 2)) (b ∷ x ∷ []) (iid (omega (arith, k .0 .value, k .1))) (two-bytes s p b x (k .0) (k .2)) (omega arith)
+      go (array b x y t) e k a =
+          let z = list (omega (arith, k .0 .value, k .1)) .each t e (record { shown = k .4; fact = a }) in
+          let q : part s p (p + 3) ++ typeBytes f t ≡ b ∷ x ∷ y ∷ typeBytes f t = ap (λ (v : List ℕ). v ++ typeBytes f t) (three-bytes s p b x y (k .0) (k .2) (k .3)) in
+          (z .0 ∙ ap length q, z .1 ∙ ap (sets l 0) q)
+      go (sized b x y) e k a = by 3 (part s p (p + 3)) (b ∷ x ∷ y ∷ []) (size (omega (arith, k .0 .value, k .1))) (three-bytes s p b x y (k .0) (k .3) (k .4)) (omega arith)
+
+  pub array-wrote : (l l₁ : List ℕ) (n r : ℕ) (ys : List ℕ) → p + 3 ≤ length s → (n ≡ 3) × (l₁ ≡ sets l 0 (part s p (p + 3)))
+      → Wrote (Known (ShowsType s) (TypeRefs (InTable shift)) (p + 3)) (typeBytes f) (rest l₁ n) r ys
+      → Wrote (Known (ShowsType s) (TypeRefs (InTable shift)) (p + 3)) (λ (t : Ty ℕ). part s p (p + 3) ++ typeBytes f t) l (n + r) (back l₁ n ys)
+  array-wrote l l₁ n r ys m a w = record {
+    each = λ t e k.
+        let z = w .each t e k in
+        let c = length-part s p (p + 3) m in
+        (omega (arith, a .0, z .0, c, length-append (part s p (p + 3)) (typeBytes f t)), lent-after l l₁ ys (part s p (p + 3)) (typeBytes f t) n (a .1) (omega (arith, a .0, c)) (z .1));
+  }
+
+-- ---- parameters
+
+module _ (s : List ℕ) (shift p : ℕ) where
+  pub param-room : (n : ℕ) → Room (Known (ShowsParam s) (ParamRefs (InTable shift)) p) paramSize n
+      → (p + 1 ≤ length s) × ((1 ≤ n) × Room (Known (ShowsType s) (TypeRefs (InTable shift)) (p + 1)) typeSize (n - 1))
+  unfolding paramSize
+  param-room n h = go (h .value) (h .end) (h .shown .shown) (h .shown .fact) (h .room)
+    where
+      go : (x : Param ℕ) (e : ℕ) → ShowsParam s p x e → ParamRefs (InTable shift) x → paramSize x ≤ n
+          → (p + 1 ≤ length s) × ((1 ≤ n) × Room (Known (ShowsType s) (TypeRefs (InTable shift)) (p + 1)) typeSize (n - 1))
+      go (param g t) e k a r = (omega (arith, k .0 .inside), (omega arith, record { value = t; end = e; shown = record { shown = k .1; fact = a }; room = omega arith }))
+
+  pub param-wrote : (f : ℕ → ℕ) (l l₁ : List ℕ) (n r : ℕ) (ys : List ℕ) → (n ≡ 1) × (l₁ ≡ sets l 0 (part s p (p + 1)))
+      → Wrote (Known (ShowsType s) (TypeRefs (InTable shift)) (p + 1)) (typeBytes f) (rest l₁ n) r ys
+      → Wrote (Known (ShowsParam s) (ParamRefs (InTable shift)) p) (paramBytes f) l (n + r) (back l₁ n ys)
+  unfolding paramBytes
+  param-wrote f l l₁ n r ys a w = record { each = λ x e k. go x e (k .shown) (k .fact) }
+    where
+      go : (x : Param ℕ) (e : ℕ) → ShowsParam s p x e → ParamRefs (InTable shift) x → (n + r ≡ length (paramBytes f x)) × (back l₁ n ys ≡ sets l 0 (paramBytes f x))
+      go (param g t) e k b =
+          let z = w .each t e (record { shown = k .1; fact = b }) in
+          (omega (arith, a .0, z .0), lent-after l l₁ ys (g ∷ []) (typeBytes f t) n (a .1 ∙ ap (sets l 0) (one-byte s p g (k .0))) (a .0) (z .1))
+
+-- how several are written
+pub params-how : (f : ℕ → ℕ) → Writes (λ (q : ℕ). paramBytes f) (λ (q : ℕ) (x : Param ℕ). q) (λ (q : ℕ). run (paramBytes f)) paramSize
+params-how f = run-writes (paramBytes f) paramSize (length-param f)
+
+-- a parameter that was written ends where its bytes do
+pub param-wrote-ends : {s : List ℕ} {p r : ℕ} {l ys : List ℕ} (shift : ℕ) (f : ℕ → ℕ) (p₁ : ℕ) → Wrote (Known (ShowsParam s) (ParamRefs (InTable shift)) p) (paramBytes f) l r ys → p₁ ≡ p + r
+    → Ends (Known (ShowsParam s) (ParamRefs (InTable shift)) p) p₁
+param-wrote-ends {s} {p} shift f p₁ w z = wrote-ends paramSize w p p₁ (λ x e h. sizes.param-end s p x e (h .shown)) (length-param f) z
