@@ -7,6 +7,7 @@ ghost use Rattle.cabi.specs.Numbers.{written, interfaceNumbers, methodNu
 use lookup::Kind;
 use reading::Verdict;
 
+mod links;
 mod put;
 
 // Into the first two places of `answer` the refusal's number and its place, or 0 and the number of interfaces

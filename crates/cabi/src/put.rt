@@ -34,7 +34,7 @@ fn bits_32(x: i32) -> u64
     }
 }
 
-fn put_refusal(why: Refusal, answer: &mut [u64])
+pub fn put_refusal(why: Refusal, answer: &mut [u64])
     requires { ⌜ 5 ≤ length (now answer) ⌝ }
     ensures { λ _. ⌜ now (answer .exit) ≡ sets (now (answer .entry)) 0 (refusalNumbers why) ⌝ }
 {

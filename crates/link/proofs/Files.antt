@@ -25,7 +25,7 @@ use Rattle.link.specs.declared.Which.the-variants.{Union}
 use Rattle.link.specs.Outcome.{refusal, refusalOf, encoded, normalOf, linkOf}
 use Rattle.link.specs.Demand.{Means}
 
-decoded-valid : (s : List ℕ) (t : Typelib) (e : ℕ) → decode s ≡ got t e → Valid (meaning (entriesIn t))
+pub decoded-valid : (s : List ℕ) (t : Typelib) (e : ℕ) → decode s ≡ got t e → Valid (meaning (entriesIn t))
 unfolding entriesIn
 decoded-valid s (typelib h notes es) e d =
     let count : length es ≡ h .count = accepted-shows s d .2 .count in

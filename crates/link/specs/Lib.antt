@@ -1,3 +1,4 @@
 pub mod Outcome
+pub mod Stages
 pub mod Demand
 pub mod Theorems

@@ -1,0 +1,25 @@
+-- `link::normalise` meets its contract.
+-- Assumes nothing.
+use Rattle.number.proofs.Tools.{sym, _∙_}
+use Rattle.link.proofs.Faces as faces
+use borrow.Author.Needs.{needs}
+use Rattle.link.proofs.normalise.Statement.{statement}
+use Rattle.link.proofs.normalise.Tie as tie
+
+normalise-accepted-requires : tie.Need-normalise-accepted-requires
+normalise-accepted-requires c κs = faces.accepted _ (sym (c .before .before .before .before .check .ensures) ∙ c .before .before .n .given .1)
+
+returns-2 : tie.Need-returns-2
+returns-2 c = faces.normal-refused _ (sym (c .before .before .before .check .ensures) ∙ c .before .why .given .1) _
+
+pub normalise-spec : {M : Type 1} → statement M
+normalise-spec =
+    tie.close
+    (tie.spec
+    (λ c κs. search needs)
+    (λ c. search needs)
+    normalise-accepted-requires
+    (λ c. search needs)
+    (λ c. search needs)
+    (λ c. search needs)
+    returns-2)
