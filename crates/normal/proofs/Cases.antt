@@ -23,7 +23,8 @@ use Rattle.normal.specs.Size.{sum, valueWidth, constantSize, descriptorS
 use Rattle.normal.specs.Normal.{normalTypelib}
 use Rattle.normal.specs.Encodable.{Sound, Encodable, Readable}
 use Rattle.normal.proofs.Back.{read-back}
-use Rattle.normal.proofs.Examples.{P1, P2, P3, tank, withConstant, marked}
+use Rattle.reader.specs.Reader.Marked.{P1, P2, P3}
+use Rattle.normal.proofs.Examples.{tank, withConstant, marked}
 
 -- ---- at most one entry, without parent
 

@@ -31,7 +31,7 @@ run-all : {X : Type 0} (P : ℕ → X → ℕ → Type 0) (W : X → Type 0) →
 run-all P W f p [] e r = tt
 run-all P W f p (x ∷ xs) e r = (f p x (r .0) (r .1), run-all P W f (r .0) xs e (r .2))
 
-stored-width : (k n : ℕ) → Stored k n → n ≡ valueWidth k
+pub stored-width : (k n : ℕ) → Stored k n → n ≡ valueWidth k
 unfolding valueWidth if_then_else_ _=?_
 stored-width k n (inl (inl h, e)) = rw h e
 stored-width k n (inl (inr h, e)) = rw h e

@@ -6,6 +6,7 @@ use Prim.Native.Nat.{ℕ, _+_}
 use lib.ListN.{length}
 use Rattle.number.specs.Choice.{if_then_else_, _=?_}
 use Rattle.key.specs.Key.{key}
+unfoldable pub use Rattle.reader.specs.Values.{constantName}
 use Rattle.reader.specs.Values.{Ty, simple, interface, interfaceIs, array, sized, Param, param, Method, method, signature, methodName, Constant, constant, Descriptor, descriptor, Entry, entry}
 
 unfoldable pub sum : {X : Type 0} → (X → ℕ) → List X → ℕ
@@ -48,9 +49,6 @@ nameSize w = length w + 1
 
 unfoldable pub methodNameSize : {R : Type 0} → Method R → ℕ
 methodNameSize m = nameSize (methodName m)
-
-unfoldable pub constantName : Constant → List ℕ
-constantName (constant w k v) = w
 
 unfoldable pub constantNameSize : Constant → ℕ
 constantNameSize c = nameSize (constantName c)

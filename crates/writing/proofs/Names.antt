@@ -6,10 +6,8 @@ use Prim.Native.Nat.{ℕ, _-_, _≤_}
 use native.Mathlib.Omega.{arith}
 use lib.Seq.{sets}
 use Rattle.key.specs.Word.{Leads, wordAt}
-use Rattle.reader.specs.Values as values
-use Rattle.reader.specs.Values.{Method, methodName, Constant, constant}
+use Rattle.reader.specs.Values.{Method, methodName, Constant}
 use Rattle.reader.specs.Records.{ShowsMethod, ShowsConstant}
-use Rattle.reader.specs.Rules.{Identifier}
 use Rattle.reader.specs.Layout.{Stands, Tells, Spells, Names}
 use Rattle.normal.specs.Size.{nameSize, methodNameSize, constantName, constantNameSize}
 use Rattle.normal.specs.Record.{run, nameBytes, methodNameBytes, constantNameBytes}
@@ -43,14 +41,6 @@ module _ {X : Type 0} {P : ℕ → X → ℕ → Type 0} {name : X → List ℕ}
       → Wrote (Known P (Named name) p) (λ (x : X). nameBytes (name x)) l r l₁
   name-wrote {l} a = record { each = λ x e h. (a .0 ∙ size-is x e h ∙ sym (length-name (name x)), a .1 ∙ ap (λ (w : List ℕ). sets l 0 (nameBytes w)) (word x e h .word)) }
 
--- the two definitions of a constant's name agree
-pub constant-spelt : {s : List ℕ} {p q : ℕ} → Names (ShowsConstant s p) values.constantName s q → Names (ShowsConstant s p) constantName s q
-unfolding constantName values.constantName
-constant-spelt {s} {p} {q} t = record { each = go }
-  where
-    go : (c : Constant) (e : ℕ) → ShowsConstant s p c e → Identifier (constantName c) → Spells s q (constantName c)
-    go (constant w k v) e h i = t .each (constant w k v) e h i
-
 -- ---- of methods and of constants
 
 module _ {s : List ℕ} {p q r : ℕ} where
@@ -58,27 +48,27 @@ module _ {s : List ℕ} {p q r : ℕ} where
   unfolding methodNameSize
   method-tells t z = name-tells t z
 
-  pub constant-tells : Names (ShowsConstant s p) values.constantName s q → r ≡ nameSize (wordAt s (q - 1)) → Tells (Known (ShowsConstant s) (Named constantName) p) constantNameSize r
+  pub constant-tells : Names (ShowsConstant s p) constantName s q → r ≡ nameSize (wordAt s (q - 1)) → Tells (Known (ShowsConstant s) (Named constantName) p) constantNameSize r
   unfolding constantNameSize
-  constant-tells t z = name-tells (constant-spelt t) z
+  constant-tells t z = name-tells t z
 
   pub method-name-room : Names (ShowsMethod s p) methodName s q → Room (Known (ShowsMethod s) (Named methodName) p) methodNameSize r → nameSize (wordAt s (q - 1)) ≤ r
   unfolding methodNameSize
   method-name-room t h = name-room t h
 
-  pub constant-name-room : Names (ShowsConstant s p) values.constantName s q → Room (Known (ShowsConstant s) (Named constantName) p) constantNameSize r → nameSize (wordAt s (q - 1)) ≤ r
+  pub constant-name-room : Names (ShowsConstant s p) constantName s q → Room (Known (ShowsConstant s) (Named constantName) p) constantNameSize r → nameSize (wordAt s (q - 1)) ≤ r
   unfolding constantNameSize
-  constant-name-room t h = name-room (constant-spelt t) h
+  constant-name-room t h = name-room t h
 
   pub method-name-wrote : (l l₁ : List ℕ) → Names (ShowsMethod s p) methodName s q → (r ≡ nameSize (wordAt s (q - 1))) × (l₁ ≡ sets l 0 (nameBytes (wordAt s (q - 1))))
       → Wrote (Known (ShowsMethod s) (Named methodName) p) methodNameBytes l r l₁
   unfolding methodNameBytes
   method-name-wrote l l₁ t a = name-wrote t a
 
-  pub constant-name-wrote : (l l₁ : List ℕ) → Names (ShowsConstant s p) values.constantName s q → (r ≡ nameSize (wordAt s (q - 1))) × (l₁ ≡ sets l 0 (nameBytes (wordAt s (q - 1))))
+  pub constant-name-wrote : (l l₁ : List ℕ) → Names (ShowsConstant s p) constantName s q → (r ≡ nameSize (wordAt s (q - 1))) × (l₁ ≡ sets l 0 (nameBytes (wordAt s (q - 1))))
       → Wrote (Known (ShowsConstant s) (Named constantName) p) constantNameBytes l r l₁
   unfolding constantNameBytes
-  constant-name-wrote l l₁ t a = name-wrote (constant-spelt t) a
+  constant-name-wrote l l₁ t a = name-wrote t a
 
 -- how several names are written
 pub method-names-how : Writes (λ (q : ℕ). methodNameBytes {R = ℕ}) (λ (q : ℕ) (m : Method ℕ). q) (λ (q : ℕ). run methodNameBytes) methodNameSize

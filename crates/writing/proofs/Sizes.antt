@@ -1,21 +1,13 @@
 -- A record that is shown has as many bytes in the pool as in normal form.
 -- Assumes nothing.
+pub use Rattle.normal.proofs.Ranges.{stored-width}
 use mathlib.Core.Path.{_≡_}
-use mathlib.Core.Logic.{inl, inr}
 use mathlib.Core.List.{List, [], _∷_}
 use Prim.Native.Nat.{ℕ, _+_}
 use native.Mathlib.Omega.{arith}
-use Rattle.number.specs.Choice.{if_then_else_, _=?_}
 use Rattle.reader.specs.Values.{Ty, simple, interface, interfaceIs, array, sized, Param, param, Method, method, signature, Constant, constant, Descriptor, descriptor}
-use Rattle.reader.specs.Records.{Run, ShowsType, ShowsParam, ShowsMethod, Stored, ShowsConstant, ShowsDescriptor}
-use Rattle.normal.specs.Size.{sum, typeSize, paramSize, methodSize, valueWidth, constantSize, descriptorSize}
-
-pub stored-width : (k n : ℕ) → Stored k n → n ≡ valueWidth k
-unfolding valueWidth if_then_else_ _=?_
-stored-width k n (inl (inl h, e)) = rw h e
-stored-width k n (inl (inr h, e)) = rw h e
-stored-width k n (inr (inl h, e)) = rw h e
-stored-width k n (inr (inr h, e)) = rw h e
+use Rattle.reader.specs.Records.{Run, ShowsType, ShowsParam, ShowsMethod, ShowsConstant, ShowsDescriptor}
+use Rattle.normal.specs.Size.{sum, typeSize, paramSize, methodSize, constantSize, descriptorSize}
 
 pub run-end : {X : Type 0} (P : ℕ → X → ℕ → Type 0) (size : X → ℕ) → ((p : ℕ) (x : X) (e : ℕ) → P p x e → e ≡ p + size x) → (p : ℕ) (xs : List X) (e : ℕ) → Run P p xs e → e ≡ p + sum size xs
 unfolding sum

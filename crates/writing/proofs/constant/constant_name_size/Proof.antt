@@ -10,10 +10,10 @@ constant-name-requires : tie.Need-constant-name-requires
 constant-name-requires c κs = (known-stands (c .before .pre .0), omega arith)
 
 name-size-requires : tie.Need-name-size-requires
-name-size-requires c κs = (names.name-leads (names.constant-spelt (c .constant-name .ensures)) (c .before .before .pre .0), omega arith)
+name-size-requires c κs = (names.name-leads (c .constant-name .ensures) (c .before .before .pre .0), omega arith)
 
 returns : tie.Need-returns
-returns c = (names.constant-tells (c .before .constant-name .ensures) (c .name-size .ensures), names.name-most (names.constant-spelt (c .before .constant-name .ensures)) (c .name-size .ensures) (c .before .before .before .pre .0))
+returns c = (names.constant-tells (c .before .constant-name .ensures) (c .name-size .ensures), names.name-most (c .before .constant-name .ensures) (c .name-size .ensures) (c .before .before .before .pre .0))
 
 pub constant-name-size-spec : {M : Type 1} → statement M
 constant-name-size-spec = tie.close (tie.spec constant-name-requires name-size-requires returns)

@@ -34,7 +34,7 @@ put-name-requires : tie.Need-put-name-requires Inv-loop μ-loop
 put-name-requires c κs =
     let f = turns.writing-first names.constant-names-how (c .before .before .before .loop .inv) (c .before .before .before .before .before .before .pre .0) (omega arith) in
     let e = c .before .constant-name .ensures in
-    (names.name-leads (names.constant-spelt (e)) (room-stands f), (omega arith, names.constant-name-room e f))
+    (names.name-leads e (room-stands f), (omega arith, names.constant-name-room e f))
 
 add-w : tie.Need-add-w Inv-loop μ-loop
 add-w c =
