@@ -19,25 +19,30 @@ use Rattle.reader.specs.Reader.Laws.{refused-decodes}
 use Rattle.reader.specs.Layout.{LaidOut}
 use Rattle.lines.specs.Listing.{tooLong, entryLines, listingOf, printedOf}
 use Rattle.lines.specs.Writing.{Wrote}
-use Rattle.lines.specs.Cursor.{EntriesLeft}
+use Rattle.lines.specs.declared.Started.{Started}
+use Rattle.lines.specs.Cursor.{EntriesLeft, onlyLine, Starting}
 
 module _ (s : List ℕ) where
-  pub printed-long : 65536 < length s → printedOf s ≡ tooLong ++ []
+  pub printed-long : 65536 < length s → printedOf s ≡ tooLong
   unfolding printedOf
   printed-long h = sym (is-lt _ _ _ _ h refl)
 
-  module _ (h : length s ≤ 65536) where
-    printed-listing : printedOf s ≡ listingOf (decode s)
-    unfolding printedOf
-    printed-listing = sym (no-lt _ _ _ _ h refl)
+  pub printed-listing : length s ≤ 65536 → printedOf s ≡ listingOf (decode s)
+  unfolding printedOf
+  printed-listing h = sym (no-lt _ _ _ _ h refl)
 
-    pub printed-refused : (x : Refusal) → checkOf s ≡ Refused x → printedOf s ≡ lineOf (Refused x) ++ []
-    unfolding listingOf
-    printed-refused x e = printed-listing ∙ rw (refused-decodes s e) (sym (append-nil (lineOf (Refused x))))
+  pub listed-refused : (x : Refusal) → checkOf s ≡ Refused x → listingOf (decode s) ≡ lineOf (Refused x)
+  unfolding listingOf
+  listed-refused x e = rw (refused-decodes s e)
 
-    pub printed-accepted : (t : Typelib) (e n : ℕ) → decode s ≡ got t e → n ≡ headerOf t .count → printedOf s ≡ lineOf (Accepted n) ++ entryLines (entriesIn t) 1 (entriesIn t)
-    unfolding listingOf
-    printed-accepted t e n d c = printed-listing ∙ rw (d, c) refl
+  pub listed-accepted : (t : Typelib) (e n : ℕ) → decode s ≡ got t e → n ≡ headerOf t .count → listingOf (decode s) ≡ lineOf (Accepted n) ++ entryLines (entriesIn t) 1 (entriesIn t)
+  unfolding listingOf
+  listed-accepted t e n d c = rw (d, c) refl
+
+-- a text of one line
+pub starts-only : (s text before : List ℕ) (r : Started) (n : ℕ) (after : List ℕ) → r ≡ onlyLine n → n ≤ 64 → Wrote before 0 text n after → Starting s text before r after
+starts-only s text before r n after e h w =
+    rw e (record { part = record { bytes = text; rest = []; split = sym (append-nil text); left = refl; wrote = w }; inside = h; pool = omega arith })
 
 pub entries-start : (s : List ℕ) (l : Layout) (t : Typelib) → LaidOut s l (entriesIn t) → EntriesLeft s l 0 (entryLines (entriesIn t) 1 (entriesIn t))
 entries-start s l t h = record { entries = entriesIn t; laid = h; few = omega arith; whole = refl }

@@ -8,4 +8,5 @@ pub mod PieceLaws
 pub mod FillLaws
 pub mod BeginLaws
 pub mod PrintLaws
+pub mod BarLaws
 pub mod Examples

@@ -20,8 +20,8 @@ use Rattle.lines.specs.declared.Cursor.{Cursor}
 use Rattle.lines.specs.declared.Cursor.the-variants.{Done, AtEntry, AtMethods, AtConstants}
 use Rattle.lines.specs.declared.Piece.{Piece}
 use Rattle.lines.specs.declared.Filled.{Filled}
-use Rattle.lines.specs.declared.Start.{Start}
-use Rattle.lines.specs.Listing.{methodLines, constantLines, entryLines, printedOf}
+use Rattle.lines.specs.declared.Started.{Started}
+use Rattle.lines.specs.Listing.{methodLines, constantLines, entryLines}
 use Rattle.lines.specs.Writing.{Wrote, NamedMethod, NamedConstant}
 
 -- of n entries, the index `up` is that of the parent p, 0 being none
@@ -118,13 +118,17 @@ pub record Filling (s : List ℕ) (l : Layout) (c : Cursor) (before : List ℕ) 
   pub onward : Onward (l .count) c (r .cursor)
   pub inside : r .length ≤ length after
 
--- the first line of what is printed was written, and the rest is left
-pub record Starting (s : List ℕ) (before : List ℕ) (r : Start) (after : List ℕ) : Type 0 where
-  pub part : PartWritten s (r .layout) before 0 (r .length) after (r .cursor) (printedOf s)
+-- a first line of n bytes that is all of its text
+abbrev pub onlyLine : ℕ → Started
+onlyLine n = record { length = n; layout = record { count = 0; directory = 0; pool = 0 }; cursor = Done }
+
+-- of a text that is printed of the file s, the first line was written, and the rest is left
+pub record Starting (s text before : List ℕ) (r : Started) (after : List ℕ) : Type 0 where
+  pub part : PartWritten s (r .layout) before 0 (r .length) after (r .cursor) text
   pub inside : r .length ≤ 64
   pub pool : r .layout .pool ≤ length s
 
--- `done` and what is left at the cursor c are what is printed of the file s
-pub record Printing (s : List ℕ) (l : Layout) (c : Cursor) (done : List ℕ) : Type 0 where
+-- `done` and what is left at the cursor c are the text
+pub record Printing (s text : List ℕ) (l : Layout) (c : Cursor) (done : List ℕ) : Type 0 where
   pub begun : Begun s l c
-  pub split : printedOf s ≡ done ++ begun .text
+  pub split : text ≡ done ++ begun .text

@@ -1,4 +1,5 @@
 // The listing of a typelib, made piece by piece into a lent buffer: it can be far longer than the file.
+pub mod bars;
 mod base;
 mod line;
 mod pieces;
@@ -11,7 +12,9 @@ use reader::Verdict;
 ghost use mathlib.Core.Path.{_≡_};
 ghost use Prim.Native.Nat.{_≤_};
 ghost use lib.ListN.{length, drop};
-ghost use Rattle.lines.specs.Cursor.{Begun, isDone, Filling, Starting};
+ghost use Rattle.reader.specs.Reader.{decode};
+ghost use Rattle.lines.specs.Listing.{listingOf, printedOf};
+ghost use Rattle.lines.specs.Cursor.{Begun, isDone, Filling, onlyLine, Starting};
 
 // Where the methods of an entry, counted from 0, go on: how many are left, the place of the next in the pool, and its slot.
 pub struct MethodsAt {
@@ -49,7 +52,7 @@ pub struct Filled {
 }
 
 // The length of the first line, the layout of the file, and what is to be printed next.
-pub struct Start {
+pub struct Started {
     pub length: usize,
     pub layout: Layout,
     pub cursor: Cursor,
@@ -101,35 +104,45 @@ pub fn fill(file: &[u8], l: Layout, c: Cursor, out: &mut [u8]) -> Filled
     fill_from(file, pool, l, c, out)
 }
 
-// The first line, and where the rest of the listing starts; nothing is left of a file that was refused, or is too long to list.
-pub fn begin(file: &[u8], line: &mut [u8; 64]) -> Start
-    ensures { λ r. ⌜ Starting (now (file .entry)) (now (line .entry)) r (now (line .exit)) ⌝ }
+// A first line of so many bytes with nothing after it.
+fn only_line(length: usize) -> Started
+    ensures { λ r. ⌜ r ≡ onlyLine length ⌝ }
 {
     let none = Layout {
         count: 0,
         directory: 0,
         pool: 0,
     };
-    if 65536 < file.len() {
-        let length = text::put_bytes(line, 0, b"input too long\n");
-        return Start {
-            length,
-            layout: none,
-            cursor: Cursor::Done,
-        };
+    Started {
+        length,
+        layout: none,
+        cursor: Cursor::Done,
     }
+}
+
+// The first line of the listing of a file of any length, and where the rest starts; nothing is left of a file that was refused.
+pub fn start(file: &[u8], line: &mut [u8; 64]) -> Started
+    ensures { λ r. ⌜ Starting (now (file .entry)) (listingOf (decode (now (file .entry)))) (now (line .entry)) r (now (line .exit)) ⌝ }
+{
     let v = reader::check(file);
     let length = text::put_verdict(v, line);
     match v {
-        Verdict::Accepted(_) => Start {
+        Verdict::Accepted(_) => Started {
             length,
             layout: reader::layout_of(file),
             cursor: Cursor::AtEntry(0),
         },
-        Verdict::Refused(_) => Start {
-            length,
-            layout: none,
-            cursor: Cursor::Done,
-        },
+        Verdict::Refused(_) => only_line(length),
     }
+}
+
+// The same for the program, which lists no more than 65,536 bytes.
+pub fn begin(file: &[u8], line: &mut [u8; 64]) -> Started
+    ensures { λ r. ⌜ Starting (now (file .entry)) (printedOf (now (file .entry))) (now (line .entry)) r (now (line .exit)) ⌝ }
+{
+    if 65536 < file.len() {
+        let length = text::put_bytes(line, 0, b"input too long\n");
+        return only_line(length);
+    }
+    start(file, line)
 }

@@ -5,11 +5,12 @@ ghost use mathlib.Core.Path.{_≡_};
 ghost use mathlib.Core.List.{List};
 ghost use Prim.Native.Nat.{ℕ};
 ghost use lib.ListN.{length};
+ghost use Rattle.lines.specs.Listing.{printedOf};
 ghost use Rattle.lines.specs.Cursor.{Printing};
 
 // Prints what is left at a cursor, a buffer at a time; it ends early where nothing can be written any more.
 fn list(file: &[u8], l: Layout, first: Cursor, out: &mut [u8; 65536])
-    requires { ⌜ ((done : List ℕ) × Printing (now file) l first done) × (65536 ≡ length (now out)) ⌝ }
+    requires { ⌜ ((done : List ℕ) × Printing (now file) (printedOf (now file)) l first done) × (65536 ≡ length (now out)) ⌝ }
 {
     let mut c = first;
     loop {

@@ -3,6 +3,7 @@
 use mathlib.Core.List.{List}
 use lib.Seq.{length-take-le}
 use Rattle.number.proofs.Tools.{_≡_, ℕ, sym, _∙_, arith, length}
+use Rattle.lines.specs.Listing.{printedOf}
 use Rattle.lines.specs.Cursor.{turns, Printing}
 use Rattle.lines.proofs.FillLaws.{falls}
 use Rattle.lines.proofs.PrintLaws.{printing-next}
@@ -10,7 +11,7 @@ use Rattle.listing.proofs.list.Statement.{statement}
 use Rattle.listing.proofs.list.Tie as tie
 
 abbrev Inv-loop : tie.InvT-loop
-Inv-loop file l out₀ c₀ out c = ((done : List ℕ) × Printing file l c done) × (65536 ≡ length out)
+Inv-loop file l out₀ c₀ out c = ((done : List ℕ) × Printing file (printedOf file) l c done) × (65536 ≡ length out)
 
 abbrev μ-loop : tie.MeasureT-loop
 μ-loop file l out₀ c₀ out c = turns (l .count) c
@@ -25,7 +26,7 @@ loop-again c =
     let a = c .before .before .before .before .before .before .before .before .before .before .before .args in
     let l = c .before .before .before .before .before .before .before .before .before .loop in
     let r = c .before .before .before .before .before .fill in
-    ((_, printing-next (a .file .now) (a .l) (l .c) (l .inv .0 .0) (l .out) (r .result) _ (l .inv .0 .1) (r .ensures)), l .inv .1 ∙ sym (r .kept .1 .1 .1 .0))
+    ((_, printing-next (a .file .now) _ (a .l) (l .c) (l .inv .0 .0) (l .out) (r .result) _ (l .inv .0 .1) (r .ensures)), l .inv .1 ∙ sym (r .kept .1 .1 .1 .0))
 
 pub list-spec : {M : Type 1} → statement M
 list-spec =

@@ -1,0 +1,4 @@
+pub mod All
+pub mod Words
+pub mod Numbers
+pub mod Digits
