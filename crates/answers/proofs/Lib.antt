@@ -1,0 +1,4 @@
+pub mod SayingLaws
+pub mod Sign
+pub mod CommandLaws
+mod Examples

@@ -1,0 +1,3 @@
+pub mod EmptyLaws
+pub mod SpanLaws
+mod Examples

@@ -1,0 +1,36 @@
+-- A file was written: the rows that may lead to it are forgotten.
+-- Assumes nothing.
+use mathlib.Core.Bool.{Bool, true}
+use mathlib.Core.List.{List}
+use Prim.Native.Nat.{ℕ, zero, suc, _+_, _*_}
+use lib.ListN.{length, getD, drop, set}
+use Rattle.number.specs.Choice.{if_then_else_, _=?_}
+use Rattle.key.specs.Word.{sameWord}
+use Rattle.kept.specs.Names.{linkState, forgottenState, nameIn, stateIn}
+
+-- after the last `/` of the first n bytes; 0 where there is none
+unfoldable pub lastWithin : List ℕ → ℕ → ℕ
+lastWithin path zero = 0
+lastWithin path (suc n) = if getD path n 0 =? 47 then suc n else lastWithin path n
+
+-- where the last part of a path starts
+unfoldable pub lastPart : List ℕ → ℕ
+lastPart path = lastWithin path (length path)
+
+-- the last part
+unfoldable pub ending : List ℕ → List ℕ
+ending path = drop (lastPart path) path
+
+unfoldable pub sameEnding : List ℕ → List ℕ → Bool
+sameEnding path name = sameWord (ending path) (ending name)
+
+-- row k may lead to the file at `path`: as a symbolic link, which can lead anywhere, or under a name with the same last part
+unfoldable pub mayLead : List ℕ → List ℕ → List ℕ → ℕ → Bool
+mayLead path rows store k = if stateIn rows k =? linkState then true else sameEnding path (nameIn rows store k)
+
+-- the table once the file at `path` was written: of the first n rows those that may lead to it are forgotten
+unfoldable pub forgotten : List ℕ → List ℕ → List ℕ → ℕ → List ℕ
+forgotten path rows store zero = rows
+forgotten path rows store (suc k) =
+    let before : List ℕ = forgotten path rows store k in
+    if mayLead path rows store k then set before (4 * k + 3) forgottenState else before

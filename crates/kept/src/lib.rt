@@ -1,0 +1,174 @@
+// Files that were read, kept for the rest of a batch. In the store a file's name stands before its bytes. A row of the table has four
+// numbers: where the name starts, where it ends and the bytes start, where they end, and its state. Where another file might not fit, all
+// rows are given up; four of the largest files fit.
+use words::Span;
+ghost use mathlib.Core.Path.{_≡_};
+ghost use Prim.Native.Nat.{_+_, _*_, _-_, _≤_, _<_};
+ghost use lib.ListN.{length, getD};
+ghost use Rattle.kept.specs.Table.{Tidy};
+ghost use Rattle.kept.specs.Names.{isKept, rowOf, rowSet, rowAdded, oneMore};
+ghost use Rattle.kept.specs.Room.{withRoom, withPair};
+ghost use Rattle.kept.specs.Written.{lastPart, sameEnding, mayLead, forgotten};
+
+// The rows in use, and the bytes of the store that they take.
+pub struct Kept {
+    pub rows: usize,
+    pub used: usize,
+}
+
+// The states of a row: a file as it is named, a symbolic link, a file that is no longer found.
+pub const PLAIN: usize = 0;
+
+pub const LINK: usize = 1;
+
+pub const FORGOTTEN: usize = 2;
+
+// Row k has this name and is not forgotten.
+fn is_row(name: &[u8], k: usize, kept: Kept, rows: &[usize; 256], store: &[u8; 4210688]) -> bool
+    requires { ⌜ Tidy (now rows) kept × (k < kept .rows) ⌝ }
+    ensures { λ r. ⌜ r ≡ isKept (now (name .entry)) (now (rows .entry)) (now (store .entry)) k ⌝ }
+{
+    if rows[4 * k + 3] == FORGOTTEN {
+        return false;
+    }
+    let from = rows[4 * k];
+    let end = rows[4 * k + 1];
+    let all: &[u8] = store;
+    let own = &all[from..end];
+    words::is_same(own, name)
+}
+
+// The first row of this name that is not forgotten; the number of rows where there is none.
+pub fn row_of(name: &[u8], kept: Kept, rows: &[usize; 256], store: &[u8; 4210688]) -> usize
+    requires { ⌜ Tidy (now rows) kept ⌝ }
+    ensures { λ r. ⌜ (r ≤ kept .rows) × (r ≡ rowOf (now (name .entry)) (now (rows .entry)) (now (store .entry)) (kept .rows)) ⌝ }
+{
+    let mut k: usize = 0;
+    while k < kept.rows {
+        if is_row(name, k, kept, rows, store) {
+            return k;
+        }
+        k += 1;
+    }
+    k
+}
+
+// Where the bytes of row k stand in the store.
+pub fn bytes_of(k: usize, kept: Kept, rows: &[usize; 256]) -> Span
+    requires { ⌜ Tidy (now rows) kept × (k < kept .rows) ⌝ }
+    ensures { λ r. ⌜ (r .from ≤ r .end) × ((r .end ≤ 4210688) × ((r .from ≡ getD (now (rows .entry)) (4 * k + 1) 0) × (r .end ≡ getD (now (rows .entry)) (4 * k + 2) 0))) ⌝ }
+{
+    let from = rows[4 * k + 1];
+    let end = rows[4 * k + 2];
+    Span { from, end }
+}
+
+// What is kept once there is room for n files more, each with a name of 4,095 bytes and one byte more than the largest file.
+pub fn with_room(kept: Kept, n: usize, rows: &[usize; 256]) -> Kept
+    requires { ⌜ Tidy (now rows) kept × ((0 < n) × (n ≤ 2)) ⌝ }
+    ensures { λ r. ⌜ Tidy (now (rows .entry)) r × ((r .rows + n ≤ 64) × ((r .used + n * 1052672 ≤ 4210688) × (r ≡ withRoom kept n))) ⌝ }
+{
+    if 64 < kept.rows + n {
+        return Kept { rows: 0, used: 0 };
+    }
+    if 4210688 - kept.used < n * 1052672 {
+        return Kept { rows: 0, used: 0 };
+    }
+    kept
+}
+
+// What is kept once the two files of a link can be in the store together.
+pub fn with_pair(
+    first: &[u8],
+    second: &[u8],
+    kept: Kept,
+    rows: &[usize; 256],
+    store: &[u8; 4210688],
+) -> Kept
+    requires { ⌜ Tidy (now rows) kept ⌝ }
+    ensures { λ r. ⌜ Tidy (now (rows .entry)) r × (r ≡ withPair (now (first .entry)) (now (second .entry)) kept (now (rows .entry)) (now (store .entry))) ⌝ }
+{
+    if row_of(first, kept, rows, store) == kept.rows {
+        return with_room(kept, 2, rows);
+    }
+    if row_of(second, kept, rows, store) == kept.rows {
+        return with_room(kept, 2, rows);
+    }
+    kept
+}
+
+// Row k, of a file with its name from `from` on.
+fn put_row(k: usize, from: usize, file: Span, state: usize, rows: &mut [usize])
+    requires { ⌜ (k < 64) × (256 ≡ length (now rows)) ⌝ }
+    ensures { λ _. ⌜ now (rows .exit) ≡ rowSet (now (rows .entry)) (4 * k) from (file .from) (file .end) state ⌝ }
+{
+    rows[4 * k] = from;
+    rows[4 * k + 1] = file.from;
+    rows[4 * k + 2] = file.end;
+    rows[4 * k + 3] = state;
+}
+
+// A row more, of a file whose name starts where the used part of the store ends.
+pub fn add(state: usize, file: Span, kept: Kept, rows: &mut [usize; 256]) -> Kept
+    requires { ⌜ Tidy (now rows) kept × ((kept .rows < 64) × ((kept .used ≤ file .from) × ((file .from ≤ file .end) × (file .end ≤ 4210688)))) ⌝ }
+    ensures { λ r. ⌜ Tidy (now (rows .exit)) r × ((r ≡ oneMore file kept) × (now (rows .exit) ≡ rowAdded state file kept (now (rows .entry)))) ⌝ }
+{
+    put_row(kept.rows, kept.used, file, state, rows);
+    Kept {
+        rows: kept.rows + 1,
+        used: file.end,
+    }
+}
+
+// Where the last part of a path starts: after its last `/`.
+pub fn last_part(path: &[u8]) -> usize
+    ensures { λ r. ⌜ (r ≤ length (now (path .entry))) × (r ≡ lastPart (now (path .entry))) ⌝ }
+{
+    let mut from: usize = 0;
+    let mut i: usize = 0;
+    while i < path.len() {
+        if path[i] == b'/' {
+            from = i + 1;
+        }
+        i += 1;
+    }
+    from
+}
+
+// The last parts of two paths are the same.
+fn same_ending(path: &[u8], name: &[u8]) -> bool
+    ensures { λ r. ⌜ r ≡ sameEnding (now (path .entry)) (now (name .entry)) ⌝ }
+{
+    let last = last_part(path);
+    let own = last_part(name);
+    words::is_same(&path[last..], &name[own..])
+}
+
+// Row k may lead to the file that was written at `path`: it is a symbolic link, or ends in the same part.
+fn may_lead(path: &[u8], k: usize, kept: Kept, rows: &[usize; 256], store: &[u8; 4210688]) -> bool
+    requires { ⌜ Tidy (now rows) kept × (k < kept .rows) ⌝ }
+    ensures { λ r. ⌜ r ≡ mayLead (now (path .entry)) (now (rows .entry)) (now (store .entry)) k ⌝ }
+{
+    if rows[4 * k + 3] == LINK {
+        return true;
+    }
+    let from = rows[4 * k];
+    let end = rows[4 * k + 1];
+    let all: &[u8] = store;
+    let own = &all[from..end];
+    same_ending(path, own)
+}
+
+// All rows that may lead to the file that was written at `path` are forgotten.
+pub fn forget(path: &[u8], kept: Kept, rows: &mut [usize; 256], store: &[u8; 4210688])
+    requires { ⌜ Tidy (now rows) kept ⌝ }
+    ensures { λ _. ⌜ Tidy (now (rows .exit)) kept × (now (rows .exit) ≡ forgotten (now (path .entry)) (now (rows .entry)) (now (store .entry)) (kept .rows)) ⌝ }
+{
+    let mut k: usize = 0;
+    while k < kept.rows {
+        if may_lead(path, k, kept, rows, store) {
+            rows[4 * k + 3] = FORGOTTEN;
+        }
+        k += 1;
+    }
+}
