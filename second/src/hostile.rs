@@ -2,7 +2,7 @@
 
 use crate::builder::*;
 use crate::check::{MAX_CONSTANTS, MAX_FILE, MAX_IDENTIFIER, MAX_INTERFACES, MAX_METHODS};
-use crate::generate::{entries, single};
+use crate::generate::{entries, iid, single};
 use crate::rng::Rng;
 
 /// A file and what is hard about it.
@@ -18,9 +18,9 @@ pub fn cases() -> Vec<Case> {
         ("b: arrays whose numbers name the last argument", deep_arguments()),
         ("c: getters and setters of nearly one name", near_names()),
         ("d: descriptors that overlap, long methods", overlapping(true)),
-        ("e: a chain of 1,024 parents, upward", chain(true)),
-        ("e: a chain of 1,024 parents, downward", chain(false)),
-        ("f: keys with a long common start", near_keys()),
+        ("e: a chain of 1,024 parents, upward", chain(true).bytes()),
+        ("e: a chain of 1,024 parents, downward", chain(false).bytes()),
+        ("f: keys with a long common start", near_keys(0).bytes()),
         ("g: an ordinary file", ordinary()),
         ("h: descriptors that overlap, accessors", overlapping(false)),
         ("i: 240,000 references to a key of 510 bytes", shared_descriptor(true)),
@@ -164,11 +164,11 @@ pub fn long_listing(count: usize) -> Vec<u8> {
 
 /// Chains of 1,024 parents, upward and downward.
 pub fn chains() -> [Vec<u8>; 2] {
-    [chain(true), chain(false)]
+    [chain(true).bytes(), chain(false).bytes()]
 }
 
 /// (e) Each entry is the parent of the one before it, or after it.
-fn chain(upward: bool) -> Vec<u8> {
+fn chain(upward: bool) -> Typelib {
     let mut lib = Typelib { entries: entries(MAX_INTERFACES), ..Typelib::default() };
     for i in 0..MAX_INTERFACES {
         let parent = match upward {
@@ -178,22 +178,54 @@ fn chain(upward: bool) -> Vec<u8> {
         let d = Descriptor { parent: parent as u16, ..Descriptor::default() };
         lib.entries[i].descriptor = Some(lib.add(d));
     }
-    lib.bytes()
+    lib
 }
 
 /// (f) Names of 255 letters with 253 in common and one namespace, stored anew for each. With 254
 /// in common only 64 names can differ.
-fn near_keys() -> Vec<u8> {
+fn near_keys(namespace: usize) -> Typelib {
     let mut lib = Typelib { entries: entries(MAX_INTERFACES), ..Typelib::default() };
     for (i, entry) in lib.entries.iter_mut().enumerate() {
         entry.name = long_name(i);
-        entry.namespace = Some(long_name(0));
+        entry.namespace = Some(long_name(namespace));
     }
-    lib.bytes()
+    lib
 }
 
-/// (g) Some 500 interfaces with 20 to 60 methods each, attributes and constants.
+/// Two good files that are hard on a link, and what is hard about them.
+pub struct Linked {
+    pub name: &'static str,
+    pub files: [Vec<u8>; 2],
+}
+
+pub fn linked() -> [Linked; 2] {
+    // As many entries as can be, none in common: nothing before 25 ends the link.
+    let mut others = near_keys(1);
+    for (i, entry) in others.entries.iter_mut().enumerate() {
+        entry.iid = iid((MAX_INTERFACES + i + 1) as u64);
+    }
+    // Every step up leads from what one file resolves to what the other does.
+    let half = |left_out: usize| {
+        let mut lib = chain(true);
+        lib.entries.iter_mut().skip(left_out).step_by(2).for_each(|entry| entry.descriptor = None);
+        lib.bytes()
+    };
+    [
+        Linked {
+            name: "j: 2,048 keys with a long common start",
+            files: [near_keys(0).bytes(), others.bytes()],
+        },
+        Linked { name: "k: a chain of 1,024 parents, in turns", files: [half(1), half(0)] },
+    ]
+}
+
+/// (g) Some 500 interfaces.
 pub fn ordinary() -> Vec<u8> {
+    interfaces(500).bytes()
+}
+
+/// Interfaces with 20 to 60 methods each, attributes and constants. Parents stand before.
+pub fn interfaces(count: usize) -> Typelib {
     const PARTS: [&str; 32] = [
         "Element", "Node", "List", "Window", "Frame", "Style", "Sheet", "Event", "Target",
         "Listener", "Document", "Content", "Load", "Channel", "Stream", "Buffer", "Cookie", "Host",
@@ -205,7 +237,7 @@ pub fn ordinary() -> Vec<u8> {
         "on", "update",
     ];
     let rng = &mut Rng::new(500);
-    let mut lib = Typelib { entries: entries(500), ..Typelib::default() };
+    let mut lib = Typelib { entries: entries(count), ..Typelib::default() };
     let n = lib.entries.len();
     let part = |rng: &mut Rng| *rng.pick(&PARTS);
     for i in 0..n {
@@ -251,7 +283,7 @@ pub fn ordinary() -> Vec<u8> {
         }
         lib.entries[i].descriptor = Some(lib.add(d));
     }
-    lib.bytes()
+    lib
 }
 
 fn plain_type(rng: &mut Rng, n: usize) -> Type {

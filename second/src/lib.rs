@@ -3,6 +3,7 @@
 
 pub mod accepted;
 pub mod asking;
+pub mod bench;
 pub mod builder;
 pub mod check;
 pub mod coverage;

@@ -38,7 +38,7 @@ fn reordered(lib: &Typelib, order: &[usize]) -> Typelib {
 }
 
 /// Entries by IID; those of zero IID keep their order.
-fn sorted(lib: &Typelib) -> Typelib {
+pub fn sorted(lib: &Typelib) -> Typelib {
     let mut order: Vec<usize> = (0..lib.entries.len()).collect();
     order.sort_by_key(|i| lib.entries[*i].iid);
     reordered(lib, &order)

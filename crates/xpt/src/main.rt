@@ -1,0 +1,41 @@
+// The workbench's commands on files, one at a time or in a batch. The answers are made by the crate `answers`; here are words,
+// files and standard output.
+mod arguments;
+mod batch;
+mod failures;
+mod files;
+mod help;
+mod listed;
+mod outputs;
+mod reasons;
+mod run;
+mod save;
+
+use arguments::Gathered;
+
+// The words of one command, parted by zero bytes; or what stands for none.
+fn start(
+    input: &mut [u8; 65536],
+    rows: &mut [usize; 256],
+    store: &mut [u8; 4210688],
+    out: &mut [u8; 1048576],
+) {
+    match arguments::gather(input) {
+        Gathered::Nothing => help::say_no_command(),
+        Gathered::TooLong => failures::say_arguments_too_long(),
+        Gathered::Help => help::say_help(),
+        Gathered::Batch => batch::run(input, rows, store, out),
+        Gathered::Words(n) => {
+            let all: &[u8] = input;
+            run::single(&all[..n], rows, store, out);
+        }
+    }
+}
+
+fn main() {
+    let mut input = [0u8; 65536];
+    let mut rows = [0usize; 256];
+    let mut store = [0u8; 4210688];
+    let mut out = [0u8; 1048576];
+    start(&mut input, &mut rows, &mut store, &mut out);
+}
