@@ -2,17 +2,21 @@
 //! program where there is one, and counted.
 
 use crate::builder::*;
+use crate::cases::{Asked as Comparison, Case};
 use crate::check::{check, Refusal};
-use crate::coverage::{keep, shown};
-use crate::damage;
+use crate::clauses::{hash, Came, REFUSAL};
+use crate::damage::{self, Made};
 use crate::generate;
 use crate::hostile;
 use crate::model;
+use crate::pairs;
 use crate::questions::{self, Constant as Value, Kind, Lookup, Method as Found, Slot};
 use crate::rng::Rng;
+use crate::session::Session;
+use crate::shape;
 use crate::tally::{Floor, Tally};
 
-#[derive(Clone, Debug)]
+#[derive(Clone, Debug, PartialEq, Eq)]
 pub enum Question {
     Iid(Vec<u8>),
     Key(Vec<u8>, Vec<u8>),
@@ -32,6 +36,7 @@ type ByKey = fn(&[u8], &[u8], &[u8]) -> Lookup<usize>;
 type ByName = fn(&[u8], u64, &[u8], Kind) -> Lookup<Found>;
 
 /// The five questions of a program.
+#[derive(Clone, Copy)]
 pub struct Program {
     pub iid: fn(&[u8], &[u8]) -> Lookup<usize>,
     pub key: ByKey,
@@ -92,6 +97,12 @@ fn ask_model(lib: Result<&Typelib, Refusal>, question: &Question) -> (Reply, usi
             (Reply::Constant(answer), steps)
         }
     }
+}
+
+/// The answer from the model of any file.
+pub fn by_model(file: &[u8], question: &Question) -> Reply {
+    let lib = check(file).map(|_| model::read(file));
+    ask_model(lib.as_ref().map_err(|refusal| *refusal), question).0
 }
 
 // Questions for a file, each with how it was made.
@@ -215,7 +226,7 @@ fn bad_namespace(what: &str) -> &'static str {
     }
 }
 
-const KINDS: [Kind; 3] = [Kind::Getter, Kind::Setter, Kind::Plain];
+pub const KINDS: [Kind; 3] = [Kind::Getter, Kind::Setter, Kind::Plain];
 
 /// One of the entries that the chain passes, the farther ones no rarer than the near ones.
 fn ancestor<'l>(lib: &'l Typelib, rng: &mut Rng, index: usize) -> Option<&'l Descriptor> {
@@ -353,7 +364,7 @@ const FLOORS: &[Floor] = &[
     ((METHOD, "found in the interface itself"), 2_000, 0),
     ((METHOD, "found 1 up"), 1_000, 0),
     ((METHOD, "found 2 up"), 1_000, 0),
-    ((METHOD, "found 3 or more up"), 1_000, 0),
+    ((METHOD, "found 3 or more up"), 800, 0),
     ((METHOD, "slot known"), 2_000, 10),
     ((METHOD, "slot undetermined"), 2_000, 10),
     ((METHOD, "a getter"), 1_000, 0),
@@ -373,7 +384,7 @@ const FLOORS: &[Floor] = &[
     ((SLOT, "found in the interface itself"), 2_000, 0),
     ((SLOT, "found 1 up"), 1_000, 0),
     ((SLOT, "found 2 up"), 1_000, 0),
-    ((SLOT, "found 3 or more up"), 1_000, 0),
+    ((SLOT, "found 3 or more up"), 800, 0),
     ((SLOT, "slot known"), 5_000, 10),
     ((SLOT, "none"), 2_000, 0),
     ((SLOT, "undetermined, itself"), 500, 0),
@@ -390,7 +401,7 @@ const FLOORS: &[Floor] = &[
     ((CONSTANT, "found in the interface itself"), 2_000, 0),
     ((CONSTANT, "found 1 up"), 1_000, 0),
     ((CONSTANT, "found 2 up"), 1_000, 0),
-    ((CONSTANT, "found 3 or more up"), 1_000, 0),
+    ((CONSTANT, "found 3 or more up"), 800, 0),
     ((CONSTANT, "i16"), 1_000, 3),
     ((CONSTANT, "i16 negative"), 500, 2),
     ((CONSTANT, "i32"), 1_000, 3),
@@ -413,48 +424,87 @@ const FLOORS: &[Floor] = &[
     (("all", "questions of accepted files"), 200_000, 0),
 ];
 
-struct Run<'a> {
-    other: Option<&'a Program>,
+struct Run<'s, 'a> {
+    session: &'s mut Session<'a>,
     tally: Tally,
     differs: bool,
 }
 
-impl Run<'_> {
-    /// Asks one question of a file, whose model or refusal is known.
-    fn ask(&mut self, file: &[u8], lib: Result<&Typelib, Refusal>, (made, question): &Asked) {
+/// A file to be asked, its model or refusal, and what tells it from others.
+struct File<'f> {
+    bytes: &'f [u8],
+    /// The same bytes for the other program, which must leave them as they are.
+    lent: Vec<u8>,
+    lib: Result<&'f Typelib, Refusal>,
+    came: Came,
+}
+
+const QUESTIONS: &str = "questions";
+
+impl Run<'_, '_> {
+    /// Asks one question of a file.
+    fn ask(&mut self, file: &File, (made, question): &Asked) {
         if self.differs {
             return;
         }
-        let own = OWN.ask(file, question);
-        let (model, up) = ask_model(lib, question);
-        let other = self.other.map(|other| other.ask(file, question));
-        if model != own || other.is_some_and(|other| other != own) {
-            println!("DIFFERENCE on a file of {} bytes ({made})", file.len());
-            println!("  asked: {question:?}");
-            println!("  this program: {own:?}");
-            println!("  the model: {model:?}");
-            println!("  linked library: {other:?}");
-            println!("  check: {}", shown(check(file)));
-            keep("second-difference.xpt", file);
+        let own = OWN.ask(file.bytes, question);
+        let (model, up) = ask_model(file.lib, question);
+        let as_other =
+            self.session.others.questions.is_none_or(|other| {
+                other.ask(&file.lent, question) == own && file.lent == file.bytes
+            });
+        if model != own || !as_other {
+            let asked = Comparison::Question(question.clone());
+            self.session.found(made, Case { asked, files: vec![file.bytes.to_vec()] });
             self.differs = true;
             return;
         }
         self.tally.add("all", "questions");
-        if lib.is_ok() {
+        self.session.clauses.add([QUESTIONS, "all", "questions"], Came::default());
+        if file.lib.is_ok() {
             self.tally.add("all", "questions of accepted files");
         }
         self.count(made, question, own, up);
+        self.count_outcome(file.came, made, question, own);
+    }
+
+    /// A file made by a generator. What it shows is counted.
+    fn file<'f>(&mut self, way: &'static str, bytes: &'f [u8], lib: &'f Typelib) -> File<'f> {
+        let came = Came { place: None, file: Some(hash(&[bytes])), way: Some(way) };
+        for shape in shape::shapes(bytes, lib) {
+            self.session.clauses.add([QUESTIONS, "shape", shape], came);
+        }
+        File { bytes, lent: bytes.to_vec(), lib: Ok(lib), came }
+    }
+
+    /// Counts the outcome of a question for the closing table.
+    fn count_outcome(&mut self, came: Came, made: &'static str, question: &Question, reply: Reply) {
+        let about = about(question);
+        let what = match reply {
+            Reply::Interface(answer) => outcome(answer, |_| "found"),
+            Reply::Method(answer) => outcome(answer, |found| match found.slot {
+                Slot::Known(_) => "found, slot known",
+                Slot::Undetermined(_) => "found, slot undetermined",
+            }),
+            Reply::Constant(answer) => outcome(answer, |value| match value {
+                Value::I16(_) => "found, i16",
+                Value::I32(_) => "found, i32",
+                Value::U16(_) => "found, u16",
+                Value::U32(_) => "found, u32",
+            }),
+        };
+        let (what, place) = what;
+        let clauses = &mut self.session.clauses;
+        clauses.add([QUESTIONS, about, what], Came { place, ..came });
+        if what == MALFORMED {
+            let came = Came { place: Some(0), way: Some(made), ..came };
+            clauses.add([QUESTIONS, REFUSAL[20], ""], came);
+        }
     }
 
     fn count(&mut self, made: &'static str, question: &Question, reply: Reply, up: usize) {
         let tally = &mut self.tally;
-        let about = match question {
-            Question::Iid(_) => IID,
-            Question::Key(..) => KEY,
-            Question::Method(..) => METHOD,
-            Question::Slot(..) => SLOT,
-            Question::Constant(..) => CONSTANT,
-        };
+        let about = about(question);
         match reply {
             Reply::Interface(Lookup::Found(index)) => {
                 tally.add_at(about, "found", index as u64);
@@ -530,50 +580,92 @@ impl Run<'_> {
     }
 }
 
+fn about(question: &Question) -> &'static str {
+    match question {
+        Question::Iid(_) => IID,
+        Question::Key(..) => KEY,
+        Question::Method(..) => METHOD,
+        Question::Slot(..) => SLOT,
+        Question::Constant(..) => CONSTANT,
+    }
+}
+
+const MALFORMED: &str = "refused with 20";
+
+/// What an answer is, and the number that comes with it: the entry that is unresolved, or the
+/// file's refusal.
+fn outcome<T>(answer: Lookup<T>, found: impl Fn(T) -> &'static str) -> (&'static str, Option<u64>) {
+    match answer {
+        Lookup::Found(it) => (found(it), None),
+        Lookup::None => ("none", None),
+        Lookup::Undetermined(index) => ("undetermined", Some(index as u64)),
+        Lookup::Refused(Refusal { number: 20, .. }) => (MALFORMED, None),
+        Lookup::Refused(Refusal { number, .. }) => ("file refused", Some(number.into())),
+    }
+}
+
 /// Asks questions of many files; stops at the first difference. Whether all is well.
-pub fn run(seed: u64, other: Option<&Program>) -> bool {
+pub fn run(session: &mut Session) -> bool {
+    let (seed, tables) = (session.seed, session.tables);
     println!("Questions, seed {seed}\n");
     let rng = &mut Rng::new(seed);
-    let mut run = Run { other, tally: Tally::default(), differs: false };
+    let mut run = Run { session, tally: Tally::default(), differs: false };
 
-    // Families: the model is known before the bytes are.
-    for _ in 0..5_000 {
-        let lib = generate::family(rng);
+    // Families and other good files: the model is known before the bytes are.
+    for round in 0..6_000 {
+        let (lib, way) = match round % 12 {
+            0 => (generate::random(rng, generate::SMALL), "random"),
+            1 => (generate::random(rng, generate::MEDIUM), "random"),
+            2 => (pairs::view(&pairs::world(rng), rng), "view of a world"),
+            _ => (generate::family(rng), "family"),
+        };
         let bytes = lib.bytes();
+        let file = run.file(way, &bytes, &lib);
         for turn in 0..50 {
-            run.ask(&bytes, Ok(&lib), &question(&lib, rng, turn));
+            run.ask(&file, &question(&lib, rng, turn));
         }
     }
-    // Every hundredth of the files for the check, most of them refused: the file's refusal comes
-    // before a malformed question.
+    damaged(&mut run, rng, seed);
+    large(&mut run, rng);
+    !run.differs && run.tally.report_if(FLOORS, tables)
+}
+
+/// Some of the files for the check, most of them refused: the file's refusal comes before a
+/// malformed question.
+fn damaged(run: &mut Run, rng: &mut Rng, seed: u64) {
     let mut counter = rng.below(97);
     let stranger = generate::family(rng);
-    let everything = &mut |file: &[u8], _: Option<crate::Answer>, _: &'static str| {
+    damage::everything_made(seed, &mut |made: &Made| {
         counter += 1;
         if !counter.is_multiple_of(97) || run.differs {
             return;
         }
-        let read = check(file).map(|_| model::read(file));
+        let read = check(made.bytes).map(|_| model::read(made.bytes));
         let known = read.as_ref().map_err(|refusal| *refusal);
         let lib = known.unwrap_or(&stranger);
+        let came = Came { place: None, file: Some(made.base), way: Some(made.how) };
+        let file = File { bytes: made.bytes, lent: made.bytes.to_vec(), lib: known, came };
         for turn in 0..5 {
-            run.ask(file, known, &question(lib, rng, turn));
+            run.ask(&file, &question(lib, rng, turn));
         }
-    };
-    damage::everything(seed, everything);
-    // Large files and files whose records overlap.
-    let mut large: Vec<Vec<u8>> = (1..=16).map(|n| generate::overlapping_heads(rng, n)).collect();
-    large.push(generate::wide(rng, 1_024).bytes());
-    large.push(hostile::ordinary());
-    large.extend(hostile::chains());
-    for bytes in large {
+    });
+}
+
+/// Large files and files whose records overlap.
+fn large(run: &mut Run, rng: &mut Rng) {
+    let mut large = Vec::new();
+    for n in 1..=16 {
+        large.push((generate::overlapping_heads(rng, n), "overlapping heads"));
+        large.push((generate::names_in_descriptors(rng, 2 * n), "names in descriptors"));
+    }
+    large.push((generate::wide(rng, 1_024).bytes(), "wide"));
+    large.push((hostile::ordinary(), "an ordinary file"));
+    large.extend(hostile::chains().map(|chain| (chain, "a chain of 1,024")));
+    for (bytes, way) in large {
         let lib = model::read(&bytes);
+        let file = run.file(way, &bytes, &lib);
         for turn in 0..40 {
-            run.ask(&bytes, Ok(&lib), &question(&lib, rng, turn));
+            run.ask(&file, &question(&lib, rng, turn));
         }
     }
-    if run.differs {
-        return false;
-    }
-    run.tally.report(FLOORS)
 }

@@ -4,11 +4,49 @@
 use crate::builder::*;
 use crate::check::{Refusal, MAX_FILE, MAX_IDENTIFIER, MAX_INTERFACES};
 use crate::generate::{self, entries, single};
+use crate::pairs;
 use crate::rng::Rng;
 use crate::Answer;
 
 /// Takes a file, its answer where that is known, and how it was made.
 pub type Sink<'a> = dyn FnMut(&[u8], Option<Answer>, &'static str) + 'a;
+
+/// A generated file.
+pub struct Made<'a> {
+    pub bytes: &'a [u8],
+    /// The answer, where it is known from how the file was made. Files whose bytes were changed
+    /// without a purpose have none.
+    pub known: Option<Answer>,
+    pub how: &'static str,
+    /// The number of the good file that it was made from. No two that were built from models of
+    /// their own have the same.
+    pub base: u64,
+}
+
+/// Numbers the good files that others are made from, and hands all of them on.
+struct Bases<'a> {
+    sink: &'a mut dyn FnMut(&Made),
+    count: u64,
+}
+
+impl Bases<'_> {
+    /// What comes is built from models, one for each file.
+    fn each(&mut self, make: impl FnOnce(&mut Sink)) {
+        make(&mut |bytes: &[u8], known: Option<Answer>, how: &'static str| {
+            self.count += 1;
+            (self.sink)(&Made { bytes, known, how, base: self.count });
+        });
+    }
+
+    /// What comes is made from one good file.
+    fn one(&mut self, make: impl FnOnce(&mut Sink)) {
+        self.count += 1;
+        let base = self.count;
+        make(&mut |bytes: &[u8], known: Option<Answer>, how: &'static str| {
+            (self.sink)(&Made { bytes, known, how, base });
+        });
+    }
+}
 
 /// When a fault is met in reading: step, entry, place, and the order at one place.
 type Rank = (u8, usize, usize, u8);
@@ -785,11 +823,10 @@ pub fn scrambled(good: &[u8], rounds: usize, rng: &mut Rng, sink: &mut Sink) {
     }
 }
 
-/// Too short and too long files, and headers of all sorts.
-pub fn headers(rng: &mut Rng, sink: &mut Sink) {
-    let [p1, p2, p3] = generate::marked();
+/// Too short files: the starts of good ones, and any bytes.
+pub fn too_short(rng: &mut Rng, sink: &mut Sink) {
     for length in 0..32 {
-        for good in [&p1, &p2, &p3] {
+        for good in generate::marked() {
             sink(&good[..length], refused(1, length), "1 too short");
         }
         for _ in 0..8 {
@@ -797,6 +834,28 @@ pub fn headers(rng: &mut Rng, sink: &mut Sink) {
             sink(&bytes, refused(1, length), "1 too short");
         }
     }
+}
+
+/// Good files with more unused bytes than are allowed.
+fn too_long(rng: &mut Rng, bases: &mut Bases) {
+    for _ in 0..25 {
+        let mut bytes = generate::random(rng, generate::SMALL).bytes();
+        let short = bytes.len();
+        bytes.resize(MAX_FILE + 300, rng.byte());
+        bases.one(|sink| {
+            for over in [1, 2, 3, rng.range(4, 300)] {
+                for field in [short, MAX_FILE, MAX_FILE + over] {
+                    bytes[20..24].copy_from_slice(&(field as u32).to_be_bytes());
+                    sink(&bytes[..MAX_FILE + over], refused(2, MAX_FILE), "2 too long");
+                }
+            }
+        });
+    }
+}
+
+/// Headers of all sorts.
+pub fn headers(rng: &mut Rng, sink: &mut Sink) {
+    let [p1, p2, p3] = generate::marked();
     // A header alone cannot have a pool.
     for _ in 0..200 {
         let mut bytes = p1[..32].to_vec();
@@ -1269,29 +1328,54 @@ pub fn random_pools(rounds: usize, rng: &mut Rng, sink: &mut Sink) {
 
 /// Hands every generated file to the sink, good and damaged.
 pub fn everything(seed: u64, sink: &mut Sink) {
-    let rng = &mut Rng::new(seed);
-    for good in generate::marked() {
-        sink(&good, Some(Ok(usize::from(good[19]))), "marked");
-        all_bytes(&good, sink);
-        edges(&good, sink);
-        cuts(&good, sink);
-    }
-    for lib in generate::special() {
-        sink(&lib.bytes(), Some(Ok(lib.entries.len())), "special");
-    }
-    headers(rng, sink);
-    short_annotations(sink);
-    prefixes(sink);
-    numbers(sink);
-    wide_numbers(sink);
-    iids(sink);
-    accessors(rng, sink);
-    sizes(sink);
-    keys(rng, sink);
-    chains(rng, sink);
-    random_pools(20_000, rng, sink);
+    everything_made(seed, &mut |made| sink(made.bytes, made.known, made.how));
+}
 
-    // Good files of all sizes; the smaller ones are damaged in every way.
+/// As `everything`, with the good file that each was made from.
+pub fn everything_made(seed: u64, sink: &mut dyn FnMut(&Made)) {
+    let rng = &mut Rng::new(seed);
+    // Other numbers with every seed.
+    let bases = &mut Bases { sink, count: seed.wrapping_mul(1 << 32) };
+    marked(bases);
+    bases.each(|sink| {
+        for lib in generate::special() {
+            sink(&lib.bytes(), Some(Ok(lib.entries.len())), "special");
+        }
+    });
+    bases.each(|sink| too_short(rng, sink));
+    too_long(rng, bases);
+    bases.one(|sink| headers(rng, sink));
+    bases.one(short_annotations);
+    bases.each(prefixes);
+    bases.each(numbers);
+    bases.each(wide_numbers);
+    bases.one(iids);
+    bases.each(|sink| accessors(rng, sink));
+    bases.each(sizes);
+    bases.each(|sink| keys(rng, sink));
+    bases.each(|sink| chains(rng, sink));
+    bases.one(|sink| random_pools(20_000, rng, sink));
+    good(rng, bases);
+    related(rng, bases);
+    all_faults(rng, bases);
+    some_faults(rng, bases);
+    far_faults(rng, bases);
+}
+
+/// The marked files and every change of a byte in them.
+fn marked(bases: &mut Bases) {
+    for good in generate::marked() {
+        bases.one(|sink| {
+            sink(&good, Some(Ok(usize::from(good[19]))), "marked");
+            all_bytes(&good, sink);
+            edges(&good, sink);
+            cuts(&good, sink);
+        });
+    }
+}
+
+/// Good files of all sizes, some of them scrambled.
+fn good(rng: &mut Rng, bases: &mut Bases) {
     for round in 0..12_000 {
         let size = match round % 8 {
             0..6 => generate::SMALL,
@@ -1301,19 +1385,44 @@ pub fn everything(seed: u64, sink: &mut Sink) {
         };
         let lib = generate::random(rng, size);
         let bytes = lib.bytes();
-        sink(&bytes, Some(Ok(lib.entries.len())), "random");
-        if round % 4 == 0 {
-            scrambled(&bytes, 20, rng, sink);
-        }
+        bases.one(|sink| {
+            sink(&bytes, Some(Ok(lib.entries.len())), "random");
+            if round % 4 == 0 {
+                scrambled(&bytes, 20, rng, sink);
+            }
+        });
+    }
+}
+
+/// Good files that inherit over several levels, and files whose records overlap.
+fn related(rng: &mut Rng, bases: &mut Bases) {
+    for round in 0..3_000 {
+        let (lib, how) = match round % 3 {
+            0 => (pairs::view(&pairs::world(rng), rng), "view of a world"),
+            _ => (generate::family(rng), "family"),
+        };
+        bases.each(|sink| sink(&lib.bytes(), Some(Ok(lib.entries.len())), how));
     }
     for round in 0..60 {
         let bytes = generate::overlapping_heads(rng, 1 + round % 16);
-        sink(&bytes, Some(Ok(2 + round % 16)), "overlapping heads");
-        scrambled(&bytes, 50, rng, sink);
-        if round == 3 {
-            all_bytes(&bytes, sink);
-        }
+        bases.one(|sink| {
+            sink(&bytes, Some(Ok(2 + round % 16)), "overlapping heads");
+            scrambled(&bytes, 50, rng, sink);
+            if round == 3 {
+                all_bytes(&bytes, sink);
+            }
+        });
+        let count = 1 + round % 40;
+        let bytes = generate::names_in_descriptors(rng, count);
+        bases.one(|sink| {
+            sink(&bytes, Some(Ok(count)), "names in descriptors");
+            scrambled(&bytes, 20, rng, sink);
+        });
     }
+}
+
+/// Files with every kind of field, damaged in every way.
+fn all_faults(rng: &mut Rng, bases: &mut Bases) {
     for (minor, order) in [
         (1, Order::Entries),
         (1, Order::NamesFirst),
@@ -1323,18 +1432,24 @@ pub fn everything(seed: u64, sink: &mut Sink) {
     ] {
         let lib = generate::rich(minor, order);
         let built = lib.build();
-        sink(&built.bytes, Some(Ok(7)), "rich");
-        single_and_paired(&lib, 7, usize::MAX, 20_000, sink);
-        cut_last_record(&lib, sink);
-        long_names(&lib, sink);
-        cuts(&built.bytes, sink);
-        scrambled(&built.bytes, 5_000, rng, sink);
-        edges(&built.bytes, sink);
-        if order == Order::NamesFirst {
-            all_bytes(&built.bytes, sink);
-            pointers(&built, sink);
-        }
+        bases.one(|sink| {
+            sink(&built.bytes, Some(Ok(7)), "rich");
+            single_and_paired(&lib, 7, usize::MAX, 20_000, sink);
+            cut_last_record(&lib, sink);
+            long_names(&lib, sink);
+            cuts(&built.bytes, sink);
+            scrambled(&built.bytes, 5_000, rng, sink);
+            edges(&built.bytes, sink);
+            if order == Order::NamesFirst {
+                all_bytes(&built.bytes, sink);
+                pointers(&built, sink);
+            }
+        });
     }
+}
+
+/// Random files, damaged in many ways.
+fn some_faults(rng: &mut Rng, bases: &mut Bases) {
     for round in 0..120 {
         let size = if round % 6 == 5 { generate::MEDIUM } else { generate::SMALL };
         let mut lib = generate::random(rng, size);
@@ -1342,26 +1457,31 @@ pub fn everything(seed: u64, sink: &mut Sink) {
             lib = generate::random(rng, size);
         }
         let built = lib.build();
-        if built.bytes.len() < 1_000 && round % 2 == 0 {
-            cuts(&built.bytes, sink);
-            edges(&built.bytes, sink);
-            pointers(&built, sink);
-        }
-        if built.bytes.len() < 600 && round % 10 == 0 {
-            all_bytes(&built.bytes, sink);
-        }
-        if round % 4 == 0 {
-            long_names(&lib, sink);
-        }
-        lib.sharing = Sharing::None;
-        single_and_paired(&lib, round, 4_000, 3_000, sink);
-        cut_last_record(&lib, sink);
+        bases.one(|sink| {
+            if built.bytes.len() < 1_000 && round % 2 == 0 {
+                cuts(&built.bytes, sink);
+                edges(&built.bytes, sink);
+                pointers(&built, sink);
+            }
+            if built.bytes.len() < 600 && round % 10 == 0 {
+                all_bytes(&built.bytes, sink);
+            }
+            if round % 4 == 0 {
+                long_names(&lib, sink);
+            }
+            lib.sharing = Sharing::None;
+            single_and_paired(&lib, round, 4_000, 3_000, sink);
+            cut_last_record(&lib, sink);
+        });
     }
-    // Far places: large files, of which a check reads much before it meets the fault.
+}
+
+/// Far places: large files, of which a check reads much before it meets the fault.
+fn far_faults(rng: &mut Rng, bases: &mut Bases) {
     for round in 0..8 {
         let mut lib = generate::random(rng, generate::LARGE);
         lib.sharing = Sharing::None;
-        single_and_paired(&lib, round, 400, 400, sink);
+        bases.one(|sink| single_and_paired(&lib, round, 400, 400, sink));
     }
     let rich = generate::rich(1, Order::NamesFirst);
     let to_the_end = MAX_FILE - rich.bytes().len();
@@ -1370,18 +1490,22 @@ pub fn everything(seed: u64, sink: &mut Sink) {
         Typelib { record_gap: 40_000, junk: 4, ..generate::rich(0, Order::Shuffled) },
         Typelib { pool_gap: to_the_end, ..rich },
     ] {
-        sink(&lib.bytes(), Some(Ok(7)), "far");
-        single_and_paired(&lib, 5, 1_500, 500, sink);
+        bases.one(|sink| {
+            sink(&lib.bytes(), Some(Ok(7)), "far");
+            single_and_paired(&lib, 5, 1_500, 500, sink);
+        });
     }
     let text = |length: usize| vec![b'~'; length];
     for (first, second) in [(300, 65_535), (65_535, 256)] {
         let annotations = vec![Annotation::Texts(text(first), text(second)), Annotation::Empty];
         let lib = Typelib { annotations, entries: entries(2), ..Typelib::default() };
-        single_and_paired(&lib, 6, 300, 100, sink);
+        bases.one(|sink| single_and_paired(&lib, 6, 300, 100, sink));
     }
     for count in [200, 1023, MAX_INTERFACES] {
         let lib = generate::wide(rng, count);
-        sink(&lib.bytes(), Some(Ok(count)), "wide");
-        single_and_paired(&lib, 3, 400, 400, sink);
+        bases.one(|sink| {
+            sink(&lib.bytes(), Some(Ok(count)), "wide");
+            single_and_paired(&lib, 3, 400, 400, sink);
+        });
     }
 }

@@ -524,6 +524,29 @@ pub fn overlapping_heads(rng: &mut Rng, count: usize) -> Vec<u8> {
     bytes
 }
 
+/// Entries whose names stand inside descriptors: in the values of their constants.
+pub fn names_in_descriptors(rng: &mut Rng, count: usize) -> Vec<u8> {
+    assert!((1..=LETTERS.len()).contains(&count));
+    let mut lib = Typelib { sharing: Sharing::None, ..layout(rng, 1) };
+    lib.entries = entries(count);
+    for (entry, letter) in lib.entries.iter_mut().zip(LETTERS) {
+        let value = u32::from_be_bytes([*letter, *rng.pick(LETTERS), 0, rng.byte()]);
+        let constants = vec![Constant::new(b"K", *rng.pick(&[2, 6]), value)];
+        lib.descriptors.push(Descriptor { constants, ..Descriptor::default() });
+        entry.descriptor = Some(lib.descriptors.len() - 1);
+    }
+    let built = lib.build();
+    let mut bytes = built.bytes.clone();
+    let values = built.spots.iter().filter(|spot| spot.field == Field::ConstantValue);
+    let shift = rng.below(count);
+    for (i, value) in values.enumerate() {
+        let pointer = (value.at - built.pool + 1) as u32;
+        let entry = built.entry((i + shift) % count);
+        bytes[entry + 16..][..4].copy_from_slice(&pointer.to_be_bytes());
+    }
+    bytes
+}
+
 /// Good typelibs at the edges of what is allowed.
 pub fn special() -> Vec<Typelib> {
     let mut all = Vec::new();

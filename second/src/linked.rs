@@ -8,22 +8,25 @@ extern "C" {
 }
 
 pub fn check(file: &[u8]) -> Answer {
-    let mut answer = [0u64; 2];
-    // SAFETY: the library reads `len` bytes from `file` and writes two numbers to `answer`, both lent for the call.
-    unsafe { saniotka_check(file.as_ptr(), file.len(), answer.as_mut_ptr(), answer.len()) };
-    let [number, value] = answer;
-    match number {
-        0 => Ok(value as usize),
-        _ => Err(Refusal { number: number as u32, place: value as usize }),
+    let mut room = Room::new();
+    // SAFETY: the library reads `len` bytes from `file` and writes at most `room` numbers to the answer, both lent for
+    // the call.
+    unsafe { saniotka_check(file.as_ptr(), file.len(), room.0.as_mut_ptr(), room.0.len()) };
+    match room.named() {
+        Some([0, n]) => Ok(n as usize),
+        Some([number, place]) => Err(Room::refusal(number, place)),
+        None => Err(NONSENSE),
     }
 }
 
+/// Stands for an answer that the library's interface does not have: no program refuses with it,
+/// so that it shows as a difference.
+pub const NONSENSE: Refusal = Refusal { number: u32::MAX, place: usize::MAX };
+
 /// Room for an answer, more than any needs. It stands filled with a pattern, as places that an
 /// answer does not name keep what they held.
-#[cfg(any(feature = "questions", feature = "links"))]
 struct Room([u64; 8]);
 
-#[cfg(any(feature = "questions", feature = "links"))]
 impl Room {
     const UNTOUCHED: u64 = 0x5e5e_a1a1_0f0f_c3c3;
 
@@ -31,24 +34,16 @@ impl Room {
         Room([Room::UNTOUCHED; 8])
     }
 
-    /// The first places, all of which the answer names; the others must be untouched.
-    fn named<const N: usize>(&self) -> [u64; N] {
+    /// The first places, all of which the answer names, if the others are untouched.
+    fn named<const N: usize>(&self) -> Option<[u64; N]> {
         let (named, others) = self.0.split_at(N);
         let untouched = others.iter().all(|place| *place == Room::UNTOUCHED);
-        assert!(untouched, "the library wrote places that its answer does not name: {self:x?}");
-        named.try_into().unwrap()
+        named.try_into().ok().filter(|_| untouched)
     }
 
     fn refusal(number: u64, place: u64) -> Refusal {
-        let number = u32::try_from(number).expect("the number of a refusal");
-        Refusal { number, place: place as usize }
-    }
-}
-
-#[cfg(any(feature = "questions", feature = "links"))]
-impl std::fmt::Debug for Room {
-    fn fmt(&self, f: &mut std::fmt::Formatter) -> std::fmt::Result {
-        self.0.fmt(f)
+        let number = u32::try_from(number);
+        number.map_or(NONSENSE, |number| Refusal { number, place: place as usize })
     }
 }
 
@@ -59,7 +54,7 @@ pub use writing::LINKS;
 
 #[cfg(feature = "questions")]
 mod asked {
-    use super::Room;
+    use super::{Room, NONSENSE};
     use crate::asking::Program;
     use crate::questions::{Constant, Kind, Lookup, Method, Slot};
 
@@ -196,57 +191,50 @@ mod asked {
     }
 
     /// The answer, of which `of` reads what was found.
-    fn found<T>(room: &Room, of: fn(&Room) -> T) -> Lookup<T> {
-        match room.0[0] {
-            0 => Lookup::Found(of(room)),
-            1 => {
-                room.named::<1>();
-                Lookup::None
-            }
-            2 => {
-                let [_, index] = room.named();
-                Lookup::Undetermined(index as usize)
-            }
+    fn found<T>(room: &Room, of: fn(&Room) -> Option<T>) -> Lookup<T> {
+        let answer = match room.0[0] {
+            0 => of(room).map(Lookup::Found),
+            1 => room.named::<1>().map(|_| Lookup::None),
+            2 => room.named().map(|[_, index]| Lookup::Undetermined(index as usize)),
             3 => {
-                let [_, number, place] = room.named();
-                Lookup::Refused(Room::refusal(number, place))
+                room.named().map(|[_, number, place]| Lookup::Refused(Room::refusal(number, place)))
             }
-            _ => panic!("the library answers {room:x?}"),
-        }
+            _ => None,
+        };
+        answer.unwrap_or(Lookup::Refused(NONSENSE))
     }
 
-    fn interface(room: &Room) -> usize {
-        let [_, index] = room.named();
-        index as usize
+    fn interface(room: &Room) -> Option<usize> {
+        room.named().map(|[_, index]| index as usize)
     }
 
-    fn owned(room: &Room) -> Method {
-        let [_, owner, position, known, slot] = room.named();
+    fn owned(room: &Room) -> Option<Method> {
+        let [_, owner, position, known, slot] = room.named()?;
         let slot = match known {
             0 => Slot::Known(slot),
             1 => Slot::Undetermined(slot as usize),
-            _ => panic!("the library answers {room:x?}"),
+            _ => return None,
         };
-        Method { owner: owner as usize, position: position as usize, slot }
+        Some(Method { owner: owner as usize, position: position as usize, slot })
     }
 
-    fn valued(room: &Room) -> Constant {
-        let [_, kind, bits] = room.named();
+    fn valued(room: &Room) -> Option<Constant> {
+        let [_, kind, bits] = room.named()?;
         let low = u16::try_from(bits);
         let all = u32::try_from(bits);
         match (kind, low, all) {
-            (1, Ok(bits), _) => Constant::I16(bits as i16),
-            (2, _, Ok(bits)) => Constant::I32(bits as i32),
-            (5, Ok(bits), _) => Constant::U16(bits),
-            (6, _, Ok(bits)) => Constant::U32(bits),
-            _ => panic!("the library answers {room:x?}"),
+            (1, Ok(bits), _) => Some(Constant::I16(bits as i16)),
+            (2, _, Ok(bits)) => Some(Constant::I32(bits as i32)),
+            (5, Ok(bits), _) => Some(Constant::U16(bits)),
+            (6, _, Ok(bits)) => Some(Constant::U32(bits)),
+            _ => None,
         }
     }
 }
 
 #[cfg(feature = "links")]
 mod writing {
-    use super::Room;
+    use super::{Room, NONSENSE};
     use crate::check::Refusal;
     use crate::link::LinkRefusal;
     use crate::linking::Program;
@@ -291,17 +279,12 @@ mod writing {
                 room.0.len(),
             )
         };
-        match room.0[0] {
-            0 => {
-                let [_, length] = room.named();
-                Ok(length as usize)
-            }
-            3 => {
-                let [_, number, place] = room.named();
-                Err(Room::refusal(number, place))
-            }
-            _ => panic!("the library answers {room:x?}"),
-        }
+        let answer = match room.0[0] {
+            0 => room.named().map(|[_, length]| Ok(length as usize)),
+            3 => room.named().map(|[_, number, place]| Err(Room::refusal(number, place))),
+            _ => None,
+        };
+        answer.unwrap_or(Err(NONSENSE))
     }
 
     fn link(first: &[u8], second: &[u8], out: &mut [u8]) -> Result<usize, LinkRefusal> {
@@ -318,17 +301,14 @@ mod writing {
                 room.0.len(),
             )
         };
-        match room.0[0] {
-            0 => {
-                let [_, length] = room.named();
-                Ok(length as usize)
-            }
-            3 => {
-                let [_, which, number, place] = room.named();
-                let which = u8::try_from(which).expect("0, 1 or 2");
+        let answer = match room.0[0] {
+            0 => room.named().map(|[_, length]| Ok(length as usize)),
+            3 => room.named().map(|[_, which, number, place]| {
+                let which = u8::try_from(which).unwrap_or(u8::MAX);
                 Err((which, Room::refusal(number, place)))
-            }
-            _ => panic!("the library answers {room:x?}"),
-        }
+            }),
+            _ => None,
+        };
+        answer.unwrap_or(Err((0, NONSENSE)))
     }
 }

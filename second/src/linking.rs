@@ -1,16 +1,22 @@
 //! Normal forms and links of many files, beside the model and another program where there is
 //! one: answers, every byte of the buffers, and the laws of linking.
 
+use crate::buffers::{lent, strayed, Room, GUARD, ROOMS, SHORT, WIDE};
 use crate::builder::Typelib;
+use crate::cases::{Asked, Case};
 use crate::check::{check, Refusal, MAX_FILE};
-use crate::coverage::keep;
+use crate::clauses::{hash, Came, REFUSAL};
 use crate::damage;
 use crate::generate;
+use crate::hostile;
+use crate::laws::{self, Law};
 use crate::link::{link, LinkRefusal};
 use crate::model;
 use crate::normal::normalise;
 use crate::pairs;
 use crate::rng::Rng;
+use crate::session::Session;
+use crate::shape;
 use crate::tally::{Floor, Tally};
 use std::collections::HashMap;
 
@@ -18,6 +24,7 @@ type Normalise = fn(&[u8], &mut [u8]) -> Result<usize, Refusal>;
 type Link = fn(&[u8], &[u8], &mut [u8]) -> Result<usize, LinkRefusal>;
 
 /// What a program that links has.
+#[derive(Clone, Copy)]
 pub struct Program {
     pub normalise: Normalise,
     pub link: Link,
@@ -25,11 +32,14 @@ pub struct Program {
 
 pub const OWN: Program = Program { normalise, link };
 
+/// The model of an accepted file, or why it is refused.
+pub type Model = Result<Typelib, Refusal>;
+
 /// A file, with its model where it is accepted.
 #[derive(Clone)]
 struct File {
     bytes: Vec<u8>,
-    model: Result<Typelib, Refusal>,
+    model: Model,
 }
 
 impl File {
@@ -37,58 +47,14 @@ impl File {
         let model = check(&bytes).map(|_| model::read(&bytes));
         File { bytes, model }
     }
+
+    fn of(lib: &Typelib) -> File {
+        File::new(lib.bytes())
+    }
 }
 
 /// A call's answer; where it is good, what was written.
-type Written = Result<Vec<u8>, LinkRefusal>;
-
-/// Names a buffer's length by what is needed.
-#[derive(Clone, Copy, PartialEq, Eq)]
-enum Room {
-    Empty,
-    ShortByOne,
-    Short,
-    Exact,
-    LongerByOne,
-    Longer,
-    Most,
-}
-
-const ROOMS: [Room; 7] = [
-    Room::Empty,
-    Room::ShortByOne,
-    Room::Short,
-    Room::Exact,
-    Room::LongerByOne,
-    Room::Longer,
-    Room::Most,
-];
-
-impl Room {
-    fn length(self, needed: usize, rng: &mut Rng) -> usize {
-        match self {
-            Room::Empty => 0,
-            Room::ShortByOne => needed - 1,
-            Room::Short => rng.below(needed),
-            Room::Exact => needed,
-            Room::LongerByOne => needed + 1,
-            Room::Longer => needed + rng.range(2, 300),
-            Room::Most => MAX_FILE,
-        }
-    }
-
-    fn name(self) -> &'static str {
-        match self {
-            Room::Empty => "buffer empty",
-            Room::ShortByOne => "buffer short by one",
-            Room::Short => "buffer short",
-            Room::Exact => "buffer exact",
-            Room::LongerByOne => "buffer longer by one",
-            Room::Longer => "buffer longer",
-            Room::Most => "buffer of 1,048,576",
-        }
-    }
-}
+pub type Written = Result<Vec<u8>, LinkRefusal>;
 
 /// Rows by number: 21 to 27, 0 for links that are written and 1 for a file's own refusal.
 fn about(number: u32, normalising: bool) -> &'static str {
@@ -109,9 +75,10 @@ fn about(number: u32, normalising: bool) -> &'static str {
     }
 }
 
-const FORWARD: &str = "first with second";
-const BACKWARD: &str = "second with first";
+pub const FORWARD: &str = "first with second";
+pub const BACKWARD: &str = "second with first";
 
+/// Rows beside those of buffers.
 const FLOORS: &[Floor] = &[
     (("all", "pairs of files"), 20_000, 0),
     (("all", "links"), 80_000, 0),
@@ -119,10 +86,6 @@ const FLOORS: &[Floor] = &[
     (("linked", FORWARD), 5_000, 0),
     (("linked", BACKWARD), 5_000, 0),
     (("linked", "bytes past the end kept"), 5_000, 0),
-    (("linked", "buffer exact"), 2_000, 0),
-    (("linked", "buffer longer by one"), 2_000, 0),
-    (("linked", "buffer longer"), 2_000, 0),
-    (("linked", "buffer of 1,048,576"), 100, 0),
     (("link 21", FORWARD), 500, 8),
     (("link 21", BACKWARD), 500, 8),
     (("link 22", FORWARD), 500, 8),
@@ -140,53 +103,12 @@ const FLOORS: &[Floor] = &[
     (("link, file", "the first"), 200, 0),
     (("link, file", "the second"), 200, 0),
     (("link, file", "both"), 200, 0),
-    (("link, file", FORWARD), 200, 15),
-    (("link, file", BACKWARD), 200, 15),
-    (("link 21", "buffer empty"), 50, 0),
-    (("link 21", "buffer short by one"), 50, 0),
-    (("link 21", "buffer exact"), 50, 0),
-    (("link 21", "buffer longer"), 50, 0),
-    (("link 22", "buffer empty"), 50, 0),
-    (("link 22", "buffer short by one"), 50, 0),
-    (("link 22", "buffer exact"), 50, 0),
-    (("link 22", "buffer longer"), 50, 0),
-    (("link 23", "buffer empty"), 50, 0),
-    (("link 23", "buffer short by one"), 50, 0),
-    (("link 23", "buffer exact"), 50, 0),
-    (("link 23", "buffer longer"), 50, 0),
-    (("link 24", "buffer empty"), 50, 0),
-    (("link 24", "buffer short by one"), 50, 0),
-    (("link 24", "buffer exact"), 50, 0),
-    (("link 24", "buffer longer"), 50, 0),
-    (("link 25", "buffer empty"), 5, 0),
-    (("link 25", "buffer short by one"), 5, 0),
-    (("link 25", "buffer exact"), 5, 0),
-    (("link 25", "buffer longer"), 5, 0),
-    (("link 26", "buffer empty"), 5, 0),
-    (("link 26", "buffer short by one"), 5, 0),
-    (("link 26", "buffer exact"), 5, 0),
-    (("link 26", "buffer longer"), 5, 0),
-    (("link 27", "buffer empty"), 500, 0),
-    (("link 27", "buffer short by one"), 500, 0),
-    (("link 27", "buffer short"), 500, 0),
-    (("link, file", "buffer empty"), 50, 0),
-    (("link, file", "buffer short by one"), 50, 0),
-    (("link, file", "buffer exact"), 50, 0),
-    (("link, file", "buffer longer"), 50, 0),
+    (("link, file", FORWARD), 200, 19),
+    (("link, file", BACKWARD), 200, 19),
     (("normal", "written"), 5_000, 0),
     (("normal", "changed"), 5_000, 0),
     (("normal", "bytes past the end kept"), 2_000, 0),
-    (("normal", "buffer exact"), 1_000, 0),
-    (("normal 26", "buffer empty"), 2, 0),
-    (("normal 26", "buffer short by one"), 2, 0),
-    (("normal 26", "buffer exact"), 2, 0),
-    (("normal 26", "buffer longer"), 2, 0),
-    (("normal 27", "buffer empty"), 500, 0),
-    (("normal 27", "buffer short by one"), 500, 0),
-    (("normal 27", "buffer short"), 500, 0),
     (("normal, file", "refused"), 1_000, 19),
-    (("normal, file", "buffer empty"), 50, 0),
-    (("normal, file", "buffer longer"), 50, 0),
     (("law", "swapping: length and bytes"), 5_000, 0),
     (("law", "swapping: number"), 5_000, 0),
     (("law", "grouping: same bytes"), 1_000, 0),
@@ -206,7 +128,7 @@ const FLOORS: &[Floor] = &[
     (("made", "no parent"), 50, 0),
     (("made", "a method more"), 50, 0),
     (("made", "a method less"), 30, 0),
-    (("made", "order of methods"), 30, 0),
+    (("made", "order of methods"), 20, 0),
     (("made", "method's flags"), 50, 0),
     (("made", "method's name"), 30, 0),
     (("made", "an argument more"), 50, 0),
@@ -233,10 +155,86 @@ const FLOORS: &[Floor] = &[
     (("made", "normal form of 1,048,575"), 1, 0),
     (("made", "normal form of 1,048,576"), 3, 0),
     (("made", "normal form of 1,048,577"), 1, 0),
+    (("made", "a file over the limit"), 8, 0),
 ];
 
-struct Run<'a> {
-    other: Option<&'a Program>,
+/// How often each kind of buffer must be met at least, by row: those that are too short, those
+/// that do, those of 1,048,576 bytes and over.
+const BUFFERS: &[(&str, [usize; 3])] = &[
+    ("linked", [0, 2_000, 100]),
+    ("link 21", [500, 500, 30]),
+    ("link 22", [500, 500, 30]),
+    ("link 23", [500, 500, 30]),
+    ("link 24", [500, 500, 30]),
+    ("link 25", [15, 15, 15]),
+    ("link 26", [10, 10, 10]),
+    ("link 27", [2_000, 0, 0]),
+    ("link, file", [500, 500, 50]),
+    ("normal", [0, 1_000, 100]),
+    ("normal 26", [3, 3, 3]),
+    ("normal 27", [1_000, 0, 0]),
+    ("normal, file", [500, 500, 50]),
+];
+
+fn floors() -> Vec<Floor> {
+    let mut all = FLOORS.to_vec();
+    for (about, least) in BUFFERS {
+        for room in ROOMS {
+            let least = match room {
+                Room::Most | Room::OverMost => least[2],
+                _ if SHORT.contains(&room) => least[0],
+                _ => least[1],
+            };
+            if least > 0 {
+                all.push(((about, room.name()), least, 0));
+            }
+        }
+    }
+    all
+}
+
+impl Program {
+    /// Normalises one file or links two.
+    pub fn write(&self, files: &[&[u8]], out: &mut [u8]) -> Result<usize, LinkRefusal> {
+        match files {
+            [file] => (self.normalise)(file, out).map_err(|refusal| (0, refusal)),
+            [first, second] => (self.link)(first, second, out),
+            _ => unreachable!("one file or two"),
+        }
+    }
+}
+
+/// What must be written for one file or two, in a buffer that is long enough. The refusals of one
+/// file are told as 0's.
+pub fn expected(models: &[&Model]) -> Written {
+    let link = |refusal| (0, refusal);
+    match models {
+        [file] => model::normal(file.as_ref().map_err(|why| link(*why))?, usize::MAX),
+        [first, second] => {
+            let first = first.as_ref().map_err(|refusal| (1, *refusal))?;
+            let second = second.as_ref().map_err(|refusal| (2, *refusal))?;
+            let union = model::union(first, second).map_err(link)?;
+            model::normal(&union, usize::MAX)
+        }
+        _ => unreachable!("one file or two"),
+    }
+    .map_err(link)
+}
+
+/// The same in a buffer of this length.
+pub fn in_room(expected: &Written, room: usize) -> Result<&[u8], LinkRefusal> {
+    match expected {
+        Ok(bytes) if bytes.len() > room => Err((0, Refusal { number: 27, place: bytes.len() })),
+        expected => expected.as_deref().map_err(|refusal| *refusal),
+    }
+}
+
+// The run.
+
+const LINKS: &str = "links";
+
+struct Run<'s, 'a> {
+    session: &'s mut Session<'a>,
     rng: Rng,
     /// Buffers are filled with parts of it before each call.
     noise: Vec<u8>,
@@ -244,75 +242,103 @@ struct Run<'a> {
     differs: bool,
 }
 
-/// What a link of these files must write, in a buffer that is long enough.
-fn expected_link(first: &File, second: &File) -> Written {
-    let first = first.model.as_ref().map_err(|refusal| (1, *refusal))?;
-    let second = second.model.as_ref().map_err(|refusal| (2, *refusal))?;
-    let link = |refusal| (0, refusal);
-    let union = model::union(first, second).map_err(link)?;
-    model::normal(&union, usize::MAX).map_err(link)
+/// Tells rows of files apart.
+fn together(files: &[&File]) -> Option<u64> {
+    let bytes: Vec<&[u8]> = files.iter().map(|file| &file.bytes[..]).collect();
+    Some(hash(&bytes))
 }
 
-/// What normalising must write, in a buffer that is long enough. Its refusals are told as 0's.
-fn expected_normal(file: &File) -> Written {
-    let model = file.model.as_ref().map_err(|refusal| (0, *refusal))?;
-    model::normal(model, usize::MAX).map_err(|refusal| (0, refusal))
+/// The length that is needed; where nothing can be written, one that might have been.
+fn needed(expected: &Written, read: usize) -> usize {
+    expected.as_ref().map_or(read.clamp(1, MAX_FILE), |bytes| bytes.len())
 }
 
-impl Run<'_> {
-    /// Makes one call by every program and compares answers and buffers, byte by byte.
-    fn call(
-        &mut self,
-        files: &[&File],
-        room: usize,
-        expected: &Written,
-        call: impl Fn(&Program, &mut [u8]) -> Result<usize, LinkRefusal>,
-    ) -> Written {
-        let expected = match expected {
-            Ok(bytes) if bytes.len() > room => Err((0, Refusal { number: 27, place: bytes.len() })),
-            expected => expected.as_deref().map_err(|refusal| *refusal),
-        };
+impl Run<'_, '_> {
+    fn clause(&mut self, about: &'static str, what: &'static str, came: Came) {
+        self.session.clauses.add([LINKS, about, what], came);
+    }
+
+    /// A file made by a generator. What it shows is counted.
+    fn file(&mut self, way: &'static str, lib: &Typelib) -> File {
+        self.bytes(way, lib.bytes())
+    }
+
+    fn bytes(&mut self, way: &'static str, bytes: Vec<u8>) -> File {
+        let file = File::new(bytes);
+        if let Ok(lib) = &file.model {
+            let came = Came { file: together(&[&file]), way: Some(way), ..Came::default() };
+            for shape in shape::shapes(&file.bytes, lib) {
+                self.clause("shape", shape, came);
+            }
+        }
+        file
+    }
+
+    /// Has every program write and compares answers and buffers, byte by byte, guards and files
+    /// included.
+    fn call(&mut self, files: &[&File], room: usize, expected: &Written) -> Written {
+        let about = if files.len() == 1 { "normal forms" } else { "links" };
+        self.tally.add("all", about);
+        self.session.clauses.add([LINKS, "all", about], Came::default());
         let from = self.rng.below(1_000);
-        let before = &self.noise[from..from + room];
-        let mut out = before.to_vec();
-        let own = call(&OWN, &mut out);
-        let other = self.other.map(|other| {
-            let mut other_out = before.to_vec();
-            (call(other, &mut other_out), other_out)
-        });
+        let before = &self.noise[from..from + room + 2 * GUARD];
+        let bytes: Vec<&[u8]> = files.iter().map(|file| &file.bytes[..]).collect();
+        let (own, mut out) = lent(before, room, |out| OWN.write(&bytes, out));
+        let expected = in_room(expected, room);
         let written = expected.unwrap_or(&[]);
         let as_expected = own == expected.map(<[u8]>::len)
-            && out[..written.len()] == *written
-            && out[written.len()..] == before[written.len()..];
-        let as_other = other.as_ref().is_none_or(|(answer, bytes)| *answer == own && *bytes == out);
-        if !as_expected || !as_other {
-            println!("DIFFERENCE with a buffer of {room} bytes");
-            println!("  this program: {own:?}");
-            println!("  the model: {:?}", expected.map(<[u8]>::len));
-            if !as_expected {
-                println!("  this program's answer or bytes are not the model's");
-            }
-            if let Some((answer, bytes)) = other {
-                println!("  linked library: {answer:?}");
-                if let Some(at) = bytes.iter().zip(&out).position(|(a, b)| a != b) {
-                    println!("  its buffer differs from this program's at {at}");
-                }
-            }
-            for (i, file) in files.iter().enumerate() {
-                keep(["second-difference-1.xpt", "second-difference-2.xpt"][i], &file.bytes);
-            }
-            self.differs = true;
+            && out[GUARD..GUARD + written.len()] == *written
+            && strayed(before, &out, written.len()).is_none();
+        let as_other = self.session.others.links.is_none_or(|other| {
+            let copies: Vec<Vec<u8>> = bytes.iter().map(|file| file.to_vec()).collect();
+            let copies: Vec<&[u8]> = copies.iter().map(|file| &file[..]).collect();
+            let (answer, bytes_then) = lent(before, room, |out| other.write(&copies, out));
+            answer == own && bytes_then == out && copies == bytes
+        });
+        if (!as_expected || !as_other) && !self.differs {
+            let asked = if files.len() == 1 { Asked::Normal(room) } else { Asked::Link(room) };
+            self.found(about, asked, files);
         }
         own.map(|length| {
-            out.truncate(length);
-            out
+            out.truncate(GUARD + length);
+            out.split_off(GUARD)
         })
     }
 
-    fn count_room(&mut self, about: &'static str, room: Room, length: usize, answer: &Written) {
+    fn found(&mut self, made: &str, asked: Asked, files: &[&File]) {
+        let files = files.iter().map(|file| file.bytes.clone()).collect();
+        self.session.found(made, Case { asked, files });
+        self.differs = true;
+    }
+
+    /// Counts a call with a buffer of this kind.
+    fn count_room(
+        &mut self,
+        about: &'static str,
+        files: &[&File],
+        room: (Room, usize),
+        answer: &Written,
+    ) {
+        let (room, length) = room;
         self.tally.add(about, room.name());
+        let whose = match (files.len(), answer) {
+            (1, Ok(_)) => "normal form written",
+            (1, Err(_)) => "normal form refused",
+            (_, Ok(_)) => "link written",
+            (_, Err(_)) => "link refused",
+        };
+        // The places are the numbers of the refusals here.
+        let place = answer.as_ref().err().map(|(_, refusal)| refusal.number.into());
+        let came = Came { place, file: together(files), way: None };
+        self.clause(whose, room.name(), came);
         if answer.as_ref().is_ok_and(|bytes| bytes.len() < length) {
             self.tally.add(about, "bytes past the end kept");
+        }
+        let needed = answer.as_ref().err().filter(|(_, refusal)| refusal.number == 27);
+        if let Some((_, refusal)) = needed {
+            let came = Came { place: Some(refusal.place as u64), ..came };
+            let what = if files.len() == 1 { "of a normal form" } else { "of a link" };
+            self.clause(REFUSAL[27], what, came);
         }
     }
 
@@ -326,21 +352,17 @@ impl Run<'_> {
     ) -> Written {
         let [first, second] = files;
         let both = first.bytes.len() + second.bytes.len();
-        let needed = expected.as_ref().map_or(both.max(1), |bytes| bytes.len());
-        let length = room.length(needed, &mut self.rng);
-        let answer = self.call(&files, length, expected, |program, out| {
-            (program.link)(&first.bytes, &second.bytes, out)
-        });
-        self.tally.add("all", "links");
-        match &answer {
+        let length = room.length(needed(expected, both), &mut self.rng);
+        let answer = self.call(&files, length, expected);
+        let about = match &answer {
             Ok(_) => {
                 self.tally.add("linked", order);
-                self.count_room("linked", room, length, &answer);
+                "linked"
             }
             Err((0, refusal)) => {
                 let about = about(refusal.number, false);
                 self.tally.add_at(about, order, refusal.place as u64);
-                self.count_room(about, room, length, &answer);
+                about
             }
             Err((which, refusal)) => {
                 let about = "link, file";
@@ -352,9 +374,13 @@ impl Run<'_> {
                     _ => "the second",
                 };
                 self.tally.add(about, whose);
-                self.count_room(about, room, length, &answer);
+                let place = Some(refusal.number.into());
+                let came = Came { place, file: together(&files), way: None };
+                self.clause("file refused", whose, came);
+                about
             }
-        }
+        };
+        self.count_room(about, &files, (room, length), &answer);
         answer
     }
 
@@ -366,35 +392,58 @@ impl Run<'_> {
         }
         self.tally.add("made", made);
         self.tally.add("all", "pairs of files");
+        let came = Came { file: together(&[a, b]), way: Some(made), place: None };
+        self.clause("all", "pairs of files", came);
         let mut answers = Vec::new();
         for (order, files) in [(FORWARD, [a, b]), (BACKWARD, [b, a])] {
-            let expected = expected_link(files[0], files[1]);
-            let wide = [Room::Exact, Room::LongerByOne, Room::Longer];
-            let short = [Room::Empty, Room::ShortByOne, Room::Short];
-            let room = if self.rng.percent(1) { Room::Most } else { *self.rng.pick(&wide) };
+            let expected = expected(&[&files[0].model, &files[1].model]);
+            let room = match self.rng.below(100) {
+                0 => Room::Most,
+                1 => Room::OverMost,
+                _ => *self.rng.pick(&WIDE),
+            };
             answers.push(self.link(order, files, &expected, room));
-            let room = *self.rng.pick(&short);
+            let room = *self.rng.pick(&SHORT);
             let _ = self.link(order, files, &expected, room);
         }
-        if a.model.is_err() || b.model.is_err() || self.differs {
-            return;
+        if a.model.is_ok() && b.model.is_ok() && !self.differs {
+            self.swapped(made, [a, b], &answers[0], &answers[1]);
         }
-        match (&answers[0], &answers[1]) {
-            (Ok(one), Ok(two)) if one == two => {
+    }
+
+    /// Counts what came in both orders, where it agrees as it must.
+    fn swapped(&mut self, made: &'static str, files: [&File; 2], one: &Written, two: &Written) {
+        let came = Came { file: together(&files), way: Some(made), place: None };
+        if !laws::swapped(one, two) {
+            return self.found("the law of swapping", Asked::Law(Law::Swapping, MAX_FILE), &files);
+        }
+        match (one, two) {
+            (Err((_, one)), Err((_, two))) => {
+                self.tally.add("law", "swapping: number");
+                self.clause("law", "swapping: number", came);
+                let about = REFUSAL[one.number as usize];
+                self.clause(about, "in both orders", came);
+                let at = |place: usize| Came { place: Some(place as u64), ..came };
+                self.clause(about, FORWARD, at(one.place));
+                self.clause(about, BACKWARD, at(two.place));
+            }
+            _ => {
                 self.tally.add("law", "swapping: length and bytes");
-                self.written(one);
+                self.clause("law", "swapping: length and bytes", came);
+                self.again(files, one.as_deref().unwrap_or(&[]));
+                if let (Ok(a), Ok(b)) = (&files[0].model, &files[1].model) {
+                    for what in shape::between(a, b) {
+                        self.clause("pair", what, came);
+                    }
+                }
             }
-            (Err((0, one)), Err((0, two))) if one.number == two.number => {
-                self.tally.add("law", "swapping: number")
-            }
-            _ => self.breaks("swapping", &[a, b]),
         }
     }
 
     /// A pair in both orders, with every kind of buffer.
     fn all_rooms(&mut self, a: &File, b: &File) {
         for (order, files) in [(FORWARD, [a, b]), (BACKWARD, [b, a])] {
-            let expected = expected_link(files[0], files[1]);
+            let expected = expected(&[&files[0].model, &files[1].model]);
             for room in ROOMS {
                 if !self.differs {
                     let _ = self.link(order, files, &expected, room);
@@ -403,37 +452,52 @@ impl Run<'_> {
         }
     }
 
-    /// A link with a buffer of a length that many share.
-    fn plain_link(&mut self, room: usize, a: &File, b: &File) -> Written {
-        let expected = expected_link(a, b);
-        self.tally.add("all", "links");
-        self.call(&[a, b], room, &expected, |program, out| (program.link)(&a.bytes, &b.bytes, out))
+    /// One file or two, with a buffer of a length that many share.
+    fn plain(&mut self, room: usize, files: &[&File]) -> Written {
+        let models: Vec<&Model> = files.iter().map(|file| &file.model).collect();
+        self.call(files, room, &expected(&models))
     }
 
     /// Both ways to group a triple end with the same bytes, or neither ends with any.
-    fn triple(&mut self, room: usize, a: &File, b: &File, c: &File) {
+    fn triple(&mut self, made: &'static str, room: usize, files: [&File; 3]) {
         if self.differs {
             return;
         }
-        let left = self.plain_link(room, a, b);
-        let left = left.and_then(|ab| self.plain_link(room, &File::new(ab), c));
-        let right = self.plain_link(room, b, c);
-        let right = right.and_then(|bc| self.plain_link(room, a, &File::new(bc)));
-        match (left, right) {
-            _ if self.differs => {}
-            (Ok(one), Ok(two)) if one == two => self.tally.add("law", "grouping: same bytes"),
-            (Err(_), Err(_)) => self.tally.add("law", "grouping: neither"),
-            _ => self.breaks("grouping", &[a, b, c]),
+        let [a, b, c] = files;
+        let left = self.plain(room, &[a, b]);
+        let left = left.and_then(|ab| self.plain(room, &[&File::new(ab), c]));
+        let right = self.plain(room, &[b, c]);
+        let right = right.and_then(|bc| self.plain(room, &[a, &File::new(bc)]));
+        if self.differs {
+            return;
+        }
+        if !laws::grouped(&left, &right) {
+            let asked = Asked::Law(Law::Grouping, MAX_FILE);
+            return self.found("the law of grouping", asked, &files);
+        }
+        // The places are the numbers of the refusals here.
+        let place = left.as_ref().err().map(|(_, refusal)| refusal.number.into());
+        let came = Came { place, file: together(&files), way: Some(made) };
+        let what = match left.is_ok() {
+            true => "grouping: same bytes",
+            false => "grouping: neither",
+        };
+        self.tally.add("law", what);
+        self.clause("law", what, came);
+        if room == MAX_FILE {
+            self.clause("law", "grouping: buffers of 1,048,576", came);
         }
     }
 
-    /// What was written is accepted, and its own normal form.
-    fn written(&mut self, bytes: &[u8]) {
+    /// What a link wrote is accepted, and its own normal form.
+    fn again(&mut self, files: [&File; 2], bytes: &[u8]) {
         let file = File::new(bytes.to_vec());
-        match self.plain_normal(bytes.len(), &file) {
-            Ok(again) if again == bytes => self.tally.add("law", "its own normal form"),
-            _ => self.breaks("normal forms", &[&file]),
+        if self.plain(bytes.len(), &[&file]) != Ok(bytes.to_vec()) {
+            return self.found("the law of reading back", Asked::Law(Law::Again, MAX_FILE), &files);
         }
+        let came = Came { file: together(&[&file]), ..Came::default() };
+        self.tally.add("law", "its own normal form");
+        self.clause("law", "its own normal form", came);
     }
 
     /// A file with itself and with an empty one: as normalising.
@@ -441,36 +505,43 @@ impl Run<'_> {
         if self.differs {
             return;
         }
-        let room = *self.rng.pick(&[0, 36, 200, 2_000, 20_000]);
-        let normal = self.plain_normal(room, a);
-        let empty = File::new(pairs::empty(&mut self.rng).bytes());
-        if self.plain_link(room, a, a) != normal {
-            return self.breaks("self", &[a]);
+        let room = *self.rng.pick(&[0, 36, 200, 2_000, 20_000, 20_000, MAX_FILE]);
+        let normal = self.plain(room, &[a]);
+        let empty = File::of(&pairs::empty(&mut self.rng));
+        let came = Came { file: together(&[a]), ..Came::default() };
+        if self.plain(room, &[a, a]) != normal {
+            return self.found("the law of itself", Asked::Law(Law::Itself, room), &[a]);
         }
         self.tally.add("law", "self");
-        for (first, second) in [(a, &empty), (&empty, a)] {
-            if self.plain_link(room, first, second) != normal {
-                return self.breaks("empty", &[a, &empty]);
+        self.clause("law", "itself", came);
+        for files in [[a, &empty], [&empty, a]] {
+            if self.plain(room, &files) != normal {
+                return self.found("the law of empty", Asked::Law(Law::Empty, room), &[a, &empty]);
             }
         }
         self.tally.add("law", "empty");
-    }
-
-    fn breaks(&mut self, law: &str, files: &[&File]) {
-        println!("DIFFERENCE: the law of {law} does not hold");
-        for (i, file) in files.iter().enumerate() {
-            let name = ["difference-1.xpt", "difference-2.xpt", "difference-3.xpt"][i];
-            keep(&format!("second-{name}"), &file.bytes);
+        self.clause("law", "with an empty file", came);
+        if room == MAX_FILE {
+            self.clause("law", "itself, empty: buffers of 1,048,576", came);
         }
-        self.differs = true;
     }
 
-    fn plain_normal(&mut self, room: usize, file: &File) -> Written {
-        let expected = expected_normal(file);
-        self.tally.add("all", "normal forms");
-        self.call(&[file], room, &expected, |program, out| {
-            (program.normalise)(&file.bytes, out).map_err(|refusal| (0, refusal))
-        })
+    /// Two files have the same normal form exactly where they mean the same.
+    fn same_form(&mut self, a: &File, b: &File) {
+        let (Ok(first), Ok(second)) = (&a.model, &b.model) else { return };
+        let same = model::same_meaning(first, second);
+        if self.differs {
+            return;
+        }
+        let forms = (self.plain(MAX_FILE / 4, &[a]), self.plain(MAX_FILE / 4, &[b]));
+        let (Ok(one), Ok(two)) = &forms else { return };
+        if (one == two) != same {
+            return self.found("the law of meaning", Asked::Law(Law::Meaning, MAX_FILE), &[a, b]);
+        }
+        let what = if same { "same meaning, same bytes" } else { "other meaning, other bytes" };
+        let came = Came { file: together(&[a, b]), ..Came::default() };
+        self.tally.add("law", what);
+        self.clause("law", what, came);
     }
 
     /// A file's normal form, with several buffers.
@@ -478,14 +549,11 @@ impl Run<'_> {
         if self.differs {
             return;
         }
-        let expected = expected_normal(file);
+        let expected = expected(&[&file.model]);
         for &room in rooms {
-            let needed = expected.as_ref().map_or(file.bytes.len().max(1), |bytes| bytes.len());
+            let needed = needed(&expected, file.bytes.len());
             let length = room.length(needed, &mut self.rng);
-            let answer = self.call(&[file], length, &expected, |program, out| {
-                (program.normalise)(&file.bytes, out).map_err(|refusal| (0, refusal))
-            });
-            self.tally.add("all", "normal forms");
+            let answer = self.call(&[file], length, &expected);
             let about = match &answer {
                 Ok(bytes) => {
                     self.tally.add("normal", "written");
@@ -498,40 +566,80 @@ impl Run<'_> {
                     let about = about(refusal.number, true);
                     if file.model.is_err() {
                         self.tally.add_at(about, "refused", refusal.number.into());
+                    } else if refusal.number == 26 {
+                        let came = Came { file: together(&[file]), ..Came::default() };
+                        let at = Some(refusal.place as u64);
+                        self.clause(REFUSAL[26], "of a normal form", Came { place: at, ..came });
                     }
                     about
                 }
             };
-            self.count_room(about, room, length, &answer);
+            self.count_room(about, &[file], (room, length), &answer);
         }
     }
 }
 
 /// Links and normalises many files; stops at the first difference. Whether all is well.
-pub fn run(seed: u64, other: Option<&Program>) -> bool {
+pub fn run(session: &mut Session) -> bool {
+    let (seed, tables) = (session.seed, session.tables);
     println!("Links, seed {seed}\n");
     let rng = &mut Rng::new(seed);
     let noise = (0..3 * MAX_FILE).map(|_| rng.byte()).collect();
-    let tally = Tally::default();
-    let mut run = Run { other, rng: Rng::new(rng.number()), noise, tally, differs: false };
+    let own = Rng::new(rng.number());
+    let mut run = Run { session, rng: own, noise, tally: Tally::default(), differs: false };
+    edges(&mut run, rng);
+    for (made, a, b) in pairs::spread(rng) {
+        let (a, b) = (run.file(made, &a), run.file(made, &b));
+        run.pair(made, &a, &b);
+    }
+    for round in 0..3_000 {
+        if run.differs {
+            return false;
+        }
+        small(&mut run, rng, round);
+    }
+    refused(&mut run, rng, seed);
+    !run.differs && run.tally.report_if(&floors(), tables)
+}
 
-    for made in [pairs::wide(rng), pairs::long()].concat() {
-        let (made, a, b) = made;
-        let (a, b) = (File::new(a.bytes()), File::new(b.bytes()));
+/// Files and pairs about the greatest sizes.
+fn edges(run: &mut Run, rng: &mut Rng) {
+    for (made, a, b) in [pairs::wide(rng), pairs::long()].concat() {
+        let (a, b) = (run.file(made, &a), run.file(made, &b));
         run.pair(made, &a, &b);
         run.all_rooms(&a, &b);
         run.normal(&a, &ROOMS);
         run.normal(&b, &ROOMS);
         run.self_and_empty(&a);
     }
-    for round in 0..3_000 {
-        small(&mut run, rng, round);
-        if run.differs {
-            return false;
+    for n in 1..=16 {
+        let a = run.bytes("overlapping heads", generate::overlapping_heads(rng, n));
+        let b = run.bytes("names in descriptors", generate::names_in_descriptors(rng, 3 * n));
+        let c = run.file("wide", &generate::wide(rng, 40));
+        for pair in [[&a, &b], [&a, &c], [&b, &c], [&a, &a]] {
+            run.pair("records that overlap", pair[0], pair[1]);
         }
+        run.normal(&a, &ROOMS);
+        run.normal(&b, &ROOMS);
+        run.self_and_empty(&a);
+        run.self_and_empty(&b);
     }
-    // Files for the check, most of them refused: some of every kind, and now and then one.
+    // Little bytes, a long normal form.
+    for n in 2..6 {
+        let file = run.bytes("records that many share", hostile::long_listing(n));
+        run.normal(&file, &ROOMS);
+    }
+    for (made, files) in pairs::edge_triples() {
+        let [a, b, c] = files.each_ref().map(File::of);
+        run.triple(made, MAX_FILE, [&a, &b, &c]);
+        run.triple(made, MAX_FILE, [&c, &a, &b]);
+    }
+}
+
+/// Files for the check, most of them refused: some of every kind, and now and then one.
+fn refused(run: &mut Run, rng: &mut Rng, seed: u64) {
     let mut kinds: HashMap<&str, usize> = HashMap::new();
+    let mut numbers: HashMap<u32, usize> = HashMap::new();
     let mut last_refused = File::new(Vec::new());
     let everything = &mut |bytes: &[u8], _: Option<crate::Answer>, kind: &'static str| {
         let counter = kinds.entry(kind).or_default();
@@ -541,51 +649,71 @@ pub fn run(seed: u64, other: Option<&Program>) -> bool {
             return;
         }
         let file = File::new(bytes.to_vec());
-        run.normal(&file, &[*rng.pick(&ROOMS[..3]), *rng.pick(&ROOMS[3..6])]);
-        let partner = File::new(pairs::view(&pairs::world(rng), rng).bytes());
+        run.normal(&file, &[*rng.pick(&SHORT), *rng.pick(&WIDE)]);
+        let partner = File::of(&pairs::view(&pairs::world(rng), rng));
         run.pair("with a file for the check", &file, &partner);
-        if file.model.is_err() {
-            run.pair("both refused", &file, &last_refused);
-            last_refused = file;
+        let Err(Refusal { number, .. }) = file.model else { return };
+        run.pair("both refused", &file, &last_refused);
+        // Every kind of buffer with every refusal.
+        let met = numbers.entry(number).or_default();
+        *met += 1;
+        if *met <= 3 {
+            run.all_rooms(&file, &partner);
+            run.normal(&file, &ROOMS);
         }
+        last_refused = file;
     };
     damage::everything(seed, everything);
-    if run.differs {
-        return false;
+}
+
+/// The buffers of a triple: mostly shorter ones, that take less time.
+fn room_of(round: usize) -> usize {
+    match round % 10 {
+        0 => MAX_FILE,
+        _ => 131_072,
     }
-    run.tally.report(FLOORS)
 }
 
 /// Files of one small world, and conflicts between them.
 fn small(run: &mut Run, rng: &mut Rng, round: usize) {
-    const ROOM: usize = 131_072;
     let world = pairs::world(rng);
     let views = [0; 3].map(|_| pairs::view(&world, rng));
-    let files = views.each_ref().map(|lib| File::new(lib.bytes()));
+    let files = views.each_ref().map(|lib| run.file("view of a world", lib));
     let [a, b, c] = &files;
     run.pair("one world", a, b);
     for file in &files {
-        run.normal(file, &[*rng.pick(&ROOMS[..3]), *rng.pick(&ROOMS[3..6])]);
+        run.normal(file, &[*rng.pick(&SHORT), *rng.pick(&WIDE)]);
     }
     if round.is_multiple_of(2) {
-        run.triple(if round.is_multiple_of(100) { MAX_FILE } else { ROOM }, a, b, c);
+        run.triple("one world", room_of(round), [a, b, c]);
         run.self_and_empty(a);
+        let laid = run.file("laid out again", &pairs::relaid(&views[0], rng));
+        run.same_form(a, &laid);
     }
+    conflicts(run, rng, round, &views, &files);
+    chains(run, rng, round, c);
+}
+
+/// Conflicts of one kind and of several.
+fn conflicts(run: &mut Run, rng: &mut Rng, round: usize, views: &[Typelib; 3], files: &[File; 3]) {
+    let [a, b, c] = files;
     let mut conflicting = Vec::new();
     for _ in 0..5 {
         let mut other = views[1].clone();
         if let Some(made) = pairs::conflict(&views[0], &mut other, rng) {
-            let other = File::new(other.bytes());
+            let other = run.file("a conflict put in", &other);
             run.pair(made, a, &other);
             conflicting.push(other);
         }
     }
     if let Some(other) = conflicting.first() {
+        let room = room_of(round);
         match round % 3 {
-            0 => run.triple(ROOM, a, other, c),
-            1 => run.triple(ROOM, other, c, a),
-            _ => run.triple(ROOM, c, a, other),
+            0 => run.triple("a conflict", room, [a, other, c]),
+            1 => run.triple("a conflict", room, [other, c, a]),
+            _ => run.triple("a conflict", room, [c, a, other]),
         }
+        run.same_form(b, other);
     }
     let mut other = views[1].clone();
     let mut conflicts = 0;
@@ -593,25 +721,32 @@ fn small(run: &mut Run, rng: &mut Rng, round: usize) {
         conflicts += usize::from(pairs::conflict(&views[0], &mut other, rng).is_some());
     }
     if conflicts > 1 {
-        run.pair("two conflicts", a, &File::new(other.bytes()));
+        let other = run.file("two conflicts put in", &other);
+        run.pair("two conflicts", a, &other);
     }
+}
+
+/// Chains that do not end in the union.
+fn chains(run: &mut Run, rng: &mut Rng, round: usize, c: &File) {
     let (first, second) = pairs::endless(rng);
-    let (a, b) = (File::new(first.bytes()), File::new(second.bytes()));
+    let (a, b) = (run.file("endless", &first), run.file("endless", &second));
     run.pair("an endless chain", &a, &b);
     if round.is_multiple_of(4) {
+        let room = room_of(round);
         match round % 3 {
-            0 => run.triple(ROOM, &a, &b, c),
-            1 => run.triple(ROOM, &a, c, &b),
-            _ => run.triple(ROOM, c, &b, &a),
+            0 => run.triple("an endless chain", room, [&a, &b, c]),
+            1 => run.triple("an endless chain", room, [&a, c, &b]),
+            _ => run.triple("an endless chain", room, [c, &b, &a]),
         }
     }
     let (mut first, mut second) = (first, second);
     if pairs::conflict(&first, &mut second, rng).is_some()
         || pairs::conflict(&second, &mut first, rng).is_some()
     {
-        let (a, b) = (File::new(first.bytes()), File::new(second.bytes()));
+        let (a, b) = (run.file("endless", &first), run.file("endless", &second));
         run.pair("an endless chain and a conflict", &a, &b);
     }
     // A family resolves what the other world only names, if keys meet at all.
-    run.pair("two worlds", &a, &File::new(generate::family(rng).bytes()));
+    let family = run.file("family", &generate::family(rng));
+    run.pair("two worlds", &a, &family);
 }

@@ -2,14 +2,15 @@
 //! another program where there is one.
 
 use crate::builder::*;
+use crate::cases::{self, Asked, Case, Others};
 use crate::check::{check, Refusal};
-use crate::coverage::keep;
 use crate::damage;
 use crate::generate;
 use crate::hostile;
 use crate::listing::{self, MAX_INPUT};
 use crate::model;
 use crate::rng::Rng;
+use crate::session::{Session, CASES};
 use crate::tally::{Floor, Tally};
 use std::io::{self, ErrorKind, Read, Write};
 use std::path::Path;
@@ -40,6 +41,7 @@ const FLOORS: &[Floor] = &[
 ];
 
 struct Run<'a> {
+    seed: u64,
     program: Option<&'a Path>,
     tally: Tally,
     differs: bool,
@@ -103,8 +105,9 @@ impl Run<'_> {
     }
 
     fn differ(&mut self, made: &str, input: &[u8]) {
-        println!("DIFFERENCE on an input of {} bytes ({made})", input.len());
-        keep("second-difference.xpt", input);
+        let others = Others { listing: self.program, ..Others::default() };
+        let case = Case { asked: Asked::Listing, files: vec![input.to_vec()] };
+        Session::new(self.seed, others).found(made, case);
         self.differs = true;
     }
 }
@@ -115,7 +118,7 @@ fn failed(error: io::Error) -> bool {
 }
 
 /// What the program prints by the model.
-fn plainly(input: &[u8]) -> Vec<u8> {
+pub(crate) fn plainly(input: &[u8]) -> Vec<u8> {
     if input.len() > 65_536 {
         return b"input too long\n".to_vec();
     }
@@ -167,6 +170,21 @@ fn compare(program: &Path, input: &[u8]) -> io::Result<bool> {
         println!("the program ends with {status}");
     }
     Ok(same && status.code().is_some())
+}
+
+/// All that a program prints for this input.
+pub(crate) fn printed(program: &Path, input: &[u8]) -> io::Result<Vec<u8>> {
+    let mut child = Command::new(program).stdin(Stdio::piped()).stdout(Stdio::piped()).spawn()?;
+    let mut stdin = child.stdin.take().expect("a pipe to the program");
+    let output = std::thread::scope(|scope| {
+        // What a program does not read of its input is no fault.
+        scope.spawn(move || stdin.write_all(input));
+        child.wait_with_output()
+    })?;
+    match output.status.code() {
+        Some(_) => Ok(output.stdout),
+        None => Err(io::Error::other(format!("the program ends with {}", output.status))),
+    }
 }
 
 fn stop(child: &mut Child) {
@@ -249,7 +267,11 @@ fn marked() -> Vec<Vec<u8>> {
 pub fn run(seed: u64, count: usize, entries: usize, program: Option<&Path>) -> bool {
     println!("Listings, seed {seed}\n");
     let rng = &mut Rng::new(seed);
-    let mut run = Run { program, tally: Tally::default(), differs: false };
+    let mut run = Run { seed, program, tally: Tally::default(), differs: false };
+    let others = Others { listing: program, ..Others::default() };
+    if !cases::replay(Path::new(CASES), &others, |asked| *asked == Asked::Listing) {
+        return false;
+    }
     for input in marked() {
         run.input("marked", &input);
     }

@@ -344,6 +344,19 @@ fn meaning(lib: &Typelib, d: &Descriptor) -> Vec<Piece> {
     pieces
 }
 
+/// Whether two accepted files mean the same: the same entries with the same IIDs and descriptors.
+pub fn same_meaning(first: &Typelib, second: &Typelib) -> bool {
+    let same = |entry: &Entry| {
+        let other = second.entries.iter().find(|other| key(other) == key(entry));
+        other.is_some_and(|other| {
+            let mine = entry.descriptor.map(|d| meaning(first, &first.descriptors[d]));
+            let theirs = other.descriptor.map(|d| meaning(second, &second.descriptors[d]));
+            entry.iid == other.iid && mine == theirs
+        })
+    };
+    first.entries.len() == second.entries.len() && first.entries.iter().all(same)
+}
+
 fn refused<T>(number: u32, place: usize) -> Result<T, Refusal> {
     Err(Refusal { number, place })
 }

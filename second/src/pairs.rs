@@ -205,6 +205,106 @@ fn forced(number: u32, first: &Typelib, second: &Typelib) -> Option<(Typelib, Ty
     good.then_some((first, second))
 }
 
+/// How conflicts at many places are made.
+const SPREAD: [&str; 4] =
+    ["21 at many places", "22 at many places", "23 at many places", "24 at many places"];
+
+/// Pairs with a conflict of each number, 21 to 24, at each of many indexes. Both hold the same
+/// entries, some of them resolved in one file only.
+pub fn spread(rng: &mut Rng) -> Vec<Pair> {
+    const COUNT: usize = 48;
+    let mut pairs = Vec::new();
+    for position in 0..COUNT - 1 {
+        let world = generate::wide(rng, COUNT);
+        for (number, made) in (21..).zip(SPREAD) {
+            let (mut first, mut second) = (relaid(&world, rng), relaid(&world, rng));
+            conflict_at(number, position, &mut first, &mut second);
+            let (mut first, mut second) = (sorted(&first), sorted(&second));
+            if position % 2 == 1 {
+                std::mem::swap(&mut first, &mut second);
+            }
+            if check(&first.bytes()).is_ok() && check(&second.bytes()).is_ok() {
+                pairs.push((made, first, second));
+            }
+        }
+    }
+    pairs
+}
+
+/// Puts a conflict of this number, 21 to 24, at a position that both files have.
+fn conflict_at(number: u32, position: usize, first: &mut Typelib, second: &mut Typelib) {
+    let next = position + 1;
+    match number {
+        21 => second.entries[position].iid[0] ^= 1,
+        22 => {
+            // The second has the IID under another key.
+            let Entry { iid, .. } = first.entries[position];
+            second.entries[position].name = b"another_key".to_vec();
+            second.entries[position].iid = iid;
+        }
+        23 => {
+            let d = Descriptor { flags: 0x80, ..Descriptor::default() };
+            first.entries[position].descriptor = Some(first.add(d));
+            second.entries[position].descriptor = Some(second.add(Descriptor::default()));
+        }
+        _ => {
+            // In one file this one below the next, in the other the next below this one.
+            let below = |index: usize| Descriptor { parent: index as u16, ..Descriptor::default() };
+            first.entries[position].descriptor = Some(first.add(below(next + 1)));
+            first.entries[next].descriptor = None;
+            second.entries[position].descriptor = None;
+            second.entries[next].descriptor = Some(second.add(below(next)));
+        }
+    }
+}
+
+/// Three files and how they were made.
+pub type Triple = (&'static str, [Typelib; 3]);
+
+/// Triples whose union is about the greatest sizes.
+pub fn edge_triples() -> Vec<Triple> {
+    let part = |from: usize, to: usize| {
+        let entries = entries(to)[from..].to_vec();
+        Typelib { entries, ..Typelib::default() }
+    };
+    let mut triples = vec![
+        ("1,024 entries in the end", [part(0, 600), part(300, 1_000), part(900, 1_024)]),
+        ("1,025 entries in the end", [part(0, 600), part(300, 1_000), part(900, 1_025)]),
+        ("1,025 entries at once", [part(0, 1_024), part(1_000, 1_025), part(0, 10)]),
+    ];
+    // The headers of all but one fall away.
+    let third = MAX_FILE / 3;
+    for (over, made) in [(0, "1,048,576 bytes in the end"), (1, "1,048,577 bytes in the end")] {
+        let last = MAX_FILE + over + 2 * 36 - 2 * third;
+        let long = [(third, 'a'), (third, 'b'), (last, 'c')];
+        triples.push((made, long.map(|(length, letter)| of_own_length(length, letter))));
+    }
+    let long = [(MAX_FILE - 100, 'a'), (third, 'b'), (third, 'c')];
+    triples.push(("too long at once", long.map(|(length, letter)| of_own_length(length, letter))));
+    triples
+}
+
+/// As `of_normal_length`, but no key or IID is another letter's.
+fn of_own_length(length: usize, letter: char) -> Typelib {
+    let mut lib = of_normal_length(length, letter);
+    for entry in lib.entries.iter_mut().filter(|entry| entry.descriptor.is_some()) {
+        entry.name[0] = letter as u8;
+        entry.iid[0] = letter as u8;
+    }
+    sorted(&lib)
+}
+
+/// The same meaning in another layout: entries of zero IID in another order, records elsewhere.
+pub fn relaid(lib: &Typelib, rng: &mut Rng) -> Typelib {
+    let minor = if lib.minor == 0 { rng.below(2) as u8 } else { 1 };
+    let layout = generate::layout(rng, minor);
+    let (entries, descriptors) = (lib.entries.clone(), lib.descriptors.clone());
+    let mut order: Vec<usize> = (0..entries.len()).collect();
+    rng.shuffle(&mut order);
+    order.sort_by_key(|i| entries[*i].iid);
+    reordered(&Typelib { entries, descriptors, ..layout }, &order)
+}
+
 /// Entries of the second file whose key the first has too, by position.
 fn common(first: &Typelib, second: &Typelib) -> Vec<(usize, usize)> {
     let keys: HashMap<_, _> = first.entries.iter().map(key).zip(0..).collect();
@@ -458,6 +558,7 @@ pub fn wide(rng: &mut Rng) -> Vec<Pair> {
         (0, 1_024, 1_024, "union of 1,024"),
         (0, 600, 1_025, "union of 1,025"),
         (500, 1_024, 1_025, "union of 1,025"),
+        (1_000, 1_020, 1_040, "union of 1,040"),
         (1, 1_024, 1_025, "union of 1,025"),
         (900, 1_000, 1_024, "union of 1,024"),
         (1_024, 1_024, 2_048, "union of 2,048"),
@@ -512,12 +613,15 @@ pub fn long() -> Vec<Pair> {
         (0, "normal form of 1,048,576"),
         (1, "normal form of 1,048,577"),
         (2, "normal form over the limit"),
+        (3, "normal form over the limit"),
+        (284, "normal form over the limit"),
         (900, "normal form over the limit"),
+        (40_000, "normal form over the limit"),
     ] {
         let length = (70_000 + shared as isize + over) as usize;
         let second = of_normal_length(length, 'b');
         pairs.push((made, first.clone(), second.clone()));
-        if over > 1 {
+        if over == 2 || over == 900 {
             let second = Typelib { order: Order::Shuffled, ..second };
             for (number, made) in (21..).zip(LONG) {
                 pairs.extend(forced(number, &first, &second).map(|(a, b)| (made, a, b)));
@@ -525,9 +629,11 @@ pub fn long() -> Vec<Pair> {
         }
     }
     // One file that is too long by itself.
-    let over = of_normal_length(MAX_FILE + 1, 'c');
-    pairs.push(("normal form over the limit", over.clone(), Typelib::default()));
-    pairs.push(("normal form over the limit", over.clone(), over));
+    for more in [1, 2, 500, 90_000] {
+        let over = of_normal_length(MAX_FILE + more, 'c');
+        pairs.push(("a file over the limit", over.clone(), Typelib::default()));
+        pairs.push(("a file over the limit", over.clone(), over));
+    }
     let most = of_normal_length(MAX_FILE, 'd');
     pairs.push(("normal form of 1,048,576", most.clone(), Typelib::default()));
     pairs.push(("normal form of 1,048,576", most.clone(), most));

@@ -30,10 +30,17 @@ impl Tally {
 
     /// Prints the table. Whether every floor is reached.
     pub fn report(&self, floors: &[Floor]) -> bool {
+        self.report_if(floors, true)
+    }
+
+    /// The same; the table is printed only if it is asked for.
+    pub fn report_if(&self, floors: &[Floor], printed: bool) -> bool {
         let floor = |row: &Row| floors.iter().find(|floor| floor.0 == *row);
-        println!(
-            "about        what                                       count  places   (at least)"
-        );
+        if printed {
+            println!(
+                "about        what                                       count  places   (at least)"
+            );
+        }
         let mut rows: BTreeMap<Row, (usize, usize)> =
             floors.iter().map(|(row, ..)| (*row, (0, 0))).collect();
         rows.extend(self.rows.iter().map(|(row, (count, places))| (*row, (*count, places.len()))));
@@ -51,7 +58,9 @@ impl Tally {
                     short.push(row);
                 }
             }
-            println!("{about:<13}{what:<38}{count:>10}{shown:>8}{least}");
+            if printed {
+                println!("{about:<13}{what:<38}{count:>10}{shown:>8}{least}");
+            }
         }
         for (about, what) in &short {
             println!("TOO FEW: {about}, {what}");

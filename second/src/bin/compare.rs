@@ -1,30 +1,30 @@
 //! Runs this program and the linked library over everything generated: fails on any difference
-//! and where too little was covered.
-//! usage: compare [checks] [questions] [links] [SEED]
+//! and where too little was covered. Differences are made smaller and kept in second/cases.
+//! usage: compare [checks] [questions] [links] [long] [SEED]
 
-use second::{coverage, linked, Chosen};
+use second::cases::Others;
+use second::{closing, linked, Chosen, LONG};
 use std::process::ExitCode;
-use std::time::Instant;
+
+/// What the library has.
+fn library() -> Others<'static> {
+    Others {
+        check: Some(linked::check),
+        #[cfg(feature = "questions")]
+        questions: Some(&linked::QUESTIONS),
+        #[cfg(feature = "links")]
+        links: Some(&linked::LINKS),
+        ..Others::default()
+    }
+}
 
 fn main() -> ExitCode {
-    let mut known = vec!["checks"];
-    known.extend(cfg!(feature = "questions").then_some("questions"));
-    known.extend(cfg!(feature = "links").then_some("links"));
-    let chosen = Chosen::from_arguments(&known);
-    let mut good = true;
-    let mut part = |name: &str, run: &dyn Fn(u64) -> bool| {
-        if good && chosen.has(name) {
-            let start = Instant::now();
-            good = run(chosen.seed);
-            println!("{:.1} s\n", start.elapsed().as_secs_f64());
-        }
-    };
-    part("checks", &|seed| coverage::run(seed, Some(linked::check)));
-    #[cfg(feature = "questions")]
-    part("questions", &|seed| second::asking::run(seed, Some(&linked::QUESTIONS)));
-    #[cfg(feature = "links")]
-    part("links", &|seed| second::linking::run(seed, Some(&linked::LINKS)));
-    if good {
+    let library = library();
+    let mut parts = vec!["checks"];
+    parts.extend(library.questions.map(|_| "questions"));
+    parts.extend(library.links.map(|_| "links"));
+    let chosen = Chosen::from_arguments(&[&parts[..], &[LONG]].concat());
+    if closing::run(&chosen, &parts, library) {
         println!("no difference");
         ExitCode::SUCCESS
     } else {

@@ -1,0 +1,112 @@
+//! Runs of the program that is compared, each a process of its own.
+
+use std::ffi::{OsStr, OsString};
+use std::io::{self, ErrorKind, Read, Write};
+use std::os::unix::ffi::OsStrExt;
+use std::path::{Path, PathBuf};
+use std::process::{Child, Command, Stdio};
+use std::sync::mpsc::{channel, Sender};
+use std::time::{Duration, Instant};
+
+/// A run that takes longer is stopped.
+const LIMIT: Duration = Duration::from_secs(300);
+
+pub struct Program {
+    path: PathBuf,
+    /// Words before those of a command.
+    first: Vec<OsString>,
+}
+
+/// What a run left.
+pub struct Ran {
+    pub stdout: Vec<u8>,
+    pub stderr: Vec<u8>,
+    /// How it ended, where it did not end by itself.
+    pub broken: Option<String>,
+}
+
+impl Program {
+    /// By its path, since runs are in other folders.
+    pub fn new(path: &Path, first: &[&str]) -> io::Result<Program> {
+        let first = first.iter().map(OsString::from).collect();
+        Ok(Program { path: std::path::absolute(path)?, first })
+    }
+
+    /// Runs it in this folder with this input.
+    pub fn run(&self, folder: &Path, words: &[Vec<u8>], input: &[u8]) -> io::Result<Ran> {
+        let mut child = Command::new(&self.path)
+            .args(&self.first)
+            .args(words.iter().map(|word| OsStr::from_bytes(word)))
+            .current_dir(folder)
+            .stdin(Stdio::piped())
+            .stdout(Stdio::piped())
+            .stderr(Stdio::piped())
+            .spawn()?;
+        let mut stdin = child.stdin.take().expect("a pipe to the program");
+        let stdout = child.stdout.take().expect("a pipe from the program");
+        let stderr = child.stderr.take().expect("a second pipe from the program");
+        // Each pipe has a thread, so that none of them blocks another.
+        std::thread::scope(|scope| {
+            let (done, ends) = channel();
+            let feeder = scope.spawn(move || match stdin.write_all(input) {
+                Err(error) if error.kind() == ErrorKind::BrokenPipe => Ok(()),
+                written => written,
+            });
+            let also_done = done.clone();
+            let stdout = scope.spawn(move || all(stdout, done));
+            let stderr = scope.spawn(move || all(stderr, also_done));
+            let start = Instant::now();
+            let ended = (0..2).all(|_| {
+                let left = LIMIT.saturating_sub(start.elapsed());
+                ends.recv_timeout(left).is_ok()
+            });
+            let broken = how_it_ended(&mut child, ended)?;
+            feeder.join().expect("the feeder ends")?;
+            let stdout = stdout.join().expect("the reader ends")?;
+            let stderr = stderr.join().expect("the reader ends")?;
+            Ok(Ran { stdout, stderr, broken })
+        })
+    }
+}
+
+fn all(mut pipe: impl Read, done: Sender<()>) -> io::Result<Vec<u8>> {
+    let mut bytes = Vec::new();
+    let read = pipe.read_to_end(&mut bytes);
+    // None listens any more where the run was stopped.
+    let _ = done.send(());
+    read.map(|_| bytes)
+}
+
+/// Which status a program ends with is left free, but not that it ends by itself.
+fn how_it_ended(child: &mut Child, ended: bool) -> io::Result<Option<String>> {
+    if !ended {
+        child.kill()?;
+        child.wait()?;
+        return Ok(Some(format!("it was stopped after {} s", LIMIT.as_secs())));
+    }
+    let status = child.wait()?;
+    Ok(status.code().is_none().then(|| format!("it ended with {status}")))
+}
+
+#[cfg(test)]
+mod tests {
+    use super::*;
+
+    #[test]
+    fn pipes_do_not_block() {
+        let cat = Program::new(Path::new("/bin/cat"), &["-"]).unwrap();
+        let input = vec![b'x'; 3_000_000];
+        let ran = cat.run(Path::new("/"), &[], &input).unwrap();
+        assert!(ran.stdout == input && ran.stderr.is_empty() && ran.broken.is_none());
+    }
+
+    #[test]
+    fn words_and_status() {
+        let sh = Program::new(Path::new("/bin/sh"), &["-c"]).unwrap();
+        let run = |text: &str| sh.run(Path::new("/"), &[text.into()], b"").unwrap();
+        let ran = run("pwd; echo two words >&2; exit 3");
+        assert_eq!((&ran.stdout[..], &ran.stderr[..]), (&b"/\n"[..], &b"two words\n"[..]));
+        assert!(ran.broken.is_none());
+        assert!(run("kill -9 $$").broken.is_some());
+    }
+}
