@@ -7,7 +7,7 @@ use std::path::Path;
 use std::sync::OnceLock;
 
 const FEW: Amount =
-    Amount { batches: 8, asked: 6, questions: 25, linked: 1, rewritten: 1, alone: 2 };
+    Amount { batches: 20, asked: 6, questions: 25, linked: 1, rewritten: 1, alone: 2 };
 
 const SEED: u64 = 5;
 

@@ -217,6 +217,9 @@ fn part(program: &Program, part: Part, floors: &[Floor], seed: u64, rounds: u64)
 /// Prints a difference and keeps its files.
 fn report(Difference { text, files }: &Difference) {
     println!("DIFFERENCE: {text}");
+    if files.is_empty() {
+        return;
+    }
     let folder = std::env::temp_dir().join(format!("second-xpt-difference-{}", std::process::id()));
     let keep = || -> io::Result<()> {
         fs::create_dir_all(&folder)?;
