@@ -2,7 +2,7 @@
 //! least.
 
 use crate::cases::{self, Asked, Others};
-use crate::clauses::Clauses;
+use crate::clauses::{Clauses, Least};
 use crate::least::{least, COMPARISONS};
 use crate::session::Session;
 use crate::{asking, coverage, linking, Chosen};
@@ -36,7 +36,7 @@ pub fn run(chosen: &Chosen, parts: &[&str], others: Others) -> bool {
         all.join(&session.clauses);
     }
     println!("All parts, seed {}, rounds {rounds}\n", chosen.seed);
-    all.print(&least());
+    all.print(&least_of(&parts));
     println!("\n{} comparisons (at least {COMPARISONS})", comparisons(&all));
     println!("{:.1} s in all", start.elapsed().as_secs_f64());
     true
@@ -67,11 +67,17 @@ fn comparisons(clauses: &Clauses) -> usize {
     rows.iter().map(|row| clauses.count(*row)).sum()
 }
 
+/// The clauses of these parts.
+fn least_of(parts: &[&str]) -> Vec<Least> {
+    let mut all = least();
+    all.retain(|least| parts.contains(&least.clause[0]));
+    all
+}
+
 /// Whether the clauses of these parts came often enough; if not the table is printed.
 fn enough(parts: &[&str], clauses: &Clauses) -> bool {
-    let least = least();
-    let mut short = clauses.short(&least);
-    short.retain(|least| parts.contains(&least.clause[0]));
+    let least = least_of(parts);
+    let short = clauses.short(&least);
     let few = parts.len() == 3 && comparisons(clauses) < COMPARISONS;
     if short.is_empty() && !few {
         return true;

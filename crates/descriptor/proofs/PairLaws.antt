@@ -4,16 +4,16 @@ use mathlib.Core.Path.{_≡_, refl, sym}
 use mathlib.Core.Bool.{Bool, true, false}
 use mathlib.Core.Logic.{_⊎_, inl, inr}
 use mathlib.Core.List.{List}
-use Prim.Native.Nat.{ℕ, zero, suc, _+_, _≤_, _<_}
+use Prim.Native.Nat.{ℕ, zero, suc, _+_, _≤_, _<_, _/_, _%_}
 use native.Mathlib.Decide.{ℕ-discrete}
 use native.Mathlib.Omega.{arith}
 use Rattle.number.specs.Choice.{if_then_else_, _=?_, _≠?_}
 use Rattle.number.specs.Scan.{some}
-use Rattle.number.proofs.Choice.{both, is-true, is-eq, no-eq, yes-ne, from-yes-eq, from-not-eq, from-yes-ne}
+use Rattle.number.proofs.Choice.{both, is-true, is-eq, no-eq, yes-le, yes-ne, from-yes-eq, from-not-eq, from-yes-ne}
 use Rattle.number.proofs.Scans.{below, clash, some-yes, some-no, some-found}
 use Rattle.key.specs.Word.{sameWord}
 use Rattle.descriptor.specs.Rules.{isGetter, isSetter, strayPair, strayGetter, strayPairs}
-use Rattle.descriptor.specs.Tables.{oneMore, gettersOf, strayOf, straySetter}
+use Rattle.descriptor.specs.Tables.{Grouped, isAccessor, oneMore, gettersOf, strayOf, straySetter}
 
 -- a getter among the first n of the name that starts at k
 pub record Getter (f g : ℕ → ℕ) (n k i : ℕ) : Type 0 where
@@ -63,6 +63,14 @@ told f g k (suc n) =
 
 -- ---- a stray setter is a broken pair
 
+getter-taken : (f : ℕ → ℕ) (i : ℕ) → isGetter f i ≡ true → isAccessor f i ≡ true
+unfolding isGetter isAccessor
+getter-taken f i e = yes-le 64 (f i) (let h = from-yes-eq (f i / 128 % 2) 1 e in omega arith)
+
+setter-taken : (f : ℕ → ℕ) (j : ℕ) → isSetter f j ≡ true → isAccessor f j ≡ true
+unfolding isSetter isAccessor
+setter-taken f j e = yes-le 64 (f j) (let h = from-yes-eq (f j / 64 % 2) 1 e in omega arith)
+
 -- what a broken pair is
 abbrev Stray : (ℕ → ℕ) → (ℕ → List ℕ) → ℕ → ℕ → Type 0
 Stray f w i j = (isGetter f i ≡ true) × (isSetter f j ≡ true) × (sameWord (w i) (w j) ≡ true) × (j ≡ i + 1 → ⊥)
@@ -72,8 +80,14 @@ abbrev Behind : (ℕ → ℕ) → ℕ → ℕ → Type 0
 Behind f j v = (isSetter f j ≡ true) × (v ≡ 0 → ⊥) × (v ≡ j → ⊥)
 
 module _ (f g : ℕ → ℕ) (w : ℕ → List ℕ) (n : ℕ) (few : n ≤ 1024)
-    (named : (i j : ℕ) → i < n → j < n → sameWord (w i) (w j) ≡ true → g i ≡ g j)
-    (same : (i j : ℕ) → i < n → j < n → g i ≡ g j → sameWord (w i) (w j) ≡ true) where
+    (group : Grouped (isAccessor f) w g n) where
+  -- a getter and a setter have groups by name
+  named : (i j : ℕ) → i < n → j < n → isGetter f i ≡ true → isSetter f j ≡ true → sameWord (w i) (w j) ≡ true → g i ≡ g j
+  named i j a b x y = group .named i j a b (getter-taken f i x) (setter-taken f j y)
+
+  same : (i j : ℕ) → i < n → j < n → isGetter f i ≡ true → isSetter f j ≡ true → g i ≡ g j → sameWord (w i) (w j) ≡ true
+  same i j a b x y = group .same i j a b (getter-taken f i x) (setter-taken f j y)
+
   pair-yes : (i j : ℕ) → isGetter f i ≡ true → isSetter f j ≡ true → sameWord (w i) (w j) ≡ true → (j ≡ i + 1 → ⊥) → strayPair f w i j ≡ true
   unfolding strayPair
   pair-yes i j a b e h = sym (is-true _ _ _ a (is-true _ _ _ b (is-true _ _ _ e (sym (yes-ne j (i + 1) h)))))
@@ -101,10 +115,10 @@ module _ (f g : ℕ → ℕ) (w : ℕ → List ℕ) (n : ℕ) (few : n ≤ 1024)
   -- from the table to a pair
   setter-pair : (j v : ℕ) → j < n → isSetter f j ≡ true → (v ≡ 0 → ⊥) → (v ≡ j → ⊥) → Told f g n (g j) v → strayPairs f w n ≡ true
   setter-pair j v l b z q (none e h) = absurd (z e)
-  setter-pair j v l b z q (one i e x u) = stray-is i j (x .inside) l (pair-yes i j (x .getter) b (same i j (x .inside) l (x .name)) (λ d. q (omega arith)))
+  setter-pair j v l b z q (one i e x u) = stray-is i j (x .inside) l (pair-yes i j (x .getter) b (same i j (x .inside) l (x .getter) b (x .name)) (λ d. q (omega arith)))
   setter-pair j v l b z q (several i k e d x y) = elim (ℕ-discrete j (i + 1)) [
-    | yes c ↦ stray-is k j (y .inside) l (pair-yes k j (y .getter) b (same k j (y .inside) l (y .name)) (λ m. omega arith))
-    | no c ↦ stray-is i j (x .inside) l (pair-yes i j (x .getter) b (same i j (x .inside) l (x .name)) c)
+    | yes c ↦ stray-is k j (y .inside) l (pair-yes k j (y .getter) b (same k j (y .inside) l (y .getter) b (y .name)) (λ m. omega arith))
+    | no c ↦ stray-is i j (x .inside) l (pair-yes i j (x .getter) b (same i j (x .inside) l (x .getter) b (x .name)) c)
   ]
 
   -- from a pair to the table
@@ -113,7 +127,7 @@ module _ (f g : ℕ → ℕ) (w : ℕ → List ℕ) (n : ℕ) (few : n ≤ 1024)
   pair-setter i j v a l x y s h t = sym (is-true _ _ _ y (no-eq v 0 false (v ≠? j) (λ z. never t z) (sym (yes-ne v j (λ z. apart t z)))))
     where
       mine : Getter f g n (g j) i
-      mine = record { inside = a; getter = x; name = named i j a l s }
+      mine = record { inside = a; getter = x; name = named i j a l x y s }
 
       never : Told f g n (g j) v → v ≡ 0 → ⊥
       never (none e u) z = u i mine

@@ -1,12 +1,12 @@
-// Constructors and getter pairs, from tables of the methods' flags and of the first method of each name.
+// Constructors and getter pairs, from tables of the methods' flags and of the groups of their names.
 ghost use mathlib.Core.Path.{_≡_};
 ghost use Prim.Native.Nat.{_+_, _≤_, _<_, _/_, _%_};
 ghost use lib.ListN.{length, getD};
-ghost use Rattle.number.specs.Choice.{if_then_else_, _=?_};
-ghost use Rattle.number.specs.Scan.{some};
+ghost use Rattle.number.specs.Choice.{if_then_else_, _≤?_, _=?_};
+ghost use Rattle.number.specs.Scan.{some, tally};
 ghost use Rattle.key.specs.First.{Filled};
 ghost use Rattle.descriptor.specs.Rules.{manyConstructors, strayPairs};
-ghost use Rattle.descriptor.specs.Tables.{Below, Led, cell, wordIn, oneMore, gettersOf, strayOf, straySetter};
+ghost use Rattle.descriptor.specs.Tables.{Below, Led, Taken, Grouped, cell, wordIn, isAccessor, groupIn, oneMore, gettersOf, strayOf, straySetter};
 
 // 1 for the flags of a constructor, 0 for others.
 fn constructor_count(flags: u8) -> usize
@@ -107,15 +107,83 @@ pub fn stray_setter(
     false
 }
 
+// 1 for the flags of a getter or a setter, 0 for others.
+fn accessor_count(flags: u8) -> usize
+    ensures { λ r. ⌜ r ≡ (if 64 ≤? flags then 1 else 0) ⌝ }
+{
+    if 64 <= flags {
+        return 1;
+    }
+    0
+}
+
+// The name pointers of the getters and setters among n methods, in their order, and how many. One that is not taken is overwritten by the next.
+fn take_names(flags: &[u8; 1024], names: &[u32; 1024], n: usize, taken: &mut [u32; 1024]) -> usize
+    requires { ⌜ (n ≤ 1024) × (1024 ≡ length (now flags)) × (1024 ≡ length (now names)) × (1024 ≡ length (now taken)) ⌝ }
+    ensures { λ m. ⌜ Taken (isAccessor (cell (now (flags .entry)))) (now (names .entry)) (now (taken .exit)) n m ⌝ }
+{
+    let mut r: usize = 0;
+    let mut i: usize = 0;
+    while i < n {
+        taken[r] = names[i];
+        r += accessor_count(flags[i]);
+        i += 1;
+    }
+    r
+}
+
+// The group of method i, whose place among the getters and setters is r; 0 where it is neither.
+fn group_of(flags: &[u8; 1024], groups: &[u16; 1024], i: usize, r: usize) -> u16
+    requires { ⌜ (i < 1024) × (1024 ≡ length (now flags)) × (1024 ≡ length (now groups)) × (r ≡ tally (isAccessor (cell (now flags))) i) ⌝ }
+    ensures { λ x. ⌜ x ≡ groupIn (isAccessor (cell (now (flags .entry)))) (now (groups .entry)) i ⌝ }
+{
+    if 64 <= flags[i] {
+        return groups[r];
+    }
+    0
+}
+
+// The groups of n methods, from those of the getters and setters among them.
+fn spread_groups(flags: &[u8; 1024], groups: &[u16; 1024], n: usize, first: &mut [u16; 1024])
+    requires { ⌜ (n ≤ 1024) × (1024 ≡ length (now flags)) × (1024 ≡ length (now groups)) × (1024 ≡ length (now first)) ⌝ }
+    ensures { λ r. ⌜ Filled (now (first .exit)) n (groupIn (isAccessor (cell (now (flags .entry)))) (now (groups .entry))) × (1024 ≡ length (now (first .exit))) ⌝ }
+{
+    let mut r: usize = 0;
+    let mut i: usize = 0;
+    while i < n {
+        first[i] = group_of(flags, groups, i, r);
+        r += accessor_count(flags[i]);
+        i += 1;
+    }
+}
+
+// The groups of n methods by name. Only getters and setters have one of their own: no others matter to a getter pair.
+fn name_groups(
+    pool: &[u8],
+    flags: &[u8; 1024],
+    names: &[u32; 1024],
+    n: usize,
+    first: &mut [u16; 1024],
+)
+    requires { ⌜ (n ≤ 1024) × (length (now pool) ≤ 1048576) × (1024 ≡ length (now flags)) × (1024 ≡ length (now names)) × (1024 ≡ length (now first)) × Led (now pool) (now names) n ⌝ }
+    ensures { λ r. ⌜ Grouped (isAccessor (cell (now (flags .entry)))) (wordIn (now (pool .entry)) (now (names .entry))) (cell (now (first .exit))) n × Below (now (first .exit)) n × (1024 ≡ length (now (first .exit))) ⌝ }
+{
+    let spaces = [0u32; 1024];
+    let mut taken = [0u32; 1024];
+    let mut groups = [0u16; 1024];
+    let m = take_names(flags, names, n, &mut taken);
+    key::first_same(pool, &spaces, &taken, m, &mut groups);
+    spread_groups(flags, &groups, n, first);
+}
+
 // Whether a getter pair is broken among n methods, whose flags and name pointers stand in tables.
 pub fn stray_pairs(pool: &[u8], flags: &[u8; 1024], names: &[u32; 1024], n: usize) -> bool
     requires { ⌜ (n ≤ 1024) × (length (now pool) ≤ 1048576) × (1024 ≡ length (now flags)) × (1024 ≡ length (now names)) × Led (now pool) (now names) n ⌝ }
     ensures { λ r. ⌜ r ≡ strayPairs (cell (now (flags .entry))) (wordIn (now (pool .entry)) (now (names .entry))) n ⌝ }
 {
-    let spaces = [0u32; 1024];
     let mut first = [0u16; 1024];
     let mut getters = [0u16; 1024];
-    key::first_same(pool, &spaces, names, n, &mut first);
+    name_groups(pool, flags, names, n, &mut first);
     note_getters(flags, &first, n, &mut getters);
     stray_setter(flags, &first, &getters, n)
 }

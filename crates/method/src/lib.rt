@@ -55,7 +55,7 @@ fn rule_signature(
             place: base + first,
         });
     }
-    let r = crate::walk::type_numbers(pool, c, 8, mid + 1, n, table);
+    let r = crate::walk::outer_numbers(pool, c, mid + 1, n, table);
     let Fine::To(e) = r else {
         return Step::Refused(Refusal {
             no: 16,

@@ -59,7 +59,7 @@ fn wrong_sizes(table: &[u8; 256], count: usize, x: u8, y: u8) -> bool
 }
 
 // A type that was read at `at`, with `left` arrays allowed one inside another.
-pub fn type_numbers(
+fn type_numbers(
     pool: &[u8],
     c: Context,
     left: usize,
@@ -102,8 +102,8 @@ pub fn type_numbers(
     }
 }
 
-// The same of an argument. A plain type, the common one, has no numbers.
-fn argument_numbers(pool: &[u8], c: Context, at: usize, count: usize, table: &[u8; 256]) -> Fine
+// The same of an argument or a result. The common types have no numbers, and are told here, where no function calls itself.
+pub fn outer_numbers(pool: &[u8], c: Context, at: usize, count: usize, table: &[u8; 256]) -> Fine
     requires { ⌜ Accepted (readType 8 c (now pool) at) × (at ≤ length (now pool)) × (length (now pool) ≤ 1048576) × (count ≤ 256) × (256 ≡ length (now table)) ⌝ }
     ensures { λ r. ⌜ r ≡ fineOf (take count (now (table .entry))) (readType 8 c (now (pool .entry)) at) ⌝ }
 {
@@ -111,6 +111,8 @@ fn argument_numbers(pool: &[u8], c: Context, at: usize, count: usize, table: &[u
     let k = types::tag_class(minor, pool[at] % 32);
     match k {
         Class::Plain => Fine::To(at + 1),
+        Class::Text => Fine::To(at + 1),
+        Class::Interface => Fine::To(at + 3),
         _ => type_numbers(pool, c, 8, at, count, table),
     }
 }
@@ -123,7 +125,7 @@ pub fn wrong_arguments(pool: &[u8], c: Context, n: usize, at: usize, table: &[u8
     let mut k: usize = 0;
     let mut p = at;
     while k < n {
-        let r = argument_numbers(pool, c, p + 1, n, table);
+        let r = outer_numbers(pool, c, p + 1, n, table);
         let Fine::To(e) = r else {
             return true;
         };

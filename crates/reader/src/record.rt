@@ -5,17 +5,19 @@ ghost use Rattle.reader.specs.Values.{methodFlags, methodName, argumentC
 ghost use Rattle.reader.specs.Records.{ShowsType, ShowsParam, ShowsMethod, ShowsConstant, ShowsDescriptor};
 ghost use Rattle.reader.specs.Layout.{Stands, Ends, Tells, Names, Rows};
 
-// Where the type at `at` ends.
+// Where the type at `at` ends. An array is three bytes, and then its element.
 pub fn type_end(pool: &[u8], at: usize) -> usize
     requires { ⌜ Stands (ShowsType (now pool) at) × (length (now pool) ≤ 1048576) ⌝ }
     ensures { λ r. ⌜ Ends (ShowsType (now (pool .entry)) at) r ⌝ }
 {
-    match pool[at] % 32 {
-        0..=17 => at + 1,
-        18 => at + 3,
-        19 => at + 2,
-        20 => type_end(pool, at + 3),
-        _ => at + 3,
+    let mut p = at;
+    while pool[p] % 32 == 20 {
+        p += 3;
+    }
+    match pool[p] % 32 {
+        0..=17 => p + 1,
+        19 => p + 2,
+        _ => p + 3,
     }
 }
 

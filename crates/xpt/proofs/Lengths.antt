@@ -1,20 +1,18 @@
 -- Lengths that are written, and bytes that a part of a buffer leaves as they were.
 -- Assumes nothing.
-use mathlib.Core.Path.{_≡_, refl, sym, ap, _∙_, subst}
+use mathlib.Core.Path.{_≡_, sym, ap, _∙_}
 use mathlib.Core.Bool.{Bool, true, false}
 use mathlib.Core.List.{List, _++_}
 use Prim.Native.Nat.{ℕ, _≤_, _<_}
 use native.Mathlib.Omega.{arith}
 use lib.ListN.{length, getD, take, drop, List·getD-append}
 use lib.Seq.{length-take-le, getD-take, take-at}
-use Rattle.number.specs.Choice.{if_then_else_, _<?_}
+use Rattle.number.specs.Choice.{_<?_}
 use Rattle.number.proofs.Choice.{both, from-not-lt}
 use Rattle.reader.specs.Reader.{decode}
 use Rattle.link.specs.Outcome.{Outcome, refused, written, inRoom, normaliseIn, normalOf, normalisedAs, normaliseAnswer, linkIn, linkOf, linkedAs, linkAnswer, refusal, refusalOf}
 use Rattle.link.specs.declared.Normalised.{Normalised}
 use Rattle.link.specs.declared.Normalised.the-variants as normalised
-use Rattle.link.specs.declared.Linked.{Linked}
-use Rattle.link.specs.declared.Linked.the-variants as linked
 use Rattle.link.specs.declared.Which.the-variants.{Union}
 use Rattle.kept.specs.Table.{Tidy}
 use Rattle.lines.specs.Bars.{barred}

@@ -3,7 +3,7 @@ use crate::run::Ran;
 use crate::run::Told;
 use kept::Kept;
 ghost use mathlib.Core.Path.{_≡_};
-ghost use Prim.Native.Nat.{_≤_, _<_};
+ghost use Prim.Native.Nat.{_-_, _≤_, _<_};
 ghost use lib.ListN.{length};
 ghost use Rattle.kept.specs.Table.{Tidy};
 ghost use Rattle.xpt.specs.Input.{OneLine, FirstNewline, MovedDown, ReadBehind, Searched, Fed, Going};
@@ -104,9 +104,9 @@ fn tell_read(got: isize) {
     }
 }
 
-// Standard input into the buffer from `at` on; how many bytes came.
+// Standard input into the buffer from `at` on; how many bytes came. There is room for one, so that none means the end.
 fn read_at(at: usize, input: &mut [u8]) -> usize
-    requires { ⌜ at ≤ length (now input) ⌝ }
+    requires { ⌜ at < length (now input) ⌝ }
     ensures { λ r. ⌜ ReadBehind (now (input .entry)) at r (now (input .exit)) ⌝ }
 {
     let part = &mut input[at..];
@@ -117,7 +117,7 @@ fn read_at(at: usize, input: &mut [u8]) -> usize
 
 // More input behind what is in the buffer, which is not full.
 fn read_more(feed: Feed, input: &mut [u8; 65536]) -> Feed
-    requires { ⌜ Searched (now input) feed ⌝ }
+    requires { ⌜ Searched (now input) feed × (feed .end - feed .from < 65536) ⌝ }
     ensures { λ r. ⌜ Fed (now (input .exit)) r ⌝ }
 {
     let seen = move_down(feed.from, feed.end, input);

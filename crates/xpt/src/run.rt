@@ -54,18 +54,12 @@ fn answer(question: Question, line: &[u8], separator: u8, name: &[u8], file: &[u
 }
 
 // The line for a file that could not be read.
-fn unread(name: &[u8], kept: Kept, file: Loaded) -> Ran
+fn unread(name: &[u8], kept: Kept, error: i32) -> Ran
     ensures { λ r. ⌜ r .kept ≡ kept ⌝ }
 {
-    match file {
-        Loaded::Failed(error) => Ran {
-            kept,
-            told: mistaken(crate::failures::say_unread(name, error)),
-        },
-        Loaded::At(_) => Ran {
-            kept,
-            told: Told::Answer,
-        },
+    Ran {
+        kept,
+        told: mistaken(crate::failures::say_unread(name, error)),
     }
 }
 
@@ -88,14 +82,16 @@ fn answer_file(
     let asked = crate::files::load(name, kept, rows, store);
     let kept = asked.kept;
     let file = asked.file;
-    let Loaded::At(span) = file else {
-        return unread(name, kept, file);
-    };
-    let from = span.from;
-    let end = span.end;
-    let all: &[u8] = store;
-    let told = answer(question, line, separator, name, &all[from..end]);
-    Ran { kept, told }
+    match file {
+        Loaded::Failed(error) => unread(name, kept, error),
+        Loaded::At(span) => {
+            let from = span.from;
+            let end = span.end;
+            let all: &[u8] = store;
+            let told = answer(question, line, separator, name, &all[from..end]);
+            Ran { kept, told }
+        }
+    }
 }
 
 fn list_file(
@@ -115,16 +111,18 @@ fn list_file(
     let asked = crate::files::load(name, kept, rows, store);
     let kept = asked.kept;
     let file = asked.file;
-    let Loaded::At(span) = file else {
-        return unread(name, kept, file);
-    };
-    let from = span.from;
-    let end = span.end;
-    let all: &[u8] = store;
-    let is_written = crate::listed::list(&all[from..end], name, separator == b' ');
-    Ran {
-        kept,
-        told: answered(is_written),
+    match file {
+        Loaded::Failed(error) => unread(name, kept, error),
+        Loaded::At(span) => {
+            let from = span.from;
+            let end = span.end;
+            let all: &[u8] = store;
+            let is_written = crate::listed::list(&all[from..end], name, separator == b' ');
+            Ran {
+                kept,
+                told: answered(is_written),
+            }
+        }
     }
 }
 
@@ -168,14 +166,16 @@ fn write_normal(
     let asked = crate::files::load(name, kept, rows, store);
     let kept = asked.kept;
     let file = asked.file;
-    let Loaded::At(span) = file else {
-        return unread(name, kept, file);
-    };
-    let from = span.from;
-    let end = span.end;
-    let all: &[u8] = store;
-    let put = crate::outputs::normal(&all[from..end], name, to, out);
-    put_done(put, to, kept, rows, store)
+    match file {
+        Loaded::Failed(error) => unread(name, kept, error),
+        Loaded::At(span) => {
+            let from = span.from;
+            let end = span.end;
+            let all: &[u8] = store;
+            let put = crate::outputs::normal(&all[from..end], name, to, out);
+            put_done(put, to, kept, rows, store)
+        }
+    }
 }
 
 // Both files are in the store.
@@ -211,6 +211,32 @@ fn write_union(
     put_done(put, to, kept, rows, store)
 }
 
+// The first file is in the store.
+fn link_second(
+    line: &[u8],
+    separator: u8,
+    first: Span,
+    kept: Kept,
+    rows: &mut [usize; 256],
+    store: &mut [u8; 4210688],
+    out: &mut [u8; 1048576],
+) -> Ran
+    requires { ⌜ Tidy (now rows) kept × ((first .from ≤ first .end) × (first .end ≤ 4210688)) ⌝ }
+    ensures { λ r. ⌜ Tidy (now (rows .exit)) (r .kept) ⌝ }
+{
+    let word = words::word(line, separator, 2);
+    let a = word.from;
+    let b = word.end;
+    let name = &line[a..b];
+    let asked = crate::files::load(name, kept, rows, store);
+    let kept = asked.kept;
+    let file = asked.file;
+    match file {
+        Loaded::Failed(error) => unread(name, kept, error),
+        Loaded::At(span) => write_union(line, separator, first, span, kept, rows, store, out),
+    }
+}
+
 fn write_link(
     line: &[u8],
     separator: u8,
@@ -229,21 +255,14 @@ fn write_link(
     let c = two.from;
     let d = two.end;
     let first = &line[a..b];
-    let second = &line[c..d];
-    let roomy = kept::with_pair(first, second, kept, rows, store);
+    let roomy = kept::with_pair(first, &line[c..d], kept, rows, store);
     let asked = crate::files::load(first, roomy, rows, store);
     let kept = asked.kept;
     let file = asked.file;
-    let Loaded::At(span) = file else {
-        return unread(first, kept, file);
-    };
-    let asked2 = crate::files::load(second, kept, rows, store);
-    let kept2 = asked2.kept;
-    let file2 = asked2.file;
-    let Loaded::At(span2) = file2 else {
-        return unread(second, kept2, file2);
-    };
-    write_union(line, separator, span, span2, kept2, rows, store, out)
+    match file {
+        Loaded::Failed(error) => unread(first, kept, error),
+        Loaded::At(span) => link_second(line, separator, span, kept, rows, store, out),
+    }
 }
 
 // The command of a line.

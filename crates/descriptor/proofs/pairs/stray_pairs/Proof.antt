@@ -1,33 +1,24 @@
 -- `descriptor::pairs::stray_pairs` meets its contract.
 -- Assumes nothing.
-use Rattle.descriptor.proofs.StrayLaws.{names-keyed, firsts-below, no-getters, strays-told}
-use native.Mathlib.Omega.{arith}
-use mathlib.Core.Path.{refl}
-use borrow.Author.Needs.{needs}
+use Rattle.number.proofs.Tools.{arith, needs}
+use Rattle.descriptor.proofs.StrayLaws.{no-getters, strays-told}
 use Rattle.descriptor.proofs.pairs.stray_pairs.Statement.{statement}
 use Rattle.descriptor.proofs.pairs.stray_pairs.Tie as tie
 
-slice-aggregate-first-same : tie.Need-slice-aggregate-first-same
-slice-aggregate-first-same c = search needs
-
-first-same-requires : tie.Need-first-same-requires
-first-same-requires c κs = (names-keyed _ _ _ (omega arith) (omega arith) (c .before .before .before .before .pre .4), (omega arith, refl))
+name-groups-requires : tie.Need-name-groups-requires
+name-groups-requires c κs = search needs
 
 note-getters-requires : tie.Need-note-getters-requires
-note-getters-requires c κs = (omega arith, omega arith, c .before .before .first-same .ensures .1, firsts-below _ _ _ (omega arith) (c .before .before .first-same .ensures .0), no-getters _ _)
+note-getters-requires c κs = (omega arith, omega arith, c .before .before .name-groups .ensures .2, c .before .before .name-groups .ensures .1, no-getters _ _)
 
 stray-setter-requires : tie.Need-stray-setter-requires
-stray-setter-requires c κs = (omega arith, omega arith, c .before .before .before .before .before .first-same .ensures .1, firsts-below _ _ _ (omega arith) (c .before .before .before .before .before .first-same .ensures .0))
+stray-setter-requires c κs = search needs
 
 returns : tie.Need-returns
-returns c = strays-told _ _ _ _ _ _ (omega arith) (c .before .before .before .before .before .before .first-same .ensures .0) (c .before .before .before .note-getters .ensures) (c .stray-setter .ensures)
+returns c =
+    let g = c .before .before .before .before .before .before .name-groups .ensures in
+    strays-told _ _ _ _ _ (omega arith) (g .0) (g .1) (c .before .before .before .note-getters .ensures) (c .stray-setter .ensures)
 
 pub stray-pairs-spec : {M : Type 1} → statement M
 stray-pairs-spec =
-    tie.close
-    (tie.spec
-    slice-aggregate-first-same
-    first-same-requires
-    note-getters-requires
-    stray-setter-requires
-    returns)
+    tie.close (tie.spec name-groups-requires note-getters-requires stray-setter-requires returns)
