@@ -1,10 +1,7 @@
 // What to do.
 
-pub fn say_help() {
-    io::write_all(
-        1,
-        b"xpt checks, lists, asks, normalises and links XPCOM typelibs. Each answer is one line on standard output.\n\n",
-    );
+// Commands that are answered from one file.
+fn say_questions() {
     io::write_all(
         1,
         b"  xpt check FILE                                  accepted N, or refused NO PLACE\n",
@@ -33,6 +30,10 @@ pub fn say_help() {
         1,
         b"  xpt const FILE INDEX NAME                       the constant of this name\n",
     );
+}
+
+// Commands that write a file, and the batch.
+fn say_outputs() {
     io::write_all(
         1,
         b"  xpt normal FILE OUT                             writes the normal form of FILE to OUT\n",
@@ -45,6 +46,15 @@ pub fn say_help() {
         1,
         b"  xpt batch                                       one command a line on standard input, without the word xpt\n\n",
     );
+}
+
+pub fn say_help() {
+    io::write_all(
+        1,
+        b"xpt checks, lists, asks, normalises and links XPCOM typelibs. Each answer is one line on standard output.\n\n",
+    );
+    say_questions();
+    say_outputs();
     io::write_all(
         1,
         b"INDEX counts interfaces from 1, as `xpt list` shows them; slots count from 0. A refusal's reason stands on standard error.\n",
