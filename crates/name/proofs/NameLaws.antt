@@ -3,8 +3,9 @@
 use mathlib.Core.Path.{_≡_, refl, sym, ap, _∙_}
 use mathlib.Core.Bool.{true, false}
 use mathlib.Core.List.{List, []}
-use mathlib.Core.Logic.{inl, inr}
+use mathlib.Core.Logic.{_⊎_, inl, inr}
 use Prim.Native.Nat.{ℕ, _+_, _-_, _≤_, _<_}
+use native.Mathlib.Decide.{decLe}
 use native.Mathlib.Omega.{arith}
 use lib.ListN.{length, getD}
 use Rattle.number.specs.Choice.{if_then_else_}
@@ -21,45 +22,65 @@ use Rattle.reading.specs.declared.Step.{Step}
 use Rattle.reading.specs.declared.Step.the-variants.{End}
 use Rattle.reading.proofs.Steps.{refused, at-end-as, at-bad, is-true, is-false, is-le, no-le, told}
 use Rattle.reading.proofs.Facts.{Facts, fact, f-bad, f-got, f-if, f-unless, f-next, f-field, f-self}
-use Rattle.key.specs.Word.{zeroByte, wordEnd, wordAt, Leads}
+use Rattle.key.specs.Word.{wordEnd, wordAt, Leads}
 use Rattle.key.specs.Key.{spaceAt}
-use Rattle.key.proofs.Ends.{word-to, word-is}
-use Rattle.name.specs.Name.{isIdentifier, searchEnd, readIdentifier, follow, followSpace, readName}
-use Rattle.name.proofs.Words.{identifier-long, identifier-nonzero, word-found, word-beyond, search-range, search-full}
+use Rattle.key.proofs.Ends.{word-from, word-to, word-zero, end-is, word-is}
+use Rattle.name.specs.Name.{offLetter, isIdentifier, searchEnd, readIdentifier, follow, followSpace, readName}
+use Rattle.name.proofs.Words.{identifier-long, identifier-nonzero, letters-off, judge-none, judge-start, judge-stop, judge-done, search-range, search-most, search-full, nonzero-before, letter-none, letters-rest}
 
--- ---- the three ways out of the search, as steps
+-- ---- the ways out of the search, as steps
 
-module _ (s : List ℕ) (p stop end : ℕ) (l : p ≤ length s) (a : stop ≡ searchEnd s p) (b : end ≡ scan (zeroByte s) (stop - p) p) where
-  pub end-range : (p ≤ end) × (end ≤ length s)
-  end-range = let r = search-range s p l in omega (arith, scan-range (zeroByte s) (stop - p) p)
+module _ (s : List ℕ) (p stop end : ℕ) (l : p ≤ length s) (a : stop ≡ searchEnd s p) (b : end ≡ scan (offLetter s) (stop - p) p) where
+  pub end-range : (p ≤ end) × (end ≤ stop) × (stop ≤ length s)
+  end-range = let r = search-range s p l in omega (arith, scan-range (offLetter s) (stop - p) p)
 
-  -- a zero byte was found, so the word ends there
-  end-found : end < stop → wordEnd s p ≡ end
-  end-found h =
-      let r = search-range s p l in
-      word-found s p stop (omega arith) (omega arith) (omega arith) ∙ sym b
+  -- the word does not end among its letters
+  end-after : end ≤ wordEnd s p
+  end-after = elim (decLe end (wordEnd s p)) [
+    | yes h ↦ h
+    | no h ↦ absurd (let r = end-range in nonzero-before s p stop end b (wordEnd s p) (word-from s p) (omega arith) (word-zero s p (omega arith)))
+  ]
 
-module _ (s : List ℕ) (place p stop end : ℕ) (l : p ≤ length s) (a : stop ≡ searchEnd s p) (b : end ≡ scan (zeroByte s) (stop - p) p) where
-  pub step-good : end < stop → isIdentifier (part s p end) ≡ true → End (end + 1) ≡ stepOf (readIdentifier s place p)
+  -- a byte that is no letter is in it, or it has none
+  not-identifier : end < stop → (end ≡ p) ⊎ (getD s end 0 ≡ 0 → ⊥) → wordEnd s p < length s → isIdentifier (part s p (wordEnd s p)) ≡ false
+  not-identifier h w k = elim (below end (wordEnd s p) end-after) [
+    | inl q ↦ elim w [
+      | inl z ↦ sym (judge-none s p (wordEnd s p) (omega arith) (omega arith))
+      | inr z ↦ absurd (z (ap (λ (x : ℕ). getD s x 0) q ∙ word-zero s p k))
+    ]
+    | inr q ↦ (
+        let r = end-range in
+        letters-off (part s p (wordEnd s p))
+        (letters-rest s p stop end b (wordEnd s p) (omega arith) (omega arith) (r .0) ∙ sym (judge-stop s end (wordEnd s p) (omega arith) q (letter-none s p stop end b (omega arith) h))))
+  ]
+
+module _ (s : List ℕ) (place p stop end : ℕ) (l : p ≤ length s) (a : stop ≡ searchEnd s p) (b : end ≡ scan (offLetter s) (stop - p) p) where
+  -- a zero byte after one letter or more
+  pub step-good : end < stop → (end ≡ p → ⊥) → getD s end 0 ≡ 0 → End (end + 1) ≡ stepOf (readIdentifier s place p)
   unfolding readIdentifier wordAt
-  step-good h t =
-      let r = search-range s p l in
-      let e = end-found s p stop end l a b h in
+  step-good h n z =
+      let r = end-range s p stop end l a b in
+      let e : wordEnd s p ≡ end = end-is s p end (r .0) (omega arith) z (nonzero-before s p stop end b) in
+      let t : isIdentifier (part s p end) ≡ true =
+      judge-start s p end (omega arith) (λ q. n (omega arith)) (omega (arith, search-most s p l))
+      ∙ letters-rest s p stop end b end (omega arith) (omega arith) (r .0)
+      ∙ sym (judge-done s end end (omega arith) (omega arith)) in
       no-le _ _ _ _ (omega arith) (is-true _ _ _ (ap (λ (n : ℕ). isIdentifier (part s p n)) e ∙ t) (at-end-as _ _ (omega arith)))
 
-  pub step-wrong : end < stop → isIdentifier (part s p end) ≡ false → refused 11 place ≡ stepOf (readIdentifier s place p)
+  -- no letter, or another byte than zero after them
+  pub step-wrong : end < stop → (end ≡ p) ⊎ (getD s end 0 ≡ 0 → ⊥) → refused 11 place ≡ stepOf (readIdentifier s place p)
   unfolding readIdentifier wordAt
-  step-wrong h t =
-      let r = search-range s p l in
-      let e = end-found s p stop end l a b h in
-      no-le _ _ _ _ (omega arith) (is-false _ _ _ (ap (λ (n : ℕ). isIdentifier (part s p n)) e ∙ t) (at-bad _ _ _))
+  step-wrong h w = elim (below (wordEnd s p) (length s) (word-to s p l)) [
+    | inl q ↦ is-le _ _ _ _ (omega arith) (at-bad _ _ _)
+    | inr q ↦ no-le _ _ _ _ (omega arith) (is-false _ _ _ (not-identifier s p stop end l a b h w q) (at-bad _ _ _))
+  ]
 
-  -- no zero byte was found: the pool ends first, or the word has more than 255 bytes
+  -- letters only: the pool ends first, or the word has more than 255 bytes
   pub step-unfinished : stop ≤ end → refused 11 place ≡ stepOf (readIdentifier s place p)
   unfolding readIdentifier wordAt
   step-unfinished h =
-      let r = search-range s p l in
-      let y = word-beyond s p stop (omega arith) (omega arith) (omega arith) in
+      let r = end-range s p stop end l a b in
+      let y = end-after s p stop end l a b in
       elim (below (wordEnd s p) (length s) (word-to s p l)) [
         | inl q ↦ is-le _ _ _ _ (omega arith) (at-bad _ _ _)
         | inr q ↦ (

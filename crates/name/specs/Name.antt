@@ -3,7 +3,7 @@
 use mathlib.Core.Bool.{Bool, true, false}
 use mathlib.Core.List.{List, [], _∷_}
 use Prim.Native.Nat.{ℕ, _+_, _-_}
-use lib.ListN.{length}
+use lib.ListN.{length, getD}
 use Rattle.number.specs.Choice.{if_then_else_, _<?_, _≤?_, _=?_}
 use Rattle.reading.specs.Got.{Got, got, bad, next, field}
 use Rattle.reading.specs.declared.Context.{Context}
@@ -31,9 +31,13 @@ isIdentifier w =
     if 255 <? length w then false else
     letters w
 
--- how far the zero byte of an identifier at p is looked for: 256 bytes, or up to the end of s
+-- how far the end of an identifier at p is looked for: 256 bytes, or up to the end of s
 unfoldable pub searchEnd : List ℕ → ℕ → ℕ
 searchEnd s p = if 256 <? length s - p then p + 256 else length s
+
+-- byte i of s is no letter
+unfoldable pub offLetter : List ℕ → ℕ → Bool
+offLetter s i = if letter (getD s i 0) then false else true
 
 -- the identifier at p; a fault is that of the pointer field at `place`
 unfoldable pub readIdentifier : List ℕ → ℕ → ℕ → Got (List ℕ)

@@ -5,35 +5,37 @@ ghost use lib.ListN.{length};
 ghost use Rattle.number.specs.Scan.{scan};
 ghost use Rattle.number.specs.Part.{part};
 ghost use Rattle.reading.specs.Got.{stepOf};
-ghost use Rattle.key.specs.Word.{zeroByte};
-ghost use Rattle.name.specs.Name.{letter, isIdentifier, searchEnd, readIdentifier, follow, followSpace, readName};
+ghost use Rattle.name.specs.Name.{letter, offLetter, isIdentifier, searchEnd, readIdentifier, follow, followSpace, readName};
 use reading::Context;
 use reading::Refusal;
 use reading::Step;
 
-// Whether a byte is an ASCII letter, a digit or _; the common ones are tested first.
+// Whether a byte from 64 on is an ASCII letter or _. Upper and lower case go one way, as their low five bits are the same.
+fn is_high_letter(b: u8) -> bool
+    requires { ⌜ 64 ≤ b ⌝ }
+    ensures { λ r. ⌜ r ≡ letter b ⌝ }
+{
+    let t = b % 32;
+    if t == 0 {
+        return false;
+    }
+    if t < 27 {
+        return b < 128;
+    }
+    b == 95
+}
+
+// Whether a byte is an ASCII letter, a digit or _.
 pub fn is_letter(b: u8) -> bool
     ensures { λ r. ⌜ r ≡ letter b ⌝ }
 {
-    if 97 <= b {
-        return b < 123;
-    }
-    if b == 95 {
-        return true;
-    }
-    if 91 <= b {
-        return false;
-    }
-    if 65 <= b {
-        return true;
-    }
-    if 58 <= b {
-        return false;
+    if 64 <= b {
+        return is_high_letter(b);
     }
     if b < 48 {
         return false;
     }
-    true
+    b < 58
 }
 
 // Whether the bytes from `at` up to `end` are an identifier.
@@ -58,7 +60,7 @@ pub fn is_identifier(s: &[u8], at: usize, end: usize) -> bool
     true
 }
 
-// How far a zero byte is looked for: 255 bytes and the zero byte are the most that an identifier takes.
+// How far the end of an identifier is looked for: 255 bytes and the zero byte are the most that it takes.
 fn search_end(pool: &[u8], at: usize) -> usize
     requires { ⌜ at ≤ length (now pool) ⌝ }
     ensures { λ r. ⌜ r ≡ searchEnd (now (pool .entry)) at ⌝ }
@@ -69,32 +71,36 @@ fn search_end(pool: &[u8], at: usize) -> usize
     pool.len()
 }
 
-// The first zero byte from `at` on, or `stop` where there is none before it.
-fn find_zero(pool: &[u8], at: usize, stop: usize) -> usize
+// The first byte from `at` on that is no letter, or `stop` where there is none before it.
+fn letters_end(pool: &[u8], at: usize, stop: usize) -> usize
     requires { ⌜ (at ≤ stop) × (stop ≤ length (now pool)) ⌝ }
-    ensures { λ r. ⌜ r ≡ scan (zeroByte (now (pool .entry))) (stop - at) at ⌝ }
+    ensures { λ r. ⌜ r ≡ scan (offLetter (now (pool .entry))) (stop - at) at ⌝ }
 {
     let mut i = at;
     while i < stop {
-        if pool[i] == 0 {
+        if is_letter(pool[i]) {
+            i += 1;
+        } else {
             return i;
         }
-        i += 1;
     }
     i
 }
 
-// The identifier at `at`; its pointer field is at `place`.
+// The identifier at `at`; its pointer field is at `place`. As a zero byte is no letter, its letters and its end are found at once.
 pub fn read_identifier(pool: &[u8], place: usize, at: usize) -> Step
     requires { ⌜ at ≤ length (now pool) ⌝ }
     ensures { λ r. ⌜ r ≡ stepOf (readIdentifier (now (pool .entry)) place at) ⌝ }
 {
     let stop = search_end(pool, at);
-    let end = find_zero(pool, at, stop);
+    let end = letters_end(pool, at, stop);
     if stop <= end {
         return Step::Refused(Refusal { no: 11, place });
     }
-    if is_identifier(pool, at, end) {
+    if end == at {
+        return Step::Refused(Refusal { no: 11, place });
+    }
+    if pool[end] == 0 {
         return Step::End(end + 1);
     }
     Step::Refused(Refusal { no: 11, place })
