@@ -1076,6 +1076,19 @@ pub fn iids(sink: &mut Sink) {
     }
 }
 
+/// Descriptors of entries without an IID, at many places.
+pub fn without_iid(sink: &mut Sink) {
+    for n in [1, 2, 5, 30] {
+        for (position, directory_gap) in (0..n).flat_map(|i| [(i, 0), (i, 3)]) {
+            let mut lib = Typelib { entries: entries(n), directory_gap, ..Typelib::default() };
+            lib.entries[..=position].iter_mut().for_each(|entry| entry.iid = [0; 16]);
+            lib.entries[position].descriptor = Some(lib.add(Descriptor::default()));
+            let built = lib.build();
+            sink(&built.bytes, refused(12, built.entry(position) + 24), "12 zero IID");
+        }
+    }
+}
+
 /// Rows of up to five methods out of getters, setters, both, plain and constructors, two names.
 pub fn accessors(rng: &mut Rng, sink: &mut Sink) {
     let kinds = [GETTER, SETTER, 0, GETTER | SETTER, CONSTRUCTOR, GETTER | CONSTRUCTOR];
@@ -1350,6 +1363,7 @@ pub fn everything_made(seed: u64, sink: &mut dyn FnMut(&Made)) {
     bases.each(numbers);
     bases.each(wide_numbers);
     bases.one(iids);
+    bases.each(without_iid);
     bases.each(|sink| accessors(rng, sink));
     bases.each(sizes);
     bases.each(|sink| keys(rng, sink));
