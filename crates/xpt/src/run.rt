@@ -63,38 +63,17 @@ fn unread(name: &[u8], kept: Kept, error: i32) -> Ran
     }
 }
 
-// A command that is answered from one file.
-fn answer_file(
-    question: Question,
-    line: &[u8],
-    separator: u8,
-    kept: Kept,
-    rows: &mut [usize; 256],
-    store: &mut [u8; 4210688],
-) -> Ran
-    requires { ⌜ Tidy (now rows) kept ⌝ }
-    ensures { λ r. ⌜ Tidy (now (rows .exit)) (r .kept) ⌝ }
-{
-    let word = words::word(line, separator, 1);
-    let a = word.from;
-    let b = word.end;
-    let name = &line[a..b];
-    let asked = crate::files::load(name, kept, rows, store);
-    let kept = asked.kept;
-    let file = asked.file;
-    match file {
-        Loaded::Failed(error) => unread(name, kept, error),
-        Loaded::At(span) => {
-            let from = span.from;
-            let end = span.end;
-            let all: &[u8] = store;
-            let told = answer(question, line, separator, name, &all[from..end]);
-            Ran { kept, told }
-        }
+// What standard output gets of a command that only reads: the listing, or the line of a question.
+fn tell(verb: Verb, line: &[u8], separator: u8, name: &[u8], file: &[u8]) -> Told {
+    match verb {
+        Verb::Ask(question) => answer(question, line, separator, name, file),
+        _ => answered(crate::listed::list(file, name, separator == b' ')),
     }
 }
 
-fn list_file(
+// A command that reads one file and writes none.
+fn read_file(
+    verb: Verb,
     line: &[u8],
     separator: u8,
     kept: Kept,
@@ -117,11 +96,8 @@ fn list_file(
             let from = span.from;
             let end = span.end;
             let all: &[u8] = store;
-            let is_written = crate::listed::list(&all[from..end], name, separator == b' ');
-            Ran {
-                kept,
-                told: answered(is_written),
-            }
+            let told = tell(verb, line, separator, name, &all[from..end]);
+            Ran { kept, told }
         }
     }
 }
@@ -288,8 +264,8 @@ pub fn run(
         };
     }
     match verb {
-        Verb::Ask(question) => answer_file(question, line, separator, kept, rows, store),
-        Verb::List => list_file(line, separator, kept, rows, store),
+        Verb::Ask(_) => read_file(verb, line, separator, kept, rows, store),
+        Verb::List => read_file(verb, line, separator, kept, rows, store),
         Verb::Normal => write_normal(line, separator, kept, rows, store, out),
         Verb::Link => write_link(line, separator, kept, rows, store, out),
         Verb::Unknown => Ran {

@@ -94,7 +94,7 @@ mod tests {
 
     #[test]
     fn pipes_do_not_block() {
-        let cat = Program::new(Path::new("/bin/cat"), &["-"]).unwrap();
+        let cat = Program { path: "cat".into(), first: vec!["-".into()] };
         let input = vec![b'x'; 3_000_000];
         let ran = cat.run(Path::new("/"), &[], &input).unwrap();
         assert!(ran.stdout == input && ran.stderr.is_empty() && ran.broken.is_none());
@@ -102,7 +102,7 @@ mod tests {
 
     #[test]
     fn words_and_status() {
-        let sh = Program::new(Path::new("/bin/sh"), &["-c"]).unwrap();
+        let sh = Program { path: "sh".into(), first: vec!["-c".into()] };
         let run = |text: &str| sh.run(Path::new("/"), &[text.into()], b"").unwrap();
         let ran = run("pwd; echo two words >&2; exit 3");
         assert_eq!((&ran.stdout[..], &ran.stderr[..]), (&b"/\n"[..], &b"two words\n"[..]));

@@ -1,27 +1,27 @@
--- `xpt::run::answer_file` meets its contract: the file stands in the store.
+-- `xpt::run::read_file` meets its contract: the file stands in the store.
 -- Assumes nothing.
 use Rattle.number.proofs.Tools.{sym, subst, arith, needs}
 use Rattle.kept.specs.Table.{Tidy}
 use Rattle.xpt.specs.Bounds.{InStore}
-use Rattle.xpt.proofs.run.answer_file.Statement.{statement}
-use Rattle.xpt.proofs.run.answer_file.Tie as tie
+use Rattle.xpt.proofs.run.read_file.Statement.{statement}
+use Rattle.xpt.proofs.run.read_file.Tie as tie
 
-sub-answer : tie.Need-sub-answer
-sub-answer c = (subst InStore (c .before .before .before .file2 .given .1) (c .before .before .before .before .before .before .load .ensures .file)) .0
+sub-tell : tie.Need-sub-tell
+sub-tell c = (subst InStore (c .before .before .before .file2 .given .1) (c .before .before .before .before .before .before .load .ensures .file)) .0
 
-part-answer-start : tie.Need-part-answer-start
-part-answer-start c = (subst InStore (c .before .before .before .file2 .given .1) (c .before .before .before .before .before .before .load .ensures .file)) .0
+part-tell-start : tie.Need-part-tell-start
+part-tell-start c = (subst InStore (c .before .before .before .file2 .given .1) (c .before .before .before .before .before .before .load .ensures .file)) .0
 
-part-answer-end : tie.Need-part-answer-end
-part-answer-end c =
+part-tell-end : tie.Need-part-tell-end
+part-tell-end c =
     let p = (subst InStore (c .before .before .before .file2 .given .1) (c .before .before .before .before .before .before .load .ensures .file)) .1 in
     omega arith
 
 returns : tie.Need-returns
 returns c = subst (Tidy (c .before .before .before .before .before .load .last .1 .1 .0)) (sym (c .unread .ensures)) (c .before .before .before .before .before .load .ensures .tidy)
 
-pub answer-file-spec : {M : Type 1} → statement M
-answer-file-spec =
+pub read-file-spec : {M : Type 1} → statement M
+read-file-spec =
     tie.close
     (tie.spec
     (λ c κs. search needs)
@@ -32,9 +32,9 @@ answer-file-spec =
     (λ c. search needs)
     (λ c κs. search needs)
     (λ c. search needs)
-    sub-answer
-    part-answer-start
-    part-answer-end
+    sub-tell
+    part-tell-start
+    part-tell-end
     (λ c κs. search needs)
     returns
     (λ c. search needs))
