@@ -15,7 +15,7 @@ use Rattle.normal.specs.Size.{normalLength}
 use Rattle.normal.specs.Normal.{fileBytes, normalForm}
 use Rattle.normal.proofs.Mapped.{normal-length, file-mapped, normal-file}
 use Rattle.facts.specs.Union.{union}
-use Rattle.tables.specs.Rows.{keyOfRow, iidOfRow, descriptorOfRow, referenceIn}
+use Rattle.rows.specs.Rows.{keyOfRow, iidOfRow, descriptorOfRow, referenceIn}
 use Rattle.tables.specs.Joined.{holder, joined}
 use Rattle.tables.specs.Tables.{cell, Ordered, Placed}
 use Rattle.bridge.specs.Written.{Matched, Owned, heldIn, countedOf, keyMeant, meantOf, meantEntry, rowEntry, rowEntries}

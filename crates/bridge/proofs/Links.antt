@@ -15,7 +15,7 @@ use Rattle.normal.specs.Size.{normalLength}
 use Rattle.facts.specs.Union.{union}
 use Rattle.facts.specs.Conditions.{twoIids, sharedIid, twoDescriptors, endless}
 use Rattle.facts.specs.Link.{Linked, stopped, joined as linked, anySuch, linkBoth, linkEntries}
-use Rattle.tables.specs.Rows.{keyOfRow, iidOfRow, aboveRow}
+use Rattle.rows.specs.Rows.{keyOfRow, iidOfRow, aboveRow}
 use Rattle.tables.specs.Joined.{holder, held, joined, twoNumbers, sharedNumber, endlessRow, upFirst}
 use Rattle.tables.specs.Tables.{Ordered}
 use Rattle.bridge.specs.Written.{Matched, Owned, twoMeanings, rowEntries}

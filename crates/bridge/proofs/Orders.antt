@@ -19,7 +19,7 @@ use Rattle.facts.specs.Union.{iidIn, compareBy, entryFor, union}
 use Rattle.facts.proofs.Sorts.{Rising, rising-pairs, sorted-is}
 use Rattle.facts.proofs.Orders.{by-iid, by-key, before-by, ordered}
 use Rattle.facts.proofs.Unions.{sortedKeys, union-keys, union-length}
-use Rattle.tables.specs.Rows.{keyOfRow, iidOfRow}
+use Rattle.rows.specs.Rows.{keyOfRow, iidOfRow}
 use Rattle.tables.specs.Joined.{joined}
 use Rattle.tables.specs.Tables.{cell, Precedes, Ordered, Placed}
 use Rattle.bridge.specs.Span.{span}

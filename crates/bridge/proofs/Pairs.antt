@@ -18,7 +18,7 @@ use Rattle.meaning.proofs.Indexes.{length-meaning}
 use Rattle.facts.specs.Facts.{prepend, said}
 use Rattle.facts.specs.Union.{valuesOf, firstOf}
 use Rattle.facts.specs.Valid.{entryAt}
-use Rattle.tables.specs.Rows.{keyOfRow}
+use Rattle.rows.specs.Rows.{keyOfRow}
 use Rattle.tables.specs.Joined.{holder}
 use Rattle.tables.specs.Tables.{Mate, alone, paired, Mates}
 use Rattle.bridge.specs.Written.{heldIn}

@@ -17,7 +17,8 @@ use Rattle.meaning.specs.Refs.{OwnRefs}
 use Rattle.meaning.proofs.Maps.{at-mapped, key-mapped, iid-mapped}
 use Rattle.meaning.proofs.Indexes.{length-meaning}
 use Rattle.facts.specs.Valid.{blank, entryAt}
-use Rattle.tables.specs.Rows.{rowOf, keyOfRow, iidOfRow, descriptorOfRow, referenceIn, TwoFiles}
+use Rattle.rows.specs.Rows.{rowOf, keyOfRow, iidOfRow, descriptorOfRow, referenceIn}
+use Rattle.tables.specs.Tables.{TwoFiles}
 use Rattle.bridge.specs.Written.{keyMeant, meantOf}
 use Rattle.bridge.proofs.Maps.{own-mapped, entry-refs, own-agrees}
 

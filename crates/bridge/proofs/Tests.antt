@@ -22,7 +22,7 @@ use Rattle.facts.specs.Union.{iidIn}
 use Rattle.facts.specs.Conditions.{anyOf, sharesWith, sharedIid}
 use Rattle.facts.specs.Link.{suchAt, anySuch, firstSuch}
 use Rattle.facts.proofs.Tests.{any-found, any-none}
-use Rattle.tables.specs.Rows.{keyOfRow, iidOfRow}
+use Rattle.rows.specs.Rows.{keyOfRow, iidOfRow}
 use Rattle.tables.specs.Joined.{joined, sharesRow, sharedNumber}
 use Rattle.bridge.specs.Written.{Matched}
 use Rattle.bridge.proofs.Rows.{told, told-length, told-first, told-key}

@@ -12,7 +12,7 @@ use Rattle.reader.specs.Values.{Descriptor, Entry, entry}
 use Rattle.reader.specs.Rules.{EntriesRule}
 use Rattle.meaning.specs.Meaning.{mapOwn}
 use Rattle.facts.specs.Equal.{sameDescriptor}
-use Rattle.tables.specs.Rows.{keyOfRow, iidOfRow, descriptorOfRow, referenceIn}
+use Rattle.rows.specs.Rows.{keyOfRow, iidOfRow, descriptorOfRow, referenceIn}
 use Rattle.tables.specs.Joined.{holder, joined}
 use Rattle.tables.specs.Tables.{Mates, cell}
 use Rattle.bridge.specs.Span.{span}

@@ -172,7 +172,7 @@ fn name_groups(
     let mut taken = [0u32; 1024];
     let mut groups = [0u16; 1024];
     let m = take_names(flags, names, n, &mut taken);
-    key::first_same(pool, &spaces, &taken, m, &mut groups);
+    sorting::first_same(pool, &spaces, &taken, m, &mut groups);
     spread_groups(flags, &groups, n, first);
 }
 

@@ -13,8 +13,8 @@ use Rattle.reader.specs.declared.Layout.{Layout}
 use Rattle.reader.specs.Rules.{EntriesRule}
 use Rattle.reader.specs.Layout.{Lies}
 use Rattle.facts.specs.Link.{Linked, stopped}
-use Rattle.tables.specs.Rows.{keyOfRow, TwoFiles}
-use Rattle.tables.specs.Tables.{Mates}
+use Rattle.rows.specs.Rows.{keyOfRow}
+use Rattle.tables.specs.Tables.{Mates, TwoFiles}
 use Rattle.bridge.specs.Written.{Matched}
 use Rattle.bridge.proofs.Rows.{rows-two}
 use Rattle.output.specs.Files.{Pair, HoldBoth, Given}

@@ -9,20 +9,20 @@ use lib.ListN.{length}
 use Rattle.number.specs.Scan.{scan, some}
 use Rattle.key.specs.Key.{Key}
 use Rattle.key.specs.First.{firstSame, Filled}
-use Rattle.key.specs.Table.{Sorted, Rowed}
-use Rattle.key.specs.Rows.{rowKey, RowsKeyed}
+use Rattle.sorting.specs.Table.{Sorted, Rowed}
+use Rattle.sorting.specs.Rows.{rowKey, RowsKeyed}
 use Rattle.reader.specs.declared.Layout.{Layout}
 use Rattle.reader.specs.Values.{Entry}
 use Rattle.reader.specs.Layout.{LaidOut}
 use Rattle.facts.specs.Link.{stopped}
-use Rattle.tables.specs.Rows.{keyOfRow, iidOfRow, aboveRow, TwoFiles}
+use Rattle.rows.specs.Rows.{keyOfRow, iidOfRow, aboveRow}
 use Rattle.tables.specs.Joined.{holder, held, joined, twoNumbers, sharedNumber, endlessRow, upFirst}
-use Rattle.tables.specs.Tables.{cell, Mates, Wide, Ordered, Placed}
+use Rattle.tables.specs.Tables.{cell, Mates, Wide, Ordered, Placed, TwoFiles}
 use Rattle.tables.specs.Cells.{AtMost, Across}
-use Rattle.tables.specs.Notes.{Noted, NameOf, SpaceOf, OwnOf, HighOf, LowOf, upRow}
+use Rattle.rows.specs.Notes.{Noted, NameOf, SpaceOf, OwnOf, HighOf, LowOf, upRow}
 use Rattle.tables.proofs.MateLaws.{mates-across, across-most}
-use Rattle.tables.proofs.FillLaws.{rows-keyed, row-key, iids-wide, owns-low, owns-high, up-told, up-most}
-use Rattle.tables.proofs.UseLaws.{firsts-most, sorted-most, ordered-most, holders-most, sorted-as, firsts-as, own-lacks, own-has}
+use Rattle.rows.proofs.FillLaws.{own-lacks, own-has, rows-keyed, row-key, iids-wide, owns-low, owns-high, up-told, up-most}
+use Rattle.tables.proofs.UseLaws.{firsts-most, sorted-most, ordered-most, holders-most, sorted-as, firsts-as}
 use Rattle.bridge.specs.Written.{twoMeanings}
 use Rattle.bridge.proofs.Links.{link-21, link-22, link-23, link-24}
 use Rattle.output.specs.Files.{Pair, HoldBoth, Given, Gives}

@@ -21,7 +21,7 @@ use Rattle.meaning.proofs.Alls.{all-at}
 use Rattle.facts.specs.Equal.{sameDescriptor}
 use Rattle.facts.proofs.Tests.{same-descriptors}
 use Rattle.normal.proofs.Apart.{refs-in}
-use Rattle.tables.specs.Rows.{keyOfRow, descriptorOfRow, referenceIn}
+use Rattle.rows.specs.Rows.{keyOfRow, descriptorOfRow, referenceIn}
 use Rattle.tables.specs.Tables.{cell}
 use Rattle.tables.proofs.MateLaws.{mates-across}
 use Rattle.bridge.specs.Written.{keyMeant, meantOf, differing, twoMeanings}

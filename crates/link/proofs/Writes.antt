@@ -18,7 +18,7 @@ use Rattle.facts.specs.Link.{Linked, stopped, joined as linked}
 use Rattle.normal.specs.Size.{normalLength}
 use Rattle.normal.specs.Normal.{fileBytes, normalForm}
 use Rattle.normal.proofs.Lengths.{length-normal}
-use Rattle.tables.specs.Rows.{keyOfRow, iidOfRow}
+use Rattle.rows.specs.Rows.{keyOfRow, iidOfRow}
 use Rattle.tables.specs.Joined.{joined}
 use Rattle.tables.specs.Tables.{cell}
 use Rattle.tables.specs.Numbers.{numberIn}

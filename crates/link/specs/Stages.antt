@@ -8,13 +8,13 @@ use lib.ListN.{length}
 use Rattle.number.specs.Scan.{some}
 use Rattle.reading.specs.declared.Refusal.{Refusal}
 use Rattle.key.specs.First.{firstSame, Filled}
-use Rattle.key.specs.Table.{Rowed}
+use Rattle.sorting.specs.Table.{Rowed}
 use Rattle.reader.specs.Records.{ShowsOwn}
 use Rattle.meaning.specs.Meaning.{meaning}
 use Rattle.facts.specs.Link as facts
 use Rattle.facts.specs.Link.{linkEntries}
 use Rattle.normal.specs.Size.{normalLength}
-use Rattle.tables.specs.Rows.{keyOfRow, iidOfRow, descriptorOfRow, aboveRow}
+use Rattle.rows.specs.Rows.{keyOfRow, iidOfRow, descriptorOfRow, aboveRow}
 use Rattle.tables.specs.Joined.{holder, held, joined, twoNumbers, sharedNumber, endlessRow, upFirst}
 use Rattle.tables.specs.Tables.{cell, Mates, Wide, Ordered, Placed}
 use Rattle.bridge.specs.Written.{Owned, twoMeanings}

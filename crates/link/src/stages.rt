@@ -39,9 +39,9 @@ fn sort_files(
     let mut names = [0u32; 2048];
     let n = l.count;
     let total = n + k.count;
-    tables::fill::note_pointers(s, l, 0, &mut spaces, &mut names);
-    tables::fill::note_pointers(t, k, n, &mut spaces, &mut names);
-    key::sort_keys(p, q, n, &spaces, &names, total, keys, first)
+    rows::note_pointers(s, l, 0, &mut spaces, &mut names);
+    rows::note_pointers(t, k, n, &mut spaces, &mut names);
+    sorting::sort_keys(p, q, n, &spaces, &names, total, keys, first)
 }
 
 // The IIDs of their rows.
@@ -59,8 +59,8 @@ fn note_numbers(
     ensures { λ r. ⌜ Known (HoldBoth (now (s .entry)) (now (p .entry)) l (now (t .entry)) (now (q .entry)) k) (Iids (now (high .exit)) (now (low .exit)) (l .count + k .count)) × (2048 ≡ length (now (high .exit))) × (2048 ≡ length (now (low .exit))) ⌝ }
 {
     let n = l.count;
-    tables::fill::note_iids(s, l, 0, high, low);
-    tables::fill::note_iids(t, k, n, high, low);
+    rows::note_iids(s, l, 0, high, low);
+    rows::note_iids(t, k, n, high, low);
 }
 
 // The pool pointers of their descriptors.
@@ -77,8 +77,8 @@ fn note_descriptors(
     ensures { λ r. ⌜ Known (HoldBoth (now (s .entry)) (now (p .entry)) l (now (t .entry)) (now (q .entry)) k) (Owns (now (p .entry)) (now (q .entry)) (now (own .exit)) (l .count) (l .count + k .count)) × (2048 ≡ length (now (own .exit))) ⌝ }
 {
     let n = l.count;
-    tables::fill::note_own(s, l, 0, own);
-    tables::fill::note_own(t, k, n, own);
+    rows::note_own(s, l, 0, own);
+    rows::note_own(t, k, n, own);
 }
 
 // 25 to 27, or the normal form of the union.
@@ -163,7 +163,7 @@ fn join_chains(
     let mut up = [0u16; 2048];
     let n = l.count;
     let total = n + k.count;
-    tables::fill::note_up(s, l, t, k, first, holders, &mut up);
+    rows::note_up(s, l, t, k, first, holders, &mut up);
     let i = tables::chains::first_endless(&up, n, total);
     if i < n {
         return stop(24, i + 1);

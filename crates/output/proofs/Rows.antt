@@ -21,7 +21,7 @@ use Rattle.meaning.proofs.Alls.{all-at}
 use Rattle.normal.specs.Size.{nameSize, spaceSize, ownSize}
 use Rattle.normal.specs.Normal.{ownBytes}
 use Rattle.normal.proofs.Mapped.{own-size, own-bytes}
-use Rattle.tables.specs.Rows.{descriptorOfRow, referenceIn}
+use Rattle.rows.specs.Rows.{descriptorOfRow, referenceIn}
 use Rattle.tables.specs.Tables.{cell}
 use Rattle.bridge.specs.Written.{heldIn, countedOf}
 use Rattle.bridge.proofs.Rows.{row-first, row-second, key-first, key-second, reference-first, reference-second}

@@ -10,7 +10,7 @@ use Rattle.reader.specs.Values.{Entry, entry}
 use Rattle.normal.specs.Size.{normalLength}
 use Rattle.normal.specs.Normal.{fileBytes, normalForm}
 use Rattle.facts.specs.Union.{union}
-use Rattle.tables.specs.Rows.{keyOfRow, iidOfRow}
+use Rattle.rows.specs.Rows.{keyOfRow, iidOfRow}
 use Rattle.tables.specs.Joined.{holder, joined}
 use Rattle.tables.specs.Tables.{cell, Wide, Ordered, Placed}
 use Rattle.tables.specs.Numbers.{wide, numberIn}

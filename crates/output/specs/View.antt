@@ -8,7 +8,7 @@ use Rattle.key.specs.Key.{Key}
 use Rattle.reader.specs.Values.{Descriptor, Entry, entry}
 use Rattle.normal.specs.Size.{normalLength}
 use Rattle.normal.specs.Normal.{fileBytes}
-use Rattle.tables.specs.Rows.{keyOfRow}
+use Rattle.rows.specs.Rows.{keyOfRow}
 use Rattle.tables.specs.Tables.{cell}
 use Rattle.bridge.specs.Span.{span}
 use Rattle.bridge.specs.Written.{heldIn, countedOf}

@@ -2,5 +2,4 @@ pub mod NumberLaws
 pub mod MateLaws
 pub mod ChainLaws
 pub mod OrderLaws
-pub mod FillLaws
 pub mod UseLaws

@@ -14,9 +14,8 @@ use Rattle.number.proofs.Scans.{below}
 use Rattle.key.specs.Key.{Key}
 use Rattle.key.specs.First.{firstSame, Filled}
 use Rattle.key.proofs.Firsts.{first-le, first-key, first-equal}
-use Rattle.key.proofs.Tables.{last}
-use Rattle.tables.specs.Rows.{TwoFiles}
-use Rattle.tables.specs.Tables.{cell, Mate, alone, paired, Mates}
+use Rattle.sorting.proofs.Tables.{last}
+use Rattle.tables.specs.Tables.{cell, Mate, alone, paired, Mates, TwoFiles}
 use Rattle.tables.specs.Cells.{AtMost, Across, nothing, mateNoted}
 
 -- a row of the first file is the first of its key

@@ -18,7 +18,7 @@ use Rattle.number.proofs.Choice.{is-eq, no-eq, is-ne, no-ne, is-le, no-le, yes-
 use Rattle.number.proofs.Scans.{scan-ext, some-ext}
 use Rattle.key.specs.First.{Filled}
 use Rattle.key.proofs.Orders.{three}
-use Rattle.key.proofs.Tables.{last}
+use Rattle.sorting.proofs.Tables.{last}
 use Rattle.tables.specs.Joined.{holder, held, joined, twoNumbers, sharesRow, sharedNumber}
 use Rattle.tables.specs.Tables.{cell, Wide}
 use Rattle.tables.specs.Cells.{AtMost, Across}

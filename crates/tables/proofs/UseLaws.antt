@@ -1,27 +1,18 @@
 -- What a caller hands from one table to the next.
 -- Assumes nothing.
-use mathlib.Core.Path.{_≡_, refl, sym, _∙_}
+use mathlib.Core.Path.{_≡_, sym, _∙_}
 use mathlib.Core.List.{List}
-use mathlib.Core.Option.{Option, none, some}
 use Prim.Native.Nat.{ℕ, _+_, _≤_, _<_}
-use native.Mathlib.Decide.{decLe}
 use native.Mathlib.Omega.{arith}
-use lib.ListN.{getD, replicate, getD-replicate, drop}
+use lib.ListN.{getD, replicate, getD-replicate}
 use Rattle.number.proofs.Choice.{both, from-not-le}
 use Rattle.key.specs.Key.{Key, compareKeys}
 use Rattle.key.specs.First.{firstSame, Filled}
-use Rattle.key.specs.Table.{Sorted}
+use Rattle.sorting.specs.Table.{Sorted}
 use Rattle.key.proofs.Firsts.{first-le, first-ext}
-use Rattle.reader.specs.declared.Layout.{Layout}
-use Rattle.reader.specs.Values.{Entry, Descriptor}
-use Rattle.reader.specs.Records.{ShowsOwn}
-use Rattle.reader.specs.Layout.{LaidOut}
-use Rattle.tables.specs.Rows.{descriptorOfRow}
 use Rattle.tables.specs.Joined.{holder}
 use Rattle.tables.specs.Tables.{cell, Ordered}
 use Rattle.tables.specs.Cells.{AtMost, Across, nothing}
-use Rattle.tables.specs.Notes.{Noted, OwnOf}
-use Rattle.tables.proofs.FillLaws.{owns-low, owns-high}
 
 -- ---- bounds
 
@@ -66,30 +57,6 @@ module _ (K L : ℕ → Key) (N : ℕ) (e : (i : ℕ) → i < N → K i ≡ L i)
 
   pub firsts-as : (first : List ℕ) → Filled first N (firstSame K) → Filled first N (firstSame L)
   firsts-as first f = record { long = f .long; held = λ i l. f .held i l ∙ first-as i l }
-
--- ---- rows with a descriptor
-
-shown-lacks : (s : List ℕ) (q : ℕ) (d : Option (Descriptor ℕ)) → ShowsOwn s q d → q ≡ 0 → d ≡ none
-shown-lacks s q none x e = refl
-shown-lacks s q (some d) x e = absurd (omega (arith, x .0))
-
-shown-has : (s : List ℕ) (q : ℕ) (d : Option (Descriptor ℕ)) → ShowsOwn s q d → d ≡ none → q ≡ 0
-shown-has s q d x e = (rw e at x)
-
-module _ (s : List ℕ) (l : Layout) (t : List ℕ) (k : Layout) (es fs : List (Entry ℕ)) (a : LaidOut s l es) (b : LaidOut t k fs)
-    (own own₁ own₂ : List ℕ) (x : Noted (OwnOf s l) own own₁ 0 (l .count)) (y : Noted (OwnOf t k) own₁ own₂ (l .count) (k .count)) where
-  -- the table tells 0 of a row exactly when it has no descriptor
-  pub own-lacks : (i : ℕ) → i < l .count + k .count → cell own₂ i ≡ 0 → descriptorOfRow es fs i ≡ none
-  own-lacks i h = elim (decLe (l .count) i) [
-    | yes m ↦ shown-lacks (drop (k .pool) t) (cell own₂ i) (descriptorOfRow es fs i) (owns-high s l t k es fs a b own own₁ own₂ x y i m h)
-    | no m ↦ shown-lacks (drop (l .pool) s) (cell own₂ i) (descriptorOfRow es fs i) (owns-low s l t k es fs a b own own₁ own₂ x y i (omega arith))
-  ]
-
-  pub own-has : (i : ℕ) → i < l .count + k .count → descriptorOfRow es fs i ≡ none → cell own₂ i ≡ 0
-  own-has i h = elim (decLe (l .count) i) [
-    | yes m ↦ shown-has (drop (k .pool) t) (cell own₂ i) (descriptorOfRow es fs i) (owns-high s l t k es fs a b own own₁ own₂ x y i m h)
-    | no m ↦ shown-has (drop (l .pool) s) (cell own₂ i) (descriptorOfRow es fs i) (owns-low s l t k es fs a b own own₁ own₂ x y i (omega arith))
-  ]
 
 -- ---- the table of mates at the start
 

@@ -1,7 +1,5 @@
-pub mod Rows
 pub mod Joined
 pub mod Tables
 pub mod Cells
 pub mod Numbers
 pub mod Order
-pub mod Notes

@@ -9,6 +9,14 @@ use Rattle.key.specs.declared.Order.the-variants.{Before}
 use Rattle.key.specs.Key.{Key, compareKeys}
 use Rattle.key.specs.First.{firstSame}
 
+-- K tells the key of each row; of N rows the first n are those of the first file. Keys are unique in each file
+pub record TwoFiles (K : ℕ → Key) (n N : ℕ) : Type 0 where
+  pub few : n ≤ 1024
+  pub low : n ≤ N
+  pub high : N ≤ n + 1024
+  pub first : (i j : ℕ) → i < j → j < n → K i ≡ K j → ⊥
+  pub second : (i j : ℕ) → n ≤ i → i < j → j < N → K i ≡ K j → ⊥
+
 -- what a table holds at i
 unfoldable pub cell : List ℕ → ℕ → ℕ
 cell t i = getD t i 0

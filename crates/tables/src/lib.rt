@@ -2,12 +2,11 @@
 ghost use mathlib.Core.Path.{_≡_};
 
 pub mod chains;
-pub mod fill;
 pub mod mates;
 pub mod numbers;
 pub mod order;
 
-fn index(x: u16) -> usize
+pub fn index(x: u16) -> usize
     ensures { λ r. ⌜ r ≡ x ⌝ }
 {
     x as usize

@@ -4,9 +4,8 @@ ghost use Prim.Native.Nat.{ℕ, _+_, _≤_, _<_};
 ghost use lib.ListN.{length};
 ghost use Rattle.key.specs.Key.{Key};
 ghost use Rattle.key.specs.First.{firstSame, Filled};
-ghost use Rattle.tables.specs.Rows.{TwoFiles};
 ghost use Rattle.tables.specs.Joined.{holder};
-ghost use Rattle.tables.specs.Tables.{cell, Mates};
+ghost use Rattle.tables.specs.Tables.{cell, Mates, TwoFiles};
 ghost use Rattle.tables.specs.Cells.{AtMost, nothing, mateNoted};
 use crate::index;
 

@@ -51,6 +51,6 @@ pub fn first_repeated(file: &[u8], pool: &[u8], n: usize, d: usize) -> usize
     let mut names = [0u32; 1024];
     let mut first = [0u16; 1024];
     note_pointers(file, n, d, &mut spaces, &mut names);
-    key::first_same(pool, &spaces, &names, n, &mut first);
+    sorting::first_same(pool, &spaces, &names, n, &mut first);
     first_lower(&first, n)
 }

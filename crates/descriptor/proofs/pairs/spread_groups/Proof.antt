@@ -4,7 +4,7 @@ use Rattle.number.proofs.Tools.{_≡_, refl, sym, _∙_, arith, needs, length, 
 use Rattle.number.specs.Scan.{tally}
 use Rattle.number.proofs.Scans.{tally-most, tally-more}
 use Rattle.key.specs.First.{Filled}
-use Rattle.key.proofs.Tables.{fill-none, fill-more}
+use Rattle.sorting.proofs.Tables.{fill-none, fill-more}
 use lib.ListN.{length-set}
 use Rattle.descriptor.specs.Tables.{cell, isAccessor, groupIn}
 use Rattle.descriptor.proofs.StrayLaws.{one-most}

@@ -2,7 +2,7 @@
 -- Assumes nothing.
 use lib.ListN.{length-set}
 use Rattle.key.specs.First.{Filled}
-use Rattle.key.proofs.Tables.{fill-none, fill-more, fill-to}
+use Rattle.sorting.proofs.Tables.{fill-none, fill-more, fill-to}
 use Rattle.tables.specs.Tables.{cell}
 use Rattle.tables.specs.Joined.{holder}
 use Rattle.number.proofs.Tools.{_≡_, _-_, _≤_, arith, length}

@@ -1,7 +1,7 @@
 -- `typelib::keys::note_pointers` meets its contract.
 -- Assumes nothing.
 use Rattle.typelib.specs.Directory.{spacePointer, namePointer}
-use Rattle.key.proofs.Tables.{fill-none, fill-more}
+use Rattle.sorting.proofs.Tables.{fill-none, fill-more}
 use Rattle.key.specs.First.{Filled}
 use lib.ListN.{length, length-set}
 use native.Mathlib.Omega.{arith}
