@@ -9,8 +9,8 @@ ghost use Rattle.reader.specs.Layout.{LaidOut, Lies};
 ghost use Rattle.rows.specs.Rows.{aboveRow};
 ghost use Rattle.tables.specs.Cells.{AtMost};
 ghost use Rattle.rows.specs.Notes.{Noted, NameOf, SpaceOf, OwnOf, HighOf, LowOf, upRow};
-use tables::index;
 use reader::Layout;
+use tables::index;
 
 // The pool pointer of the name of entry i.
 fn name_of(file: &[u8], l: Layout, i: usize) -> u32
