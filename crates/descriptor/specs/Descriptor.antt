@@ -3,8 +3,9 @@
 use mathlib.Core.Bool.{Bool, true, false}
 use mathlib.Core.List.{List}
 use mathlib.Core.Option.{Option, none, some}
-use Prim.Native.Nat.{ℕ, _+_, _/_, _%_}
+use Prim.Native.Nat.{ℕ, _+_}
 use lib.ListN.{length, getD}
+use Rattle.number.specs.Bits.{bit, bitsBelow}
 use Rattle.number.specs.Choice.{if_then_else_, _<?_, _=?_, _≠?_}
 use Rattle.reading.specs.Got.{Got, got, bad, next, many, byte, field}
 use Rattle.reading.specs.declared.Context.{Context}
@@ -47,11 +48,15 @@ readCounted rd c s p =
     if 1024 <? n then bad 17 (c .base + p) else
     many rd n e
 
--- six reserved bits; with minor 0 function, 0x40, is reserved too
+-- the lower of the two flags; scriptable, 0x80, has no rule
+abbrev pub functionBit : ℕ
+functionBit = 0x40
+
+-- six reserved bits; with minor 0 function is reserved too
 unfoldable pub reservedInterface : ℕ → ℕ → Bool
 reservedInterface minor f =
-    if f % 64 ≠? 0 then true else
-    if minor =? 0 then f / 64 % 2 =? 1 else
+    if bitsBelow functionBit f ≠? 0 then true else
+    if minor =? 0 then bit functionBit f =? 1 else
     false
 
 -- the flags of the descriptor at `first`, and the rules on its n methods, with flags f and names w by position

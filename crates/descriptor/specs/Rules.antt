@@ -2,26 +2,25 @@
 -- Assumes nothing.
 use mathlib.Core.Bool.{Bool, false}
 use mathlib.Core.List.{List}
-use Prim.Native.Nat.{ℕ, _+_, _/_, _%_}
+use Prim.Native.Nat.{ℕ, _+_}
+use Rattle.number.specs.Bits.{bit}
 use Rattle.number.specs.Choice.{if_then_else_, _<?_, _=?_, _≠?_}
 use Rattle.number.specs.Scan.{some, tally}
 use Rattle.key.specs.Word.{sameWord}
+use Rattle.method.specs.Flags.{getterBit, setterBit, constructorBit}
 
--- bit 0x10
 unfoldable pub isConstructor : (ℕ → ℕ) → ℕ → Bool
-isConstructor f i = f i / 16 % 2 =? 1
+isConstructor f i = bit constructorBit (f i) =? 1
 
 -- one interface has at most one constructor
 unfoldable pub manyConstructors : (ℕ → ℕ) → ℕ → Bool
 manyConstructors f n = 1 <? tally (isConstructor f) n
 
--- bit 0x80
 unfoldable pub isGetter : (ℕ → ℕ) → ℕ → Bool
-isGetter f i = f i / 128 % 2 =? 1
+isGetter f i = bit getterBit (f i) =? 1
 
--- bit 0x40
 unfoldable pub isSetter : (ℕ → ℕ) → ℕ → Bool
-isSetter f i = f i / 64 % 2 =? 1
+isSetter f i = bit setterBit (f i) =? 1
 
 -- own method i is a getter and own method j a setter of the same name, and j is not i + 1
 unfoldable pub strayPair : (ℕ → ℕ) → (ℕ → List ℕ) → ℕ → ℕ → Bool

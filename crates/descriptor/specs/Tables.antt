@@ -13,6 +13,7 @@ use Rattle.reading.specs.declared.Step.{Step}
 use Rattle.key.specs.Word.{Leads, wordAt, sameWord}
 use Rattle.method.specs.Method.{Method, readMethod}
 use Rattle.method.specs.Tables.{Kept}
+use Rattle.method.specs.Flags.{setterBit}
 use Rattle.descriptor.specs.Rules.{isGetter, isSetter}
 use Rattle.descriptor.specs.Descriptor.{readCounted}
 
@@ -46,9 +47,9 @@ strayOf v j = if v =? 0 then false else v ≠? j
 unfoldable pub straySetter : (ℕ → ℕ) → (ℕ → ℕ) → (ℕ → ℕ) → ℕ → Bool
 straySetter f g t j = if isSetter f j then strayOf (t (g j)) j else false
 
--- a getter or a setter: bits 0x80 and 0x40, the two highest
+-- a getter or a setter: the two highest bits
 unfoldable pub isAccessor : (ℕ → ℕ) → ℕ → Bool
-isAccessor f i = 64 ≤? f i
+isAccessor f i = setterBit ≤? f i
 
 -- t holds, in their order, the m of the first n numbers of `all` that p takes: number i at the place that counts those taken before it
 pub record Taken (p : ℕ → Bool) (all t : List ℕ) (n m : ℕ) : Type 0 where

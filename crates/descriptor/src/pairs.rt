@@ -1,18 +1,20 @@
 // Constructors and getter pairs, from tables of the methods' flags and of the groups of their names.
 ghost use mathlib.Core.Path.{_≡_};
-ghost use Prim.Native.Nat.{_+_, _≤_, _<_, _/_, _%_};
+ghost use Prim.Native.Nat.{_+_, _≤_, _<_};
 ghost use lib.ListN.{length, getD};
+ghost use Rattle.number.specs.Bits.{bit};
 ghost use Rattle.number.specs.Choice.{if_then_else_, _≤?_, _=?_};
 ghost use Rattle.number.specs.Scan.{some, tally};
 ghost use Rattle.key.specs.First.{Filled};
+ghost use Rattle.method.specs.Flags.{setterBit, constructorBit};
 ghost use Rattle.descriptor.specs.Rules.{manyConstructors, strayPairs};
 ghost use Rattle.descriptor.specs.Tables.{Below, Led, Taken, Grouped, cell, wordIn, isAccessor, groupIn, oneMore, gettersOf, strayOf, straySetter};
 
 // 1 for the flags of a constructor, 0 for others.
 fn constructor_count(flags: u8) -> usize
-    ensures { λ r. ⌜ r ≡ (if flags / 16 % 2 =? 1 then 1 else 0) ⌝ }
+    ensures { λ r. ⌜ r ≡ (if bit constructorBit flags =? 1 then 1 else 0) ⌝ }
 {
-    if flags / 16 % 2 == 1 {
+    if flags / method::CONSTRUCTOR % 2 == 1 {
         return 1;
     }
     0
@@ -48,7 +50,7 @@ fn note_getter(flags: &[u8; 1024], first: &[u16; 1024], i: usize, getters: &mut 
     requires { ⌜ (i < 1024) × (1024 ≡ length (now flags)) × (1024 ≡ length (now first)) × (getD (now first) i 0 < 1024) × Filled (now getters) 1024 (gettersOf (cell (now flags)) (cell (now first)) i) ⌝ }
     ensures { λ r. ⌜ Filled (now (getters .exit)) 1024 (gettersOf (cell (now (flags .entry))) (cell (now (first .entry))) (i + 1)) ⌝ }
 {
-    if flags[i] / 128 % 2 == 1 {
+    if flags[i] / method::GETTER % 2 == 1 {
         let k = first[i] as usize;
         getters[k] = one_more(getters[k], i);
     }
@@ -81,7 +83,7 @@ fn is_stray(flags: &[u8; 1024], first: &[u16; 1024], getters: &[u16; 1024], j: u
     requires { ⌜ (j < 1024) × (1024 ≡ length (now flags)) × (1024 ≡ length (now first)) × (getD (now first) j 0 < 1024) ⌝ }
     ensures { λ r. ⌜ r ≡ straySetter (cell (now (flags .entry))) (cell (now (first .entry))) (cell (now (getters .entry))) j ⌝ }
 {
-    if flags[j] / 64 % 2 == 1 {
+    if flags[j] / method::SETTER % 2 == 1 {
         return stray_of(getters[first[j] as usize], j);
     }
     false
@@ -109,9 +111,9 @@ pub fn stray_setter(
 
 // 1 for the flags of a getter or a setter, 0 for others.
 fn accessor_count(flags: u8) -> usize
-    ensures { λ r. ⌜ r ≡ (if 64 ≤? flags then 1 else 0) ⌝ }
+    ensures { λ r. ⌜ r ≡ (if setterBit ≤? flags then 1 else 0) ⌝ }
 {
-    if 64 <= flags {
+    if method::SETTER <= flags {
         return 1;
     }
     0
@@ -137,7 +139,7 @@ fn group_of(flags: &[u8; 1024], groups: &[u16; 1024], i: usize, r: usize) -> u16
     requires { ⌜ (i < 1024) × (1024 ≡ length (now flags)) × (1024 ≡ length (now groups)) × (r ≡ tally (isAccessor (cell (now flags))) i) ⌝ }
     ensures { λ x. ⌜ x ≡ groupIn (isAccessor (cell (now (flags .entry)))) (now (groups .entry)) i ⌝ }
 {
-    if 64 <= flags[i] {
+    if method::SETTER <= flags[i] {
         return groups[r];
     }
     0

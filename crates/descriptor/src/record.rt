@@ -60,15 +60,18 @@ fn read_all_methods(
     method::read_methods(pool, c, n, at + 2, flags, names)
 }
 
+// The lower of the two flags.
+const FUNCTION: u8 = 0x40;
+
 // Whether interface flags have a reserved bit.
 fn reserved_interface(minor: usize, f: u8) -> bool
     ensures { λ r. ⌜ r ≡ reservedInterface minor f ⌝ }
 {
-    if f % 64 != 0 {
+    if f % FUNCTION != 0 {
         return true;
     }
     if minor == 0 {
-        return f / 64 % 2 == 1;
+        return f / FUNCTION % 2 == 1;
     }
     false
 }

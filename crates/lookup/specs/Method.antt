@@ -4,10 +4,11 @@ use mathlib.Core.List.{List, [], _∷_}
 use mathlib.Core.Bool.{Bool, false}
 use mathlib.Core.Option.{Option, none, some}
 use Prim.Native.Nat.{ℕ, _+_, _-_, _/_, _%_}
+use Rattle.number.specs.Bits.{bit}
 use lib.ListN.{length}
 use Rattle.number.specs.Choice.{if_then_else_, _<?_, _=?_}
 use Rattle.key.specs.Word.{sameWord}
-use Rattle.reader.specs.Values.{methodsOf, Method, methodFlags, methodName}
+use Rattle.reader.specs.Values.{getterBit, setterBit, methodsOf, Method, methodFlags, methodName}
 use Rattle.lookup.specs.declared.Kind.{Kind}
 use Rattle.lookup.specs.declared.Kind.the-variants.{Getter, Setter, Plain}
 use Rattle.lookup.specs.Chain.{Level, level, root, unresolved, Chain, chain, Sought, nothing, found, undetermined, seek, position}
@@ -35,11 +36,11 @@ pub data FoundMethod (R : Type 0) : Type 0 where
 unfoldable pub methodAt : {R : Type 0} → R → Chain R → ℕ → FoundMethod R
 methodAt owner above p = foundMethod owner p (slotOf above p)
 
--- getter: bit 0x80 set; setter: bit 0x40 set; plain: neither
+-- getter: bit set; setter: bit set; plain: neither of the two highest
 unfoldable pub isKind : Kind → ℕ → Bool
-isKind Getter f = f / 128 % 2 =? 1
-isKind Setter f = f / 64 % 2 =? 1
-isKind Plain f = f / 64 % 4 =? 0
+isKind Getter f = bit getterBit f =? 1
+isKind Setter f = bit setterBit f =? 1
+isKind Plain f = f / setterBit % 4 =? 0
 
 unfoldable pub isNamed : {R : Type 0} → List ℕ → Kind → Method R → Bool
 isNamed w k m = if isKind k (methodFlags m) then sameWord (methodName m) w else false

@@ -13,6 +13,8 @@ use crate::Kind;
 use crate::MethodAnswer;
 use crate::Slot;
 use reader::Layout;
+use reader::record::GETTER;
+use reader::record::SETTER;
 use reading::Refusal;
 
 // Whether flags are those of a kind of method.
@@ -20,9 +22,9 @@ fn is_kind(flags: u8, kind: Kind) -> bool
     ensures { λ r. ⌜ r ≡ isKind kind flags ⌝ }
 {
     match kind {
-        Kind::Getter => flags / 128 % 2 == 1,
-        Kind::Setter => flags / 64 % 2 == 1,
-        Kind::Plain => flags / 64 % 4 == 0,
+        Kind::Getter => flags / GETTER % 2 == 1,
+        Kind::Setter => flags / SETTER % 2 == 1,
+        Kind::Plain => flags / SETTER % 4 == 0,
     }
 }
 

@@ -1,3 +1,4 @@
+pub mod Flags
 pub mod Parameter
 pub mod Numbers
 pub mod Method

@@ -2,12 +2,14 @@
 -- Assumes nothing.
 use mathlib.Core.Bool.{true, false}
 use mathlib.Core.List.{List, []}
-use Prim.Native.Nat.{ℕ, _+_, _%_}
+use Prim.Native.Nat.{ℕ, _+_}
+use Rattle.number.specs.Bits.{bitsBelow}
 use Rattle.number.specs.Choice.{if_then_else_, _≠?_}
 use Rattle.reading.specs.Got.{Got, got, bad, next, many, byte}
 use Rattle.reading.specs.declared.Context.{Context}
 use Rattle.name.specs.Name.{readName}
 use Rattle.types.specs.Types.{prefix, simple}
+use Rattle.method.specs.Flags.{lowestFlag}
 use Rattle.method.specs.Parameter.{Param, param, paramFlags, paramType, readParam}
 use Rattle.method.specs.Numbers.{prefixes, wrongNumbers, wrongArguments, wrongResult}
 
@@ -51,7 +53,7 @@ readSignature c s first f p =
 unfoldable pub readMethod : Context → List ℕ → ℕ → Got (Method ℕ)
 readMethod c s p =
     next (byte c s p) λ f e.
-    if f % 8 ≠? 0 then bad 14 (c .base + p) else
+    if bitsBelow lowestFlag f ≠? 0 then bad 14 (c .base + p) else
     next (readName c s e) λ w e.
     next (readSignature c s p f e) λ g e.
     got (method f w g) e

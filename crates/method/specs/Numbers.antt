@@ -2,10 +2,13 @@
 -- Assumes nothing.
 use mathlib.Core.Bool.{Bool, true, false}
 use mathlib.Core.List.{List, [], _∷_}
-use Prim.Native.Nat.{ℕ, _/_, _%_}
+use Prim.Native.Nat.{ℕ}
 use lib.ListN.{length, getD}
+use Rattle.number.specs.Bits.{bit}
 use Rattle.number.specs.Choice.{if_then_else_, _<?_, _≤?_, _=?_, _≠?_}
+use Rattle.types.specs.Prefix.{pointerBit, tagOf, uint32Tag, voidTag, iidTag}
 use Rattle.types.specs.Types.{Ty, simple, interface, interfaceIs, array, sized, prefix}
+use Rattle.method.specs.Flags.{notXpcomBit, retvalBit}
 use Rattle.method.specs.Parameter.{Param, paramType}
 
 -- the prefixes of the arguments' types, by argument number
@@ -17,15 +20,15 @@ prefixes (x ∷ ps) = prefix (paramType x) ∷ prefixes ps
 unfoldable pub wrongIid : List ℕ → ℕ → Bool
 wrongIid pre a =
     if length pre ≤? a then true else
-    if getD pre a 0 % 32 ≠? 14 then true else
-    getD pre a 0 <? 128
+    if tagOf (getD pre a 0) ≠? iidTag then true else
+    getD pre a 0 <? pointerBit
 
 -- argument number a is not below the argument count, or doesn't name a parameter of tag 6 without pointer
 unfoldable pub wrongSize : List ℕ → ℕ → Bool
 wrongSize pre a =
     if length pre ≤? a then true else
-    if getD pre a 0 % 32 ≠? 6 then true else
-    128 ≤? getD pre a 0
+    if tagOf (getD pre a 0) ≠? uint32Tag then true else
+    pointerBit ≤? getD pre a 0
 
 -- size and length
 unfoldable pub wrongSizes : List ℕ → ℕ → ℕ → Bool
@@ -44,11 +47,11 @@ unfoldable pub wrongArguments : {R : Type 0} → List ℕ → List (Param R) →
 wrongArguments pre [] = false
 wrongArguments pre (x ∷ ps) = if wrongNumbers pre (paramType x) then true else wrongArguments pre ps
 
--- Unless not-XPCOM, 0x20 of the method's flags f, or the result has retval, 0x20 of its flags g, the result is tag 13 or 6 without pointer;
+-- Unless not-XPCOM stands in the method's flags f, or retval in the result's flags g, the result is tag 13 or 6 without pointer;
 -- b is its prefix, which has no other bit set then, since unique and reference need pointer.
 unfoldable pub wrongResult : ℕ → ℕ → ℕ → Bool
 wrongResult f g b =
-    if f / 32 % 2 =? 1 then false else
-    if g / 32 % 2 =? 1 then false else
-    if b =? 13 then false else
-    b ≠? 6
+    if bit notXpcomBit f =? 1 then false else
+    if bit retvalBit g =? 1 then false else
+    if b =? voidTag then false else
+    b ≠? uint32Tag

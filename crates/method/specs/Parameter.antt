@@ -2,11 +2,13 @@
 -- Assumes nothing.
 use mathlib.Core.Bool.{Bool, true, false}
 use mathlib.Core.List.{List}
-use Prim.Native.Nat.{ℕ, _+_, _/_, _%_}
+use Prim.Native.Nat.{ℕ, _+_}
+use Rattle.number.specs.Bits.{bit, bitsBelow}
 use Rattle.number.specs.Choice.{if_then_else_, _≤?_, _=?_, _≠?_}
 use Rattle.reading.specs.Got.{Got, got, bad, next, byte}
 use Rattle.reading.specs.declared.Context.{Context}
 use Rattle.types.specs.Types.{Ty, readType}
+use Rattle.method.specs.Flags.{outBit, retvalBit, dipperBit, lowestFlag}
 
 pub data Param (R : Type 0) : Type 0 where
   param : ℕ → Ty R → Param R
@@ -18,18 +20,18 @@ paramFlags (param f t) = f
 unfoldable pub paramType : {R : Type 0} → Param R → Ty R
 paramType (param f t) = t
 
--- three reserved bits; with minor 0 dipper, 0x08, is reserved too
+-- three reserved bits; with minor 0 dipper is reserved too
 unfoldable pub reservedParam : ℕ → ℕ → Bool
 reservedParam minor f =
-    if f % 8 ≠? 0 then true else
-    if minor =? 0 then f / 8 % 2 =? 1 else
+    if bitsBelow lowestFlag f ≠? 0 then true else
+    if minor =? 0 then bit dipperBit f =? 1 else
     false
 
--- a result has neither in nor out; an argument with retval, 0x20, has out, 0x40
+-- a result has neither in nor out, the two highest bits; an argument with retval has out
 unfoldable pub wrongParam : Bool → ℕ → Bool
 wrongParam result f =
-    if result then 64 ≤? f else
-    if f / 32 % 2 =? 1 then f / 64 % 2 =? 0 else
+    if result then outBit ≤? f else
+    if bit retvalBit f =? 1 then bit outBit f =? 0 else
     false
 
 -- an argument or, where `result` says so, a result; its type may hold eight arrays one inside another

@@ -17,20 +17,39 @@ use reading::Step;
 pub mod params;
 pub mod walk;
 
+// The flags of a method.
+pub const GETTER: u8 = 0x80;
+
+pub const SETTER: u8 = 0x40;
+
+const NOT_XPCOM: u8 = 0x20;
+
+pub const CONSTRUCTOR: u8 = 0x10;
+
+// The flags of a parameter.
+const OUT: u8 = 0x40;
+
+const RETVAL: u8 = 0x20;
+
+const DIPPER: u8 = 0x08;
+
+// The lowest flag that is not reserved, of both.
+const LOWEST: u8 = 0x08;
+
 // Whether a result breaks the result rule: f are the method's flags, g the result's, b its prefix.
 fn wrong_result(f: u8, g: u8, b: u8) -> bool
     ensures { λ r. ⌜ r ≡ wrongResult f g b ⌝ }
 {
-    if f / 32 % 2 == 1 {
+    if f / NOT_XPCOM % 2 == 1 {
         return false;
     }
-    if g / 32 % 2 == 1 {
+    if g / RETVAL % 2 == 1 {
         return false;
     }
-    if b == 13 {
+    if b == types::VOID {
         return false;
     }
-    b != 6
+    b != types::UINT32
 }
 
 // The rules of a method's n arguments, read from `at` on, and its result, read from `mid` to `end`.
@@ -109,7 +128,7 @@ pub fn read_method(pool: &[u8], c: Context, at: usize) -> Step
         });
     }
     let f = pool[at];
-    if f % 8 != 0 {
+    if f % LOWEST != 0 {
         return Step::Refused(Refusal {
             no: 14,
             place: base + at,

@@ -6,6 +6,10 @@ ghost use lib.ListN.{length};
 ghost use Rattle.reading.specs.Got.{stepOf, many};
 ghost use Rattle.method.specs.Parameter.{reservedParam, wrongParam, readParam};
 ghost use Rattle.method.specs.Tables.{Listed};
+use crate::DIPPER;
+use crate::LOWEST;
+use crate::OUT;
+use crate::RETVAL;
 use reading::Context;
 use reading::Refusal;
 use reading::Step;
@@ -14,11 +18,11 @@ use reading::Step;
 fn reserved_param(minor: usize, f: u8) -> bool
     ensures { λ r. ⌜ r ≡ reservedParam minor f ⌝ }
 {
-    if f % 8 != 0 {
+    if f % LOWEST != 0 {
         return true;
     }
     if minor == 0 {
-        return f / 8 % 2 == 1;
+        return f / DIPPER % 2 == 1;
     }
     false
 }
@@ -28,10 +32,10 @@ fn wrong_param(result: bool, f: u8) -> bool
     ensures { λ r. ⌜ r ≡ wrongParam result f ⌝ }
 {
     if result {
-        return 64 <= f;
+        return OUT <= f;
     }
-    if f / 32 % 2 == 1 {
-        return f / 64 % 2 == 0;
+    if f / RETVAL % 2 == 1 {
+        return f / OUT % 2 == 0;
     }
     false
 }

@@ -26,10 +26,10 @@ fn wrong_iid(table: &[u8; 256], count: usize, a: u8) -> bool
     if count <= iid {
         return true;
     }
-    if table[iid] % 32 != 14 {
+    if table[iid] % types::REFERENCE != types::IID {
         return true;
     }
-    table[iid] < 128
+    table[iid] < types::POINTER
 }
 
 // Whether argument a is none, or not of tag 6 without pointer.
@@ -41,10 +41,10 @@ fn wrong_size(table: &[u8; 256], count: usize, a: u8) -> bool
     if count <= size {
         return true;
     }
-    if table[size] % 32 != 6 {
+    if table[size] % types::REFERENCE != types::UINT32 {
         return true;
     }
-    128 <= table[size]
+    types::POINTER <= table[size]
 }
 
 // Size and length.
@@ -71,7 +71,7 @@ fn type_numbers(
     ensures { λ r. ⌜ r ≡ fineOf (take count (now (table .entry))) (readType left c (now (pool .entry)) at) ⌝ }
 {
     let minor = c.minor;
-    let k = types::tag_class(minor, pool[at] % 32);
+    let k = types::tag_class(minor, pool[at] % types::REFERENCE);
     match k {
         Class::Reserved => Fine::Broken,
         Class::Plain => Fine::To(at + 1),
@@ -108,7 +108,7 @@ pub fn outer_numbers(pool: &[u8], c: Context, at: usize, count: usize, table: &[
     ensures { λ r. ⌜ r ≡ fineOf (take count (now (table .entry))) (readType 8 c (now (pool .entry)) at) ⌝ }
 {
     let minor = c.minor;
-    let k = types::tag_class(minor, pool[at] % 32);
+    let k = types::tag_class(minor, pool[at] % types::REFERENCE);
     match k {
         Class::Plain => Fine::To(at + 1),
         Class::Text => Fine::To(at + 1),

@@ -2,6 +2,7 @@
 -- Assumes nothing.
 pub use Rattle.types.specs.Types.{Ty, simple, interface, interfaceIs, array, sized, Ty-discrete}
 unfoldable pub use Rattle.types.specs.Types.{prefix}
+pub use Rattle.method.specs.Flags.{getterBit, setterBit}
 pub use Rattle.method.specs.Parameter.{Param, param, Param-discrete}
 unfoldable pub use Rattle.method.specs.Parameter.{paramFlags, paramType}
 pub use Rattle.method.specs.Method.{Signature, signature, Signature-discrete, Method, method, Method-discrete}

@@ -5,6 +5,11 @@ ghost use Rattle.reader.specs.Values.{methodFlags, methodName, argumentC
 ghost use Rattle.reader.specs.Records.{ShowsType, ShowsParam, ShowsMethod, ShowsConstant, ShowsDescriptor};
 ghost use Rattle.reader.specs.Layout.{Stands, Ends, Tells, Names, Rows};
 
+// The flags by which questions tell methods apart.
+pub const GETTER: u8 = method::GETTER;
+
+pub const SETTER: u8 = method::SETTER;
+
 // Where the type at `at` ends. An array is three bytes, and then its element.
 pub fn type_end(pool: &[u8], at: usize) -> usize
     requires { ⌜ Stands (ShowsType (now pool) at) × (length (now pool) ≤ 1048576) ⌝ }

@@ -5,16 +5,19 @@ use mathlib.Core.Path.{_≡_}
 use mathlib.Core.Logic.{_⊎_}
 use mathlib.Core.List.{List, [], _∷_}
 use mathlib.Core.Option.{Option, none, some}
-use Prim.Native.Nat.{ℕ, zero, suc, _+_, _*_, _/_, _%_, _≤_, _<_}
+use Prim.Native.Nat.{ℕ, zero, suc, _+_, _*_, _%_, _≤_, _<_}
 use lib.ListN.{length, getD}
+use Rattle.number.specs.Bits.{bit, bitsBelow}
 use Rattle.key.specs.Key.{Key, key}
 use Rattle.head.specs.declared.Header.{Header}
 use Rattle.head.specs.Shows.{PlainNotes}
+use Rattle.types.specs.Prefix.{pointerBit, uniqueBit, referenceBit, tagOf, uint32Tag, voidTag, iidTag, astringTag}
 use Rattle.types.specs.Types.{Ty, simple, interface, interfaceIs, array, sized, prefix}
+use Rattle.method.specs.Flags.{getterBit, setterBit, notXpcomBit, constructorBit, inBit, outBit, retvalBit, dipperBit, lowestFlag}
 use Rattle.method.specs.Parameter.{Param, param, paramFlags, paramType}
 use Rattle.method.specs.Method.{signature, Method, method, methodFlags, methodName, noMethod}
 use Rattle.descriptor.specs.Constant.{Constant, constant}
-use Rattle.descriptor.specs.Descriptor.{Descriptor, descriptor}
+use Rattle.descriptor.specs.Descriptor.{Descriptor, descriptor, functionBit}
 use Rattle.typelib.specs.Entry.{Entry, entry, entryKey, entryIid, noEntry}
 use Rattle.typelib.specs.Across.{aboveIn}
 use Rattle.typelib.specs.Typelib.{Typelib, typelib}
@@ -39,13 +42,13 @@ pub record Identifier (w : List ℕ) : Type 0 where
 
 pub record PrefixRule (minor b : ℕ) : Type 0 where
   -- 23 to 31 are reserved, and with minor 0 tag 15
-  pub known : b % 32 ≤ 22
-  pub astring : b % 32 ≡ 15 → minor ≡ 0 → ⊥
+  pub known : tagOf b ≤ 22
+  pub astring : tagOf b ≡ astringTag → minor ≡ 0 → ⊥
   -- unique and reference need pointer
-  pub unique : b / 64 % 2 ≡ 1 → 128 ≤ b
-  pub reference : b / 32 % 2 ≡ 1 → 128 ≤ b
+  pub unique : bit uniqueBit b ≡ 1 → pointerBit ≤ b
+  pub reference : bit referenceBit b ≡ 1 → pointerBit ≤ b
   -- tags 16 to 22 need pointer
-  pub pointer : 16 ≤ b % 32 → 128 ≤ b
+  pub pointer : 16 ≤ tagOf b → pointerBit ≤ b
 
 -- an index of the directory
 abbrev pub InDirectory : ℕ → ℕ → Type 0
@@ -69,10 +72,10 @@ nesting (sized b x y) = 0
 
 -- ---- parameters and methods
 
--- reserved bits are zero; with minor 0 also 0x08
+-- reserved bits are zero; with minor 0 also dipper
 pub record FlagRule (minor f : ℕ) : Type 0 where
-  pub reserved : f % 8 ≡ 0
-  pub dipper : minor ≡ 0 → f / 8 % 2 ≡ 0
+  pub reserved : bitsBelow lowestFlag f ≡ 0
+  pub dipper : minor ≡ 0 → bit dipperBit f ≡ 0
 
 -- a parameter's flags and type, apart from what an argument and a result may be
 pub record ParamRule (minor n : ℕ) (x : Param ℕ) : Type 0 where
@@ -82,11 +85,11 @@ pub record ParamRule (minor n : ℕ) (x : Param ℕ) : Type 0 where
 
 -- an argument with retval has out
 abbrev pub ArgumentRule : ℕ → ℕ → Param ℕ → Type 0
-ArgumentRule minor n x = ParamRule minor n x × (paramFlags x / 32 % 2 ≡ 1 → paramFlags x / 64 % 2 ≡ 1)
+ArgumentRule minor n x = ParamRule minor n x × (bit retvalBit (paramFlags x) ≡ 1 → bit outBit (paramFlags x) ≡ 1)
 
 -- a result has neither in nor out
 abbrev pub ResultRule : ℕ → ℕ → Param ℕ → Type 0
-ResultRule minor n x = ParamRule minor n x × (paramFlags x / 128 % 2 ≡ 0) × (paramFlags x / 64 % 2 ≡ 0)
+ResultRule minor n x = ParamRule minor n x × (bit inBit (paramFlags x) ≡ 0) × (bit outBit (paramFlags x) ≡ 0)
 
 -- the prefix of argument a's type; 0 past the arguments
 abbrev pub prefixAt : List (Param ℕ) → ℕ → ℕ
@@ -94,11 +97,11 @@ prefixAt ps a = prefix (paramType (getD ps a (param 0 (simple 0))))
 
 -- argument number a names a parameter of tag 14 with pointer
 abbrev pub NamesIid : List (Param ℕ) → ℕ → Type 0
-NamesIid ps a = (a < length ps) × (prefixAt ps a % 32 ≡ 14) × (128 ≤ prefixAt ps a)
+NamesIid ps a = (a < length ps) × (tagOf (prefixAt ps a) ≡ iidTag) × (pointerBit ≤ prefixAt ps a)
 
 -- argument number a names a parameter of tag 6 without pointer
 abbrev pub NamesSize : List (Param ℕ) → ℕ → Type 0
-NamesSize ps a = (a < length ps) × (prefixAt ps a % 32 ≡ 6) × (prefixAt ps a < 128)
+NamesSize ps a = (a < length ps) × (tagOf (prefixAt ps a) ≡ uint32Tag) × (prefixAt ps a < pointerBit)
 
 -- of a type, inside array elements at any depth
 abbrev pub NumbersRule : List (Param ℕ) → Ty ℕ → Type 0
@@ -114,10 +117,10 @@ pub record SignatureRule (minor n f : ℕ) (ps : List (Param ℕ)) (r : Param �
   pub numbers : All (λ x. NumbersRule ps (paramType x)) ps
   pub resultNumbers : NumbersRule ps (paramType r)
   -- unless not-XPCOM or the result has retval, the result is tag 13 or 6 without pointer
-  pub resultKind : (f / 32 % 2 ≡ 1) ⊎ ((paramFlags r / 32 % 2 ≡ 1) ⊎ (((prefix (paramType r) % 32 ≡ 13) ⊎ (prefix (paramType r) % 32 ≡ 6)) × (prefix (paramType r) < 128)))
+  pub resultKind : (bit notXpcomBit f ≡ 1) ⊎ ((bit retvalBit (paramFlags r) ≡ 1) ⊎ (((tagOf (prefix (paramType r)) ≡ voidTag) ⊎ (tagOf (prefix (paramType r)) ≡ uint32Tag)) × (prefix (paramType r) < pointerBit)))
 
 abbrev pub MethodRule : ℕ → ℕ → Method ℕ → Type 0
-MethodRule minor n (method f w (signature ps r)) = (f % 8 ≡ 0) × Identifier w × SignatureRule minor n f ps r
+MethodRule minor n (method f w (signature ps r)) = (bitsBelow lowestFlag f ≡ 0) × Identifier w × SignatureRule minor n f ps r
 
 -- ---- constants and descriptors
 
@@ -133,11 +136,11 @@ nameOf ms i = methodName (getD ms i noMethod)
 
 -- one interface has at most one constructor
 abbrev pub OneConstructor : List (Method ℕ) → Type 0
-OneConstructor ms = (i j : ℕ) → i < length ms → j < length ms → flagsOf ms i / 16 % 2 ≡ 1 → flagsOf ms j / 16 % 2 ≡ 1 → i ≡ j
+OneConstructor ms = (i j : ℕ) → i < length ms → j < length ms → bit constructorBit (flagsOf ms i) ≡ 1 → bit constructorBit (flagsOf ms j) ≡ 1 → i ≡ j
 
 -- whenever own method i is a getter and own method j a setter of the same name, j = i + 1
 abbrev pub GetterPairs : List (Method ℕ) → Type 0
-GetterPairs ms = (i j : ℕ) → i < length ms → j < length ms → flagsOf ms i / 128 % 2 ≡ 1 → flagsOf ms j / 64 % 2 ≡ 1 → nameOf ms i ≡ nameOf ms j → j ≡ i + 1
+GetterPairs ms = (i j : ℕ) → i < length ms → j < length ms → bit getterBit (flagsOf ms i) ≡ 1 → bit setterBit (flagsOf ms j) ≡ 1 → nameOf ms i ≡ nameOf ms j → j ≡ i + 1
 
 abbrev pub ParentRule : ℕ → Option ℕ → Type 0
 ParentRule n none = Unit {0}
@@ -149,9 +152,9 @@ pub record DescriptorRules (minor n : ℕ) (up : Option ℕ) (ms : List (Method 
   pub methods : All (MethodRule minor n) ms
   pub fewConstants : length ks ≤ 1024
   pub constants : All ConstantRule ks
-  -- six reserved bits, with minor 0 also 0x40
-  pub reserved : f % 64 ≡ 0
-  pub function : minor ≡ 0 → f / 64 % 2 ≡ 0
+  -- six reserved bits, with minor 0 also function
+  pub reserved : bitsBelow functionBit f ≡ 0
+  pub function : minor ≡ 0 → bit functionBit f ≡ 0
   pub constructors : OneConstructor ms
   pub pairs : GetterPairs ms
 

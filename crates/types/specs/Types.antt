@@ -2,10 +2,11 @@
 -- Assumes nothing.
 use mathlib.Core.Bool.{Bool, true, false}
 use mathlib.Core.List.{List}
-use Prim.Native.Nat.{ℕ, zero, suc, _+_, _%_}
+use Prim.Native.Nat.{ℕ, zero, suc, _+_}
 use Rattle.number.specs.Choice.{if_then_else_, _<?_, _≤?_, _=?_}
 use Rattle.reading.specs.Got.{Got, got, bad, next, byte, field}
 use Rattle.reading.specs.declared.Context.{Context}
+use Rattle.types.specs.Prefix.{pointerBit, referenceBit, tagOf, astringTag}
 use Rattle.types.specs.declared.Class.{Class}
 use Rattle.types.specs.declared.Class.the-variants.{Reserved, Plain, Text, Interface, InterfaceIs, Array, Sized}
 
@@ -35,7 +36,7 @@ prefix (sized b x y) = b
 unfoldable pub classOf : ℕ → ℕ → Class
 classOf minor tag =
     if tag ≤? 14 then Plain else
-    if tag =? 15 then (if minor =? 0 then Reserved else Plain) else
+    if tag =? astringTag then (if minor =? 0 then Reserved else Plain) else
     if tag ≤? 17 then Text else
     if tag =? 18 then Interface else
     if tag =? 19 then InterfaceIs else
@@ -62,11 +63,11 @@ needsPointer InterfaceIs = true
 needsPointer Array = true
 needsPointer Sized = true
 
--- without pointer, 0x80, neither unique, 0x40, nor reference, 0x20, may be set, and no tag from 16 to 22 may stand
+-- without pointer neither unique nor reference may be set, and no tag that needs it may stand
 unfoldable pub lacksPointer : Class → ℕ → Bool
 lacksPointer k b =
-    if 128 ≤? b then false else
-    if 32 ≤? b then true else
+    if pointerBit ≤? b then false else
+    if referenceBit ≤? b then true else
     needsPointer k
 
 -- an index of the directory, 1 to n
@@ -98,9 +99,9 @@ readRest arrayAt c s Sized p b e =
 unfoldable pub typeWith : (ℕ → ℕ → ℕ → Got (Ty ℕ)) → Context → List ℕ → ℕ → Got (Ty ℕ)
 typeWith arrayAt c s p =
     next (byte c s p) λ b e.
-    if isReserved (classOf (c .minor) (b % 32)) then bad 14 (c .base + p) else
-    if lacksPointer (classOf (c .minor) (b % 32)) b then bad 16 (c .base + p) else
-    readRest arrayAt c s (classOf (c .minor) (b % 32)) p b e
+    if isReserved (classOf (c .minor) (tagOf b)) then bad 14 (c .base + p) else
+    if lacksPointer (classOf (c .minor) (tagOf b)) b then bad 16 (c .base + p) else
+    readRest arrayAt c s (classOf (c .minor) (tagOf b)) p b e
 
 -- an array of prefix b at p, from e on, with `left` arrays allowed one inside another, itself among them
 unfoldable pub readArray : ℕ → Context → List ℕ → ℕ → ℕ → ℕ → Got (Ty ℕ)

@@ -8,6 +8,18 @@ use reading::Context;
 use reading::Refusal;
 use reading::Step;
 
+// The bits of a prefix; its tag is what lies below the reference bit.
+pub const POINTER: u8 = 0x80;
+
+pub const REFERENCE: u8 = 0x20;
+
+// Tags that rules between fields name.
+pub const UINT32: u8 = 6;
+
+pub const VOID: u8 = 13;
+
+pub const IID: u8 = 14;
+
 // What a tag stands for.
 pub enum Class {
     Reserved,
@@ -74,10 +86,10 @@ pub fn needs_pointer(k: Class) -> bool
 pub fn lacks_pointer(k: Class, b: u8) -> bool
     ensures { λ r. ⌜ r ≡ lacksPointer k b ⌝ }
 {
-    if 128 <= b {
+    if POINTER <= b {
         return false;
     }
-    if 32 <= b {
+    if REFERENCE <= b {
         return true;
     }
     needs_pointer(k)
@@ -171,7 +183,7 @@ pub fn read_type(pool: &[u8], c: Context, left: usize, at: usize) -> Step
         });
     }
     let b = pool[at];
-    let k = tag_class(minor, b % 32);
+    let k = tag_class(minor, b % REFERENCE);
     if is_reserved(k) {
         return Step::Refused(Refusal {
             no: 14,

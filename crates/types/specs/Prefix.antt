@@ -1,0 +1,33 @@
+-- Document 01, "Type": the prefix, three bits and a tag. Pointer is the highest bit, so it is set where the prefix is at least as large.
+-- Assumes nothing.
+use Prim.Native.Nat.{ℕ}
+use Rattle.number.specs.Bits.{bitsBelow}
+
+abbrev pub pointerBit : ℕ
+pointerBit = 0x80
+
+abbrev pub uniqueBit : ℕ
+uniqueBit = 0x40
+
+abbrev pub referenceBit : ℕ
+referenceBit = 0x20
+
+-- the five bits below
+abbrev pub tagOf : ℕ → ℕ
+tagOf b = bitsBelow referenceBit b
+
+-- ---- tags that rules between fields name
+
+-- uint32: what size and length arguments are, and a result that is not void
+abbrev pub uint32Tag : ℕ
+uint32Tag = 6
+
+abbrev pub voidTag : ℕ
+voidTag = 13
+
+abbrev pub iidTag : ℕ
+iidTag = 14
+
+-- reserved with minor 0
+abbrev pub astringTag : ℕ
+astringTag = 15
