@@ -5,6 +5,7 @@ use mathlib.Core.List.{List}
 use mathlib.Core.Option.{Option, none, some}
 use Prim.Native.Nat.{ℕ, _+_}
 use lib.ListN.{length, getD}
+use Rattle.number.specs.Limits.{ownLimit}
 use Rattle.number.specs.Bits.{bit, bitsBelow}
 use Rattle.number.specs.Choice.{if_then_else_, _<?_, _=?_, _≠?_}
 use Rattle.reading.specs.Got.{Got, got, bad, next, many, byte, field}
@@ -45,7 +46,7 @@ readParent c s p =
 unfoldable pub readCounted : {X : Type 0} → (ℕ → Got X) → Context → List ℕ → ℕ → Got (List X)
 readCounted rd c s p =
     next (field 2 c s p) λ n e.
-    if 1024 <? n then bad 17 (c .base + p) else
+    if ownLimit <? n then bad 17 (c .base + p) else
     many rd n e
 
 -- the lower of the two flags; scriptable, 0x80, has no rule

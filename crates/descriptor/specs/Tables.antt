@@ -5,6 +5,7 @@ use mathlib.Core.Bool.{Bool, true, false}
 use mathlib.Core.List.{List}
 use Prim.Native.Nat.{ℕ, zero, suc, _+_, _-_, _<_}
 use lib.ListN.{length, getD}
+use Rattle.number.specs.Limits.{ownLimit}
 use Rattle.number.specs.Choice.{if_then_else_, _≤?_, _=?_, _≠?_}
 use Rattle.number.specs.Scan.{tally}
 use Rattle.reading.specs.Got.{got, stepOf}
@@ -56,7 +57,7 @@ pub record Taken (p : ℕ → Bool) (all t : List ℕ) (n m : ℕ) : Type 0 wher
   pub count : m ≡ tally p n
   pub held : (i : ℕ) → i < n → p i ≡ true → getD t (tally p i) 0 ≡ getD all i 0
   pub from : (r : ℕ) → r < m → (i : ℕ) × (i < n) × (getD t r 0 ≡ getD all i 0)
-  pub long : 1024 ≡ length t
+  pub long : ownLimit ≡ length t
 
 -- what t holds for method i, if p takes it
 unfoldable pub groupIn : (ℕ → Bool) → List ℕ → ℕ → ℕ
@@ -69,7 +70,7 @@ pub record Grouped (p : ℕ → Bool) (w : ℕ → List ℕ) (g : ℕ → ℕ) (
 
 -- the first n numbers of a table are positions of methods
 pub record Below (t : List ℕ) (n : ℕ) : Type 0 where
-  pub low : (i : ℕ) → i < n → getD t i 0 < 1024
+  pub low : (i : ℕ) → i < n → getD t i 0 < ownLimit
 
 -- the first n pointers of a table lead to words
 pub record Led (s t : List ℕ) (n : ℕ) : Type 0 where
@@ -79,5 +80,5 @@ pub record Led (s t : List ℕ) (n : ℕ) : Type 0 where
 pub record Tabled (c : Context) (s : List ℕ) (at : ℕ) (r : Step) (flags names : List ℕ) : Type 0 where
   pub step : r ≡ stepOf (readCounted (readMethod c s) c s at)
   pub kept : (ms : List (Method ℕ)) (e : ℕ) → readCounted (readMethod c s) c s at ≡ got ms e → Kept s flags names ms (length ms)
-  pub flags-long : 1024 ≡ length flags
-  pub names-long : 1024 ≡ length names
+  pub flags-long : ownLimit ≡ length flags
+  pub names-long : ownLimit ≡ length names

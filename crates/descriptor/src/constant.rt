@@ -2,9 +2,11 @@
 ghost use mathlib.Core.Path.{_≡_};
 ghost use Prim.Native.Nat.{_+_, _≤_};
 ghost use lib.ListN.{length};
+ghost use Rattle.number.specs.Limits.{fileLimit};
 ghost use Rattle.reading.specs.Got.{stepOf, many};
 ghost use Rattle.descriptor.specs.Constant.{valueSize, readConstant};
 ghost use Rattle.descriptor.specs.Descriptor.{readCounted};
+use number::OWN_LIMIT;
 use reading::Context;
 use reading::Refusal;
 use reading::Step;
@@ -24,7 +26,7 @@ fn value_size(kind: u8) -> usize
 
 // A constant.
 pub fn read_constant(pool: &[u8], c: Context, at: usize) -> Step
-    requires { ⌜ (at ≤ length (now pool)) × (c .base + length (now pool) ≤ 1048576) ⌝ }
+    requires { ⌜ (at ≤ length (now pool)) × (c .base + length (now pool) ≤ fileLimit) ⌝ }
     ensures { λ r. ⌜ r ≡ stepOf (readConstant c (now (pool .entry)) at) ⌝ }
 {
     let base = c.base;
@@ -57,7 +59,7 @@ pub fn read_constant(pool: &[u8], c: Context, at: usize) -> Step
 
 // n constants.
 fn read_constants(pool: &[u8], c: Context, n: usize, at: usize) -> Step
-    requires { ⌜ (at ≤ length (now pool)) × (c .base + length (now pool) ≤ 1048576) ⌝ }
+    requires { ⌜ (at ≤ length (now pool)) × (c .base + length (now pool) ≤ fileLimit) ⌝ }
     ensures { λ r. ⌜ r ≡ stepOf (many (readConstant c (now (pool .entry))) n at) ⌝ }
 {
     let mut k: usize = 0;
@@ -75,7 +77,7 @@ fn read_constants(pool: &[u8], c: Context, n: usize, at: usize) -> Step
 
 // Their count, and that many.
 pub fn read_all_constants(pool: &[u8], c: Context, at: usize) -> Step
-    requires { ⌜ (at ≤ length (now pool)) × (c .base + length (now pool) ≤ 1048576) ⌝ }
+    requires { ⌜ (at ≤ length (now pool)) × (c .base + length (now pool) ≤ fileLimit) ⌝ }
     ensures { λ r. ⌜ r ≡ stepOf (readCounted (readConstant c (now (pool .entry))) c (now (pool .entry)) at) ⌝ }
 {
     let base = c.base;
@@ -86,7 +88,7 @@ pub fn read_all_constants(pool: &[u8], c: Context, at: usize) -> Step
         });
     }
     let n = number::u16_at(pool, at) as usize;
-    if 1024 < n {
+    if OWN_LIMIT < n {
         return Step::Refused(Refusal {
             no: 17,
             place: base + at,

@@ -2,6 +2,7 @@
 ghost use mathlib.Core.Path.{_≡_};
 ghost use Prim.Native.Nat.{_+_, _≤_, _<_};
 ghost use lib.ListN.{length, getD};
+ghost use Rattle.number.specs.Limits.{fileLimit, ownLimit};
 ghost use Rattle.number.specs.Bits.{bit};
 ghost use Rattle.number.specs.Choice.{if_then_else_, _≤?_, _=?_};
 ghost use Rattle.number.specs.Scan.{some, tally};
@@ -9,6 +10,7 @@ ghost use Rattle.key.specs.First.{Filled};
 ghost use Rattle.method.specs.Flags.{setterBit, constructorBit};
 ghost use Rattle.descriptor.specs.Rules.{manyConstructors, strayPairs};
 ghost use Rattle.descriptor.specs.Tables.{Below, Led, Taken, Grouped, cell, wordIn, isAccessor, groupIn, oneMore, gettersOf, strayOf, straySetter};
+use number::OWN_LIMIT;
 
 // 1 for the flags of a constructor, 0 for others.
 fn constructor_count(flags: u8) -> usize
@@ -21,8 +23,8 @@ fn constructor_count(flags: u8) -> usize
 }
 
 // Whether more than one of n methods is a constructor.
-pub fn many_constructors(flags: &[u8; 1024], n: usize) -> bool
-    requires { ⌜ (n ≤ 1024) × (1024 ≡ length (now flags)) ⌝ }
+pub fn many_constructors(flags: &[u8; OWN_LIMIT], n: usize) -> bool
+    requires { ⌜ (n ≤ ownLimit) × (ownLimit ≡ length (now flags)) ⌝ }
     ensures { λ r. ⌜ r ≡ manyConstructors (cell (now (flags .entry))) n ⌝ }
 {
     let mut k: usize = 0;
@@ -36,7 +38,7 @@ pub fn many_constructors(flags: &[u8; 1024], n: usize) -> bool
 
 // What is known of a name's getters, with getter n beside what v says.
 fn one_more(v: u16, n: usize) -> u16
-    requires { ⌜ n < 1024 ⌝ }
+    requires { ⌜ n < ownLimit ⌝ }
     ensures { λ r. ⌜ r ≡ oneMore v n ⌝ }
 {
     if v == 0 {
@@ -46,9 +48,14 @@ fn one_more(v: u16, n: usize) -> u16
 }
 
 // Method i into the table of getters by name.
-fn note_getter(flags: &[u8; 1024], first: &[u16; 1024], i: usize, getters: &mut [u16; 1024])
-    requires { ⌜ (i < 1024) × (1024 ≡ length (now flags)) × (1024 ≡ length (now first)) × (getD (now first) i 0 < 1024) × Filled (now getters) 1024 (gettersOf (cell (now flags)) (cell (now first)) i) ⌝ }
-    ensures { λ r. ⌜ Filled (now (getters .exit)) 1024 (gettersOf (cell (now (flags .entry))) (cell (now (first .entry))) (i + 1)) ⌝ }
+fn note_getter(
+    flags: &[u8; OWN_LIMIT],
+    first: &[u16; OWN_LIMIT],
+    i: usize,
+    getters: &mut [u16; OWN_LIMIT],
+)
+    requires { ⌜ (i < ownLimit) × (ownLimit ≡ length (now flags)) × (ownLimit ≡ length (now first)) × (getD (now first) i 0 < ownLimit) × Filled (now getters) ownLimit (gettersOf (cell (now flags)) (cell (now first)) i) ⌝ }
+    ensures { λ r. ⌜ Filled (now (getters .exit)) ownLimit (gettersOf (cell (now (flags .entry))) (cell (now (first .entry))) (i + 1)) ⌝ }
 {
     if flags[i] / method::GETTER % 2 == 1 {
         let k = first[i] as usize;
@@ -57,9 +64,14 @@ fn note_getter(flags: &[u8; 1024], first: &[u16; 1024], i: usize, getters: &mut 
 }
 
 // The table of getters by name, of n methods.
-pub fn note_getters(flags: &[u8; 1024], first: &[u16; 1024], n: usize, getters: &mut [u16; 1024])
-    requires { ⌜ (n ≤ 1024) × (1024 ≡ length (now flags)) × (1024 ≡ length (now first)) × Below (now first) n × Filled (now getters) 1024 (gettersOf (cell (now flags)) (cell (now first)) 0) ⌝ }
-    ensures { λ r. ⌜ Filled (now (getters .exit)) 1024 (gettersOf (cell (now (flags .entry))) (cell (now (first .entry))) n) ⌝ }
+pub fn note_getters(
+    flags: &[u8; OWN_LIMIT],
+    first: &[u16; OWN_LIMIT],
+    n: usize,
+    getters: &mut [u16; OWN_LIMIT],
+)
+    requires { ⌜ (n ≤ ownLimit) × (ownLimit ≡ length (now flags)) × (ownLimit ≡ length (now first)) × Below (now first) n × Filled (now getters) ownLimit (gettersOf (cell (now flags)) (cell (now first)) 0) ⌝ }
+    ensures { λ r. ⌜ Filled (now (getters .exit)) ownLimit (gettersOf (cell (now (flags .entry))) (cell (now (first .entry))) n) ⌝ }
 {
     let mut i: usize = 0;
     while i < n {
@@ -79,8 +91,13 @@ fn stray_of(v: u16, j: usize) -> bool
 }
 
 // Whether method j is a setter that is not just behind the getter of its name.
-fn is_stray(flags: &[u8; 1024], first: &[u16; 1024], getters: &[u16; 1024], j: usize) -> bool
-    requires { ⌜ (j < 1024) × (1024 ≡ length (now flags)) × (1024 ≡ length (now first)) × (getD (now first) j 0 < 1024) ⌝ }
+fn is_stray(
+    flags: &[u8; OWN_LIMIT],
+    first: &[u16; OWN_LIMIT],
+    getters: &[u16; OWN_LIMIT],
+    j: usize,
+) -> bool
+    requires { ⌜ (j < ownLimit) × (ownLimit ≡ length (now flags)) × (ownLimit ≡ length (now first)) × (getD (now first) j 0 < ownLimit) ⌝ }
     ensures { λ r. ⌜ r ≡ straySetter (cell (now (flags .entry))) (cell (now (first .entry))) (cell (now (getters .entry))) j ⌝ }
 {
     if flags[j] / method::SETTER % 2 == 1 {
@@ -91,12 +108,12 @@ fn is_stray(flags: &[u8; 1024], first: &[u16; 1024], getters: &[u16; 1024], j: u
 
 // Whether one of n methods is such a setter.
 pub fn stray_setter(
-    flags: &[u8; 1024],
-    first: &[u16; 1024],
-    getters: &[u16; 1024],
+    flags: &[u8; OWN_LIMIT],
+    first: &[u16; OWN_LIMIT],
+    getters: &[u16; OWN_LIMIT],
     n: usize,
 ) -> bool
-    requires { ⌜ (n ≤ 1024) × (1024 ≡ length (now flags)) × (1024 ≡ length (now first)) × Below (now first) n ⌝ }
+    requires { ⌜ (n ≤ ownLimit) × (ownLimit ≡ length (now flags)) × (ownLimit ≡ length (now first)) × Below (now first) n ⌝ }
     ensures { λ r. ⌜ r ≡ some (straySetter (cell (now (flags .entry))) (cell (now (first .entry))) (cell (now (getters .entry)))) n ⌝ }
 {
     let mut j: usize = 0;
@@ -120,8 +137,13 @@ fn accessor_count(flags: u8) -> usize
 }
 
 // The name pointers of the getters and setters among n methods, in their order, and how many. One that is not taken is overwritten by the next.
-fn take_names(flags: &[u8; 1024], names: &[u32; 1024], n: usize, taken: &mut [u32; 1024]) -> usize
-    requires { ⌜ (n ≤ 1024) × (1024 ≡ length (now flags)) × (1024 ≡ length (now names)) × (1024 ≡ length (now taken)) ⌝ }
+fn take_names(
+    flags: &[u8; OWN_LIMIT],
+    names: &[u32; OWN_LIMIT],
+    n: usize,
+    taken: &mut [u32; OWN_LIMIT],
+) -> usize
+    requires { ⌜ (n ≤ ownLimit) × (ownLimit ≡ length (now flags)) × (ownLimit ≡ length (now names)) × (ownLimit ≡ length (now taken)) ⌝ }
     ensures { λ m. ⌜ Taken (isAccessor (cell (now (flags .entry)))) (now (names .entry)) (now (taken .exit)) n m ⌝ }
 {
     let mut r: usize = 0;
@@ -135,8 +157,8 @@ fn take_names(flags: &[u8; 1024], names: &[u32; 1024], n: usize, taken: &mut [u3
 }
 
 // The group of method i, whose place among the getters and setters is r; 0 where it is neither.
-fn group_of(flags: &[u8; 1024], groups: &[u16; 1024], i: usize, r: usize) -> u16
-    requires { ⌜ (i < 1024) × (1024 ≡ length (now flags)) × (1024 ≡ length (now groups)) × (r ≡ tally (isAccessor (cell (now flags))) i) ⌝ }
+fn group_of(flags: &[u8; OWN_LIMIT], groups: &[u16; OWN_LIMIT], i: usize, r: usize) -> u16
+    requires { ⌜ (i < ownLimit) × (ownLimit ≡ length (now flags)) × (ownLimit ≡ length (now groups)) × (r ≡ tally (isAccessor (cell (now flags))) i) ⌝ }
     ensures { λ x. ⌜ x ≡ groupIn (isAccessor (cell (now (flags .entry)))) (now (groups .entry)) i ⌝ }
 {
     if method::SETTER <= flags[i] {
@@ -146,9 +168,14 @@ fn group_of(flags: &[u8; 1024], groups: &[u16; 1024], i: usize, r: usize) -> u16
 }
 
 // The groups of n methods, from those of the getters and setters among them.
-fn spread_groups(flags: &[u8; 1024], groups: &[u16; 1024], n: usize, first: &mut [u16; 1024])
-    requires { ⌜ (n ≤ 1024) × (1024 ≡ length (now flags)) × (1024 ≡ length (now groups)) × (1024 ≡ length (now first)) ⌝ }
-    ensures { λ r. ⌜ Filled (now (first .exit)) n (groupIn (isAccessor (cell (now (flags .entry)))) (now (groups .entry))) × (1024 ≡ length (now (first .exit))) ⌝ }
+fn spread_groups(
+    flags: &[u8; OWN_LIMIT],
+    groups: &[u16; OWN_LIMIT],
+    n: usize,
+    first: &mut [u16; OWN_LIMIT],
+)
+    requires { ⌜ (n ≤ ownLimit) × (ownLimit ≡ length (now flags)) × (ownLimit ≡ length (now groups)) × (ownLimit ≡ length (now first)) ⌝ }
+    ensures { λ r. ⌜ Filled (now (first .exit)) n (groupIn (isAccessor (cell (now (flags .entry)))) (now (groups .entry))) × (ownLimit ≡ length (now (first .exit))) ⌝ }
 {
     let mut r: usize = 0;
     let mut i: usize = 0;
@@ -162,29 +189,29 @@ fn spread_groups(flags: &[u8; 1024], groups: &[u16; 1024], n: usize, first: &mut
 // The groups of n methods by name. Only getters and setters have one of their own: no others matter to a getter pair.
 fn name_groups(
     pool: &[u8],
-    flags: &[u8; 1024],
-    names: &[u32; 1024],
+    flags: &[u8; OWN_LIMIT],
+    names: &[u32; OWN_LIMIT],
     n: usize,
-    first: &mut [u16; 1024],
+    first: &mut [u16; OWN_LIMIT],
 )
-    requires { ⌜ (n ≤ 1024) × (length (now pool) ≤ 1048576) × (1024 ≡ length (now flags)) × (1024 ≡ length (now names)) × (1024 ≡ length (now first)) × Led (now pool) (now names) n ⌝ }
-    ensures { λ r. ⌜ Grouped (isAccessor (cell (now (flags .entry)))) (wordIn (now (pool .entry)) (now (names .entry))) (cell (now (first .exit))) n × Below (now (first .exit)) n × (1024 ≡ length (now (first .exit))) ⌝ }
+    requires { ⌜ (n ≤ ownLimit) × (length (now pool) ≤ fileLimit) × (ownLimit ≡ length (now flags)) × (ownLimit ≡ length (now names)) × (ownLimit ≡ length (now first)) × Led (now pool) (now names) n ⌝ }
+    ensures { λ r. ⌜ Grouped (isAccessor (cell (now (flags .entry)))) (wordIn (now (pool .entry)) (now (names .entry))) (cell (now (first .exit))) n × Below (now (first .exit)) n × (ownLimit ≡ length (now (first .exit))) ⌝ }
 {
-    let spaces = [0u32; 1024];
-    let mut taken = [0u32; 1024];
-    let mut groups = [0u16; 1024];
+    let spaces = [0u32; OWN_LIMIT];
+    let mut taken = [0u32; OWN_LIMIT];
+    let mut groups = [0u16; OWN_LIMIT];
     let m = take_names(flags, names, n, &mut taken);
     sorting::first_same(pool, &spaces, &taken, m, &mut groups);
     spread_groups(flags, &groups, n, first);
 }
 
 // Whether a getter pair is broken among n methods, whose flags and name pointers stand in tables.
-pub fn stray_pairs(pool: &[u8], flags: &[u8; 1024], names: &[u32; 1024], n: usize) -> bool
-    requires { ⌜ (n ≤ 1024) × (length (now pool) ≤ 1048576) × (1024 ≡ length (now flags)) × (1024 ≡ length (now names)) × Led (now pool) (now names) n ⌝ }
+pub fn stray_pairs(pool: &[u8], flags: &[u8; OWN_LIMIT], names: &[u32; OWN_LIMIT], n: usize) -> bool
+    requires { ⌜ (n ≤ ownLimit) × (length (now pool) ≤ fileLimit) × (ownLimit ≡ length (now flags)) × (ownLimit ≡ length (now names)) × Led (now pool) (now names) n ⌝ }
     ensures { λ r. ⌜ r ≡ strayPairs (cell (now (flags .entry))) (wordIn (now (pool .entry)) (now (names .entry))) n ⌝ }
 {
-    let mut first = [0u16; 1024];
-    let mut getters = [0u16; 1024];
+    let mut first = [0u16; OWN_LIMIT];
+    let mut getters = [0u16; OWN_LIMIT];
     name_groups(pool, flags, names, n, &mut first);
     note_getters(flags, &first, n, &mut getters);
     stray_setter(flags, &first, &getters, n)

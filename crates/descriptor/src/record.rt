@@ -2,16 +2,18 @@
 ghost use mathlib.Core.Path.{_≡_};
 ghost use Prim.Native.Nat.{_+_, _≤_};
 ghost use lib.ListN.{length};
+ghost use Rattle.number.specs.Limits.{fileLimit, ownLimit};
 ghost use Rattle.reading.specs.Got.{stepOf};
 ghost use Rattle.descriptor.specs.Tables.{Led, Tabled, cell, wordIn};
 ghost use Rattle.descriptor.specs.Descriptor.{reservedInterface, readParent, readFlags, readDescriptor};
+use number::OWN_LIMIT;
 use reading::Context;
 use reading::Refusal;
 use reading::Step;
 
 // The parent's index.
 fn read_parent(pool: &[u8], c: Context, at: usize) -> Step
-    requires { ⌜ (at ≤ length (now pool)) × (c .base + length (now pool) ≤ 1048576) ⌝ }
+    requires { ⌜ (at ≤ length (now pool)) × (c .base + length (now pool) ≤ fileLimit) ⌝ }
     ensures { λ r. ⌜ r ≡ stepOf (readParent c (now (pool .entry)) at) ⌝ }
 {
     let base = c.base;
@@ -37,10 +39,10 @@ fn read_all_methods(
     pool: &[u8],
     c: Context,
     at: usize,
-    flags: &mut [u8; 1024],
-    names: &mut [u32; 1024],
+    flags: &mut [u8; OWN_LIMIT],
+    names: &mut [u32; OWN_LIMIT],
 ) -> Step
-    requires { ⌜ (at ≤ length (now pool)) × (c .base + length (now pool) ≤ 1048576) × (1024 ≡ length (now flags)) × (1024 ≡ length (now names)) ⌝ }
+    requires { ⌜ (at ≤ length (now pool)) × (c .base + length (now pool) ≤ fileLimit) × (ownLimit ≡ length (now flags)) × (ownLimit ≡ length (now names)) ⌝ }
     ensures { λ r. ⌜ Tabled c (now (pool .entry)) at r (now (flags .exit)) (now (names .exit)) ⌝ }
 {
     let base = c.base;
@@ -51,7 +53,7 @@ fn read_all_methods(
         });
     }
     let n = number::u16_at(pool, at) as usize;
-    if 1024 < n {
+    if OWN_LIMIT < n {
         return Step::Refused(Refusal {
             no: 17,
             place: base + at,
@@ -83,10 +85,10 @@ fn read_flags(
     first: usize,
     at: usize,
     n: usize,
-    flags: &[u8; 1024],
-    names: &[u32; 1024],
+    flags: &[u8; OWN_LIMIT],
+    names: &[u32; OWN_LIMIT],
 ) -> Step
-    requires { ⌜ (at ≤ length (now pool)) × (first ≤ length (now pool)) × (c .base + length (now pool) ≤ 1048576) × (n ≤ 1024) × (1024 ≡ length (now flags)) × (1024 ≡ length (now names)) × Led (now pool) (now names) n ⌝ }
+    requires { ⌜ (at ≤ length (now pool)) × (first ≤ length (now pool)) × (c .base + length (now pool) ≤ fileLimit) × (n ≤ ownLimit) × (ownLimit ≡ length (now flags)) × (ownLimit ≡ length (now names)) × Led (now pool) (now names) n ⌝ }
     ensures { λ r. ⌜ r ≡ stepOf (readFlags c (now (pool .entry)) first (cell (now (flags .entry))) (wordIn (now (pool .entry)) (now (names .entry))) n at) ⌝ }
 {
     let base = c.base;
@@ -123,10 +125,10 @@ fn read_with(
     pool: &[u8],
     c: Context,
     at: usize,
-    flags: &mut [u8; 1024],
-    names: &mut [u32; 1024],
+    flags: &mut [u8; OWN_LIMIT],
+    names: &mut [u32; OWN_LIMIT],
 ) -> Step
-    requires { ⌜ (at ≤ length (now pool)) × (c .base + length (now pool) ≤ 1048576) × (1024 ≡ length (now flags)) × (1024 ≡ length (now names)) ⌝ }
+    requires { ⌜ (at ≤ length (now pool)) × (c .base + length (now pool) ≤ fileLimit) × (ownLimit ≡ length (now flags)) × (ownLimit ≡ length (now names)) ⌝ }
     ensures { λ r. ⌜ r ≡ stepOf (readDescriptor c (now (pool .entry)) at) ⌝ }
 {
     let up = read_parent(pool, c, at);
@@ -147,10 +149,10 @@ fn read_with(
 
 // A descriptor.
 pub fn read_descriptor(pool: &[u8], c: Context, at: usize) -> Step
-    requires { ⌜ (at ≤ length (now pool)) × (c .base + length (now pool) ≤ 1048576) ⌝ }
+    requires { ⌜ (at ≤ length (now pool)) × (c .base + length (now pool) ≤ fileLimit) ⌝ }
     ensures { λ r. ⌜ r ≡ stepOf (readDescriptor c (now (pool .entry)) at) ⌝ }
 {
-    let mut flags = [0u8; 1024];
-    let mut names = [0u32; 1024];
+    let mut flags = [0u8; OWN_LIMIT];
+    let mut names = [0u32; OWN_LIMIT];
     read_with(pool, c, at, &mut flags, &mut names)
 }

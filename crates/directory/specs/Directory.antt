@@ -3,6 +3,7 @@
 use mathlib.Core.Bool.{Bool, false}
 use mathlib.Core.List.{List, []}
 use Prim.Native.Nat.{ℕ, _+_, _-_}
+use Rattle.number.specs.Limits.{entryWidth}
 use Rattle.number.specs.Choice.{if_then_else_, _≤?_, _=?_}
 use Rattle.number.specs.Number.{be}
 use Rattle.reading.specs.Got.{Got, got, bad, next, many}
@@ -32,7 +33,7 @@ falls i j = if i =? 0 then false else j ≤? i
 
 -- the same of the entry at p and the one before it, in a directory that starts at d
 unfoldable pub outOfOrder : List ℕ → ℕ → ℕ → Bool
-outOfOrder s d p = if p =? d then false else falls (be 16 s (p - 28)) (be 16 s p)
+outOfOrder s d p = if p =? d then false else falls (be 16 s (p - entryWidth)) (be 16 s p)
 
 -- a descriptor needs a nonzero IID
 unfoldable pub lacksIid : ℕ → ℕ → Bool
@@ -45,7 +46,7 @@ readRow s pool d p =
     next (follow pool (p + 16) (be 4 s (p + 16))) λ w _.
     next (followSpace pool (p + 20) (be 4 s (p + 20))) λ v _.
     if lacksIid (be 16 s p) (be 4 s (p + 24)) then bad 12 (p + 24) else
-    got (row (be 16 s p) (key v w) (be 4 s (p + 24))) (p + 28)
+    got (row (be 16 s p) (key v w) (be 4 s (p + 24))) (p + entryWidth)
 
 -- n entries from d on
 unfoldable pub readDirectory : List ℕ → List ℕ → ℕ → ℕ → Got (List Row)

@@ -2,10 +2,12 @@
 ghost use mathlib.Core.Path.{_≡_};
 ghost use Prim.Native.Nat.{_+_, _*_, _≤_};
 ghost use lib.ListN.{length, drop};
+ghost use Rattle.number.specs.Limits.{fileLimit, entryWidth};
 ghost use Rattle.number.specs.Choice.{_=?_};
 ghost use Rattle.number.specs.Number.{be};
 ghost use Rattle.reading.specs.Got.{stepOf};
 ghost use Rattle.directory.specs.Directory.{falls, outOfOrder, lacksIid, readRow, readDirectory};
+use number::ENTRY_WIDTH;
 use reading::Refusal;
 use reading::Step;
 
@@ -46,19 +48,19 @@ pub fn iid_falls(file: &[u8], p: usize, q: usize) -> bool
 
 // Whether entry k of the directory at d is out of order.
 fn out_of_order(file: &[u8], d: usize, k: usize) -> bool
-    requires { ⌜ (d + 28 * k + 28 ≤ length (now file)) × (length (now file) ≤ 1048576) ⌝ }
-    ensures { λ r. ⌜ r ≡ outOfOrder (now (file .entry)) d (d + 28 * k) ⌝ }
+    requires { ⌜ (d + entryWidth * k + entryWidth ≤ length (now file)) × (length (now file) ≤ fileLimit) ⌝ }
+    ensures { λ r. ⌜ r ≡ outOfOrder (now (file .entry)) d (d + entryWidth * k) ⌝ }
 {
     if k == 0 {
         return false;
     }
-    let p = d + 28 * k;
-    iid_falls(file, p - 28, p)
+    let p = d + ENTRY_WIDTH * k;
+    iid_falls(file, p - ENTRY_WIDTH, p)
 }
 
 // Whether the entry at p has a descriptor and a zero IID.
 fn lacks_iid(file: &[u8], p: usize) -> bool
-    requires { ⌜ p + 28 ≤ length (now file) ⌝ }
+    requires { ⌜ p + entryWidth ≤ length (now file) ⌝ }
     ensures { λ r. ⌜ r ≡ lacksIid (be 16 (now (file .entry)) p) (be 4 (now (file .entry)) (p + 24)) ⌝ }
 {
     if number::u32_at(file, p + 24) == 0 {
@@ -69,10 +71,10 @@ fn lacks_iid(file: &[u8], p: usize) -> bool
 
 // Entry k of the directory at d.
 fn check_row(file: &[u8], pool: &[u8], d: usize, k: usize) -> Step
-    requires { ⌜ (d + 28 * k + 28 ≤ length (now file)) × (length (now file) ≤ 1048576) ⌝ }
-    ensures { λ r. ⌜ r ≡ stepOf (readRow (now (file .entry)) (now (pool .entry)) d (d + 28 * k)) ⌝ }
+    requires { ⌜ (d + entryWidth * k + entryWidth ≤ length (now file)) × (length (now file) ≤ fileLimit) ⌝ }
+    ensures { λ r. ⌜ r ≡ stepOf (readRow (now (file .entry)) (now (pool .entry)) d (d + entryWidth * k)) ⌝ }
 {
-    let p = d + 28 * k;
+    let p = d + ENTRY_WIDTH * k;
     if out_of_order(file, d, k) {
         return Step::Refused(Refusal { no: 10, place: p });
     }
@@ -92,12 +94,12 @@ fn check_row(file: &[u8], pool: &[u8], d: usize, k: usize) -> Step
             place: p + 24,
         });
     }
-    Step::End(p + 28)
+    Step::End(p + ENTRY_WIDTH)
 }
 
 // The n entries from d on.
 fn check_rows(file: &[u8], pool: &[u8], n: usize, d: usize) -> Step
-    requires { ⌜ (d + 28 * n ≤ length (now file)) × (length (now file) ≤ 1048576) ⌝ }
+    requires { ⌜ (d + entryWidth * n ≤ length (now file)) × (length (now file) ≤ fileLimit) ⌝ }
     ensures { λ r. ⌜ r ≡ stepOf (readDirectory (now (file .entry)) (now (pool .entry)) n d) ⌝ }
 {
     let mut k: usize = 0;
@@ -108,12 +110,12 @@ fn check_rows(file: &[u8], pool: &[u8], n: usize, d: usize) -> Step
         };
         k += 1;
     }
-    Step::End(d + 28 * n)
+    Step::End(d + ENTRY_WIDTH * n)
 }
 
 // The same, with the pool as the part of the file from its offset on.
 pub fn check_directory(file: &[u8], n: usize, directory: usize, pool: usize) -> Step
-    requires { ⌜ (directory + 28 * n ≤ pool) × (pool ≤ length (now file)) × (length (now file) ≤ 1048576) ⌝ }
+    requires { ⌜ (directory + entryWidth * n ≤ pool) × (pool ≤ length (now file)) × (length (now file) ≤ fileLimit) ⌝ }
     ensures { λ r. ⌜ r ≡ stepOf (readDirectory (now (file .entry)) (drop pool (now (file .entry))) n directory) ⌝ }
 {
     check_rows(file, &file[pool..], n, directory)

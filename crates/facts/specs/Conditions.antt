@@ -6,6 +6,7 @@ use mathlib.Core.List.{List, [], _∷_}
 use mathlib.Core.Option.{Option, none, some}
 use Prim.Native.Nat.{ℕ, zero, suc, _<_}
 use lib.ListN.{length}
+use Rattle.number.specs.Limits.{fileLimit, entryLimit}
 use Rattle.number.specs.Choice.{if_then_else_, _=?_}
 use Rattle.key.specs.Key.{Key, sameKey}
 use Rattle.reader.specs.Values.{Descriptor, parentOf, Entry}
@@ -86,11 +87,11 @@ endless es k = isSome (climb (suc (length es)) (parentIn es) (some k))
 
 -- 25: union over 1,024 entries
 abbrev pub TooMany : List (Entry Key) → Type 0
-TooMany es = 1024 < length (union es)
+TooMany es = entryLimit < length (union es)
 
 -- 26: normal form over 1,048,576, where `size` is the length of the normal form of a union
 abbrev pub TooLong : (List (Entry Key) → ℕ) → List (Entry Key) → Type 0
-TooLong size es = 1048576 < size (union es)
+TooLong size es = fileLimit < size (union es)
 
 -- ---- all of them
 

@@ -6,6 +6,7 @@ use mathlib.Core.List.{List, _++_}
 use mathlib.Core.Option.{Option, none, some}
 use Prim.Native.Nat.{ℕ, _+_, _≤_, _<_}
 use lib.ListN.{length}
+use Rattle.number.specs.Limits.{fileLimit, entryLimit}
 use Rattle.number.specs.Choice.{if_then_else_, _<?_}
 use Rattle.number.specs.Scan.{scan, some as one}
 use Rattle.key.specs.Key.{Key}
@@ -38,8 +39,8 @@ linkBoth size A es =
     if anySuch (sharedIid es) A then stopped 22 (firstSuch (sharedIid es) A) else
     if anySuch (twoDescriptors es) A then stopped 23 (firstSuch (twoDescriptors es) A) else
     if anySuch (endless es) A then stopped 24 (firstSuch (endless es) A) else
-    if 1024 <? length (union es) then stopped 25 0 else
-    if 1048576 <? size (union es) then stopped 26 0 else
+    if entryLimit <? length (union es) then stopped 25 0 else
+    if fileLimit <? size (union es) then stopped 26 0 else
     joined (union es)
 
 -- `size` is the length of the normal form of a union
@@ -47,7 +48,7 @@ unfoldable pub linkEntries : (List (Entry Key) → ℕ) → List (Entry Key) →
 linkEntries size A B = linkBoth size A (A ++ B)
 
 unfoldable pub normalEntries : (List (Entry Key) → ℕ) → List (Entry Key) → Linked
-normalEntries size A = if 1048576 <? size (union A) then stopped 26 0 else joined (union A)
+normalEntries size A = if fileLimit <? size (union A) then stopped 26 0 else joined (union A)
 
 -- ---- what the laws speak of
 

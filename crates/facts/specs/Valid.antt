@@ -6,6 +6,7 @@ use mathlib.Core.List.{List, []}
 use mathlib.Core.Option.{none, some}
 use Prim.Native.Nat.{ℕ, _≤_, _<_}
 use lib.ListN.{length, getD}
+use Rattle.number.specs.Limits.{entryLimit}
 use Rattle.key.specs.Key.{Key, key}
 use Rattle.reader.specs.Values.{Descriptor, Entry, entry, entryKey, entryIid}
 use Rattle.facts.specs.Facts.{In, keysOf}
@@ -31,7 +32,7 @@ pub record Valid (A : List (Entry Key)) : Type 0 where
   pub references : (k : Key) (i : ℕ) (d : Descriptor Key) → In (entry k i (some d)) A → AllRefs (λ l. In l (keysOf A)) d
   -- no parent chain returns to an entry it has passed
   pub chains : (k : Key) → In k (keysOf A) → Ends (parentIn A) k
-  pub few : length A ≤ 1024
+  pub few : length A ≤ entryLimit
 
 -- IIDs never fall, and only zero IIDs may be equal
 abbrev pub IidOrder : List (Entry Key) → Type 0

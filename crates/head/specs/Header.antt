@@ -4,6 +4,7 @@ use mathlib.Core.Bool.{Bool, true}
 use mathlib.Core.List.{List, [], _∷_}
 use Prim.Native.Nat.{ℕ, _+_, _*_, _%_}
 use lib.ListN.{length, getD}
+use Rattle.number.specs.Limits.{fileLimit, entryLimit, entryWidth}
 use Rattle.number.specs.Choice.{if_then_else_, _<?_, _=?_, _≠?_}
 use Rattle.number.specs.Number.{be}
 use Rattle.number.specs.Scan.{scan}
@@ -42,7 +43,7 @@ misplacedDirectory n d pool =
     if n =? 0 then d ≠? 0 else
     if d % 4 ≠? 0 then true else
     if d <? 33 then true else
-    pool <? d + 28 * n
+    pool <? d + entryWidth * n
 
 -- 8: the pool is tested first
 unfoldable pub readPositions : List ℕ → Got Header
@@ -57,14 +58,14 @@ readFields s =
     if getD s 16 0 ≠? 1 then bad 4 16 else
     if unknownMinor (getD s 17 0) then bad 5 17 else
     if lengthFault (length s) (be 4 s 20) ≠? 0 then bad (lengthFault (length s) (be 4 s 20)) 20 else
-    if 1024 <? be 2 s 18 then bad 7 18 else
+    if entryLimit <? be 2 s 18 then bad 7 18 else
     readPositions s
 
 -- 1 to 8
 unfoldable pub readHeader : List ℕ → Got Header
 readHeader s =
     if length s <? 32 then bad 1 (length s) else
-    if 1048576 <? length s then bad 2 1048576 else
+    if fileLimit <? length s then bad 2 fileLimit else
     if magicEnd s <? 16 then bad 3 (magicEnd s) else
     readFields s
 

@@ -2,6 +2,7 @@
 ghost use mathlib.Core.Path.{_≡_};
 ghost use Prim.Native.Nat.{_≤_};
 ghost use lib.ListN.{length};
+ghost use Rattle.number.specs.Limits.{fileLimit};
 ghost use Rattle.reading.specs.Got.{stepOf};
 ghost use Rattle.head.specs.Annotation.{asciiEnd, readText, readBody, readAnnotation, readAnnotations, annotationLimit};
 use super::Header;
@@ -25,7 +26,7 @@ fn ascii_end(file: &[u8], from: usize, to: usize) -> usize
 
 // A text of the annotation at `place`.
 fn read_text(file: &[u8], place: usize, limit: usize, at: usize) -> Step
-    requires { ⌜ (at ≤ limit) × (limit ≤ length (now file)) × (length (now file) ≤ 1048576) ⌝ }
+    requires { ⌜ (at ≤ limit) × (limit ≤ length (now file)) × (length (now file) ≤ fileLimit) ⌝ }
     ensures { λ r. ⌜ r ≡ stepOf (readText place limit (now (file .entry)) at) ⌝ }
 {
     let from = at + 2;
@@ -44,7 +45,7 @@ fn read_text(file: &[u8], place: usize, limit: usize, at: usize) -> Step
 
 // What follows the first byte of the annotation at `place`.
 fn read_body(file: &[u8], place: usize, limit: usize, tag: u8, at: usize) -> Step
-    requires { ⌜ (at ≤ limit) × (limit ≤ length (now file)) × (length (now file) ≤ 1048576) ⌝ }
+    requires { ⌜ (at ≤ limit) × (limit ≤ length (now file)) × (length (now file) ≤ fileLimit) ⌝ }
     ensures { λ r. ⌜ r ≡ stepOf (readBody place limit (now (file .entry)) tag at) ⌝ }
 {
     if tag == 0 {
@@ -62,7 +63,7 @@ fn read_body(file: &[u8], place: usize, limit: usize, tag: u8, at: usize) -> Ste
 
 // One annotation.
 fn read_annotation(file: &[u8], limit: usize, at: usize) -> Step
-    requires { ⌜ (at ≤ limit) × (limit ≤ length (now file)) × (length (now file) ≤ 1048576) ⌝ }
+    requires { ⌜ (at ≤ limit) × (limit ≤ length (now file)) × (length (now file) ≤ fileLimit) ⌝ }
     ensures { λ r. ⌜ r ≡ stepOf (readAnnotation limit (now (file .entry)) at) ⌝ }
 {
     if limit <= at {
@@ -74,7 +75,7 @@ fn read_annotation(file: &[u8], limit: usize, at: usize) -> Step
 
 // The annotations, which end at or before `limit`.
 pub fn read_annotations(file: &[u8], limit: usize) -> Step
-    requires { ⌜ (32 ≤ limit) × (limit ≤ length (now file)) × (length (now file) ≤ 1048576) ⌝ }
+    requires { ⌜ (32 ≤ limit) × (limit ≤ length (now file)) × (length (now file) ≤ fileLimit) ⌝ }
     ensures { λ r. ⌜ r ≡ stepOf (readAnnotations limit (now (file .entry))) ⌝ }
 {
     let mut at: usize = 32;

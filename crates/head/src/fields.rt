@@ -5,6 +5,9 @@ ghost use lib.ListN.{length};
 ghost use Rattle.head.specs.Header.{magicEnd, unknownMinor, lengthFault, misplacedPool, misplacedDirectory, readPositions, readFields, readHeader, headOf};
 use super::Head;
 use super::Header;
+use number::ENTRY_LIMIT;
+use number::ENTRY_WIDTH;
+use number::FILE_LIMIT;
 use reading::Refusal;
 
 const MAGIC: [u8; 16] = [
@@ -82,7 +85,7 @@ fn misplaced_directory(n: usize, directory: usize, pool: usize) -> bool
     if directory < 33 {
         return true;
     }
-    pool < directory + 28 * n
+    pool < directory + ENTRY_WIDTH * n
 }
 
 // Refusal 8.
@@ -127,7 +130,7 @@ fn read_fields(file: &[u8]) -> Head
             place: 20,
         });
     }
-    if 1024 < count {
+    if ENTRY_LIMIT < count {
         return Head::Refused(Refusal { no: 7, place: 18 });
     }
     read_positions(file)
@@ -141,10 +144,10 @@ pub fn read_header(file: &[u8]) -> Head
     if len < 32 {
         return Head::Refused(Refusal { no: 1, place: len });
     }
-    if 1048576 < len {
+    if FILE_LIMIT < len {
         return Head::Refused(Refusal {
             no: 2,
-            place: 1048576,
+            place: FILE_LIMIT,
         });
     }
     let m = magic_end(file);

@@ -6,6 +6,7 @@ use mathlib.Core.Option.{Option, none, some}
 use Prim.Native.Nat.{ℕ}
 use lib.ListN.{length, take}
 use lib.Seq.{sets}
+use Rattle.number.specs.Limits.{fileLimit}
 use Rattle.reading.specs.Got.{got}
 use Rattle.key.specs.Key.{Key}
 use Rattle.reader.specs.Values.{Typelib, entriesIn, Entry}
@@ -34,7 +35,7 @@ pub record Means (a : List ℕ) (A : List (Entry Key)) : Type 0 where
 
 -- an output buffer of 1,048,576 bytes, whatever it holds
 abbrev pub Buffer : List ℕ → Type 0
-Buffer out = length out ≡ 1048576
+Buffer out = length out ≡ fileLimit
 
 -- the file that a link left in its buffer: the bytes up to its length; none where it refused
 unfoldable pub leftIn : List ℕ → Linked → Option (List ℕ)

@@ -5,6 +5,7 @@ use mathlib.Core.Logic.{_↔_}
 use mathlib.Core.List.{List, _++_}
 use Prim.Native.Nat.{ℕ, _≤_}
 use lib.ListN.{length}
+use Rattle.number.specs.Limits.{fileLimit}
 use Rattle.key.specs.Key.{Key}
 use Rattle.reader.specs.Values.{Entry}
 use Rattle.reader.specs.Reader.{decode}
@@ -22,7 +23,7 @@ SizedForms = (us : List (Entry Key)) → length (normalForm us) ≡ normalLength
 -- b is an accepted file that means us, is no longer than a file may be, and is its own normal form
 pub record FormOf (us : List (Entry Key)) (b : List ℕ) : Type 0 where
   pub means : Means b us
-  pub short : length b ≤ 1048576
+  pub short : length b ≤ fileLimit
   pub own : normalOf (decode b) ≡ written b
 
 -- The normal form of an accepted file reads back, with the same meaning.

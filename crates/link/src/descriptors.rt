@@ -3,11 +3,14 @@
 ghost use mathlib.Core.Path.{_≡_};
 ghost use Prim.Native.Nat.{_+_, _<_};
 ghost use lib.ListN.{length};
+ghost use Rattle.number.specs.Limits.{entryLimit, rowLimit};
 ghost use Rattle.number.specs.Scan.{scan};
 ghost use Rattle.tables.specs.Tables.{cell};
 ghost use Rattle.bridge.specs.Written.{twoMeanings};
 ghost use Rattle.output.specs.Files.{Given, HoldBoth, Gives};
 ghost use Rattle.link.specs.Stages.{Known, Meets};
+use number::ENTRY_LIMIT;
+use number::ROW_LIMIT;
 use reader::Layout;
 
 fn index(x: u16) -> usize
@@ -30,12 +33,12 @@ fn two_descriptors(
     t: &[u8],
     q: &[u8],
     k: Layout,
-    first: &[u16; 2048],
-    mates: &[u16; 1024],
-    own: &[u32; 2048],
+    first: &[u16; ROW_LIMIT],
+    mates: &[u16; ENTRY_LIMIT],
+    own: &[u32; ROW_LIMIT],
     i: usize,
 ) -> bool
-    requires { ⌜ Given (HoldBoth (now s) (now p) l (now t) (now q) k) × Known (HoldBoth (now s) (now p) l (now t) (now q) k) (Meets (now p) (now q) (now first) (now mates) (now own) (l .count) (l .count + k .count)) × (2048 ≡ length (now first)) × (1024 ≡ length (now mates)) × (2048 ≡ length (now own)) × (i < l .count) ⌝ }
+    requires { ⌜ Given (HoldBoth (now s) (now p) l (now t) (now q) k) × Known (HoldBoth (now s) (now p) l (now t) (now q) k) (Meets (now p) (now q) (now first) (now mates) (now own) (l .count) (l .count + k .count)) × (rowLimit ≡ length (now first)) × (entryLimit ≡ length (now mates)) × (rowLimit ≡ length (now own)) × (i < l .count) ⌝ }
     ensures { λ r. ⌜ Gives (HoldBoth (now (s .entry)) (now (p .entry)) l (now (t .entry)) (now (q .entry)) k) (λ x. twoMeanings (x .first) (x .second) (cell (now (mates .entry))) i) r ⌝ }
 {
     let j = index(mates[i]);
@@ -65,11 +68,11 @@ pub fn first_two_descriptors(
     t: &[u8],
     q: &[u8],
     k: Layout,
-    first: &[u16; 2048],
-    mates: &[u16; 1024],
-    own: &[u32; 2048],
+    first: &[u16; ROW_LIMIT],
+    mates: &[u16; ENTRY_LIMIT],
+    own: &[u32; ROW_LIMIT],
 ) -> usize
-    requires { ⌜ Given (HoldBoth (now s) (now p) l (now t) (now q) k) × Known (HoldBoth (now s) (now p) l (now t) (now q) k) (Meets (now p) (now q) (now first) (now mates) (now own) (l .count) (l .count + k .count)) × (2048 ≡ length (now first)) × (1024 ≡ length (now mates)) × (2048 ≡ length (now own)) ⌝ }
+    requires { ⌜ Given (HoldBoth (now s) (now p) l (now t) (now q) k) × Known (HoldBoth (now s) (now p) l (now t) (now q) k) (Meets (now p) (now q) (now first) (now mates) (now own) (l .count) (l .count + k .count)) × (rowLimit ≡ length (now first)) × (entryLimit ≡ length (now mates)) × (rowLimit ≡ length (now own)) ⌝ }
     ensures { λ r. ⌜ Gives (HoldBoth (now (s .entry)) (now (p .entry)) l (now (t .entry)) (now (q .entry)) k) (λ x. scan (twoMeanings (x .first) (x .second) (cell (now (mates .entry)))) (l .count) 0) r ⌝ }
 {
     let n = l.count;

@@ -3,12 +3,16 @@
 ghost use mathlib.Core.Path.{_≡_};
 ghost use Prim.Native.Nat.{_+_};
 ghost use lib.ListN.{length, drop};
+ghost use Rattle.number.specs.Limits.{entryLimit, rowLimit};
 ghost use Rattle.output.specs.Files.{Given, HoldBoth};
 ghost use Rattle.link.specs.declared.Normalised.the-variants.{Refused};
 ghost use Rattle.link.specs.Outcome.{refusal};
 ghost use Rattle.link.specs.Stages.{Known, Joins, Keyed, Mated, Iids, Numbered, Owns, Resolved, Ended, Arranged};
 use crate::Normalised;
 use crate::descriptors::first_two_descriptors;
+use number::ENTRY_LIMIT;
+use number::FILE_LIMIT;
+use number::ROW_LIMIT;
 use output::file::put_file;
 use output::file::total_size;
 use reader::Layout;
@@ -29,14 +33,14 @@ fn sort_files(
     t: &[u8],
     q: &[u8],
     k: Layout,
-    keys: &mut [u16; 2048],
-    first: &mut [u16; 2048],
+    keys: &mut [u16; ROW_LIMIT],
+    first: &mut [u16; ROW_LIMIT],
 ) -> usize
-    requires { ⌜ Given (HoldBoth (now s) (now p) l (now t) (now q) k) × (2048 ≡ length (now keys)) × (2048 ≡ length (now first)) ⌝ }
-    ensures { λ c. ⌜ Known (HoldBoth (now (s .entry)) (now (p .entry)) l (now (t .entry)) (now (q .entry)) k) (Keyed (now (keys .exit)) (now (first .exit)) c (l .count + k .count)) × (2048 ≡ length (now (keys .exit))) × (2048 ≡ length (now (first .exit))) ⌝ }
+    requires { ⌜ Given (HoldBoth (now s) (now p) l (now t) (now q) k) × (rowLimit ≡ length (now keys)) × (rowLimit ≡ length (now first)) ⌝ }
+    ensures { λ c. ⌜ Known (HoldBoth (now (s .entry)) (now (p .entry)) l (now (t .entry)) (now (q .entry)) k) (Keyed (now (keys .exit)) (now (first .exit)) c (l .count + k .count)) × (rowLimit ≡ length (now (keys .exit))) × (rowLimit ≡ length (now (first .exit))) ⌝ }
 {
-    let mut spaces = [0u32; 2048];
-    let mut names = [0u32; 2048];
+    let mut spaces = [0u32; ROW_LIMIT];
+    let mut names = [0u32; ROW_LIMIT];
     let n = l.count;
     let total = n + k.count;
     rows::note_pointers(s, l, 0, &mut spaces, &mut names);
@@ -52,11 +56,11 @@ fn note_numbers(
     t: &[u8],
     q: &[u8],
     k: Layout,
-    high: &mut [u64; 2048],
-    low: &mut [u64; 2048],
+    high: &mut [u64; ROW_LIMIT],
+    low: &mut [u64; ROW_LIMIT],
 )
-    requires { ⌜ Given (HoldBoth (now s) (now p) l (now t) (now q) k) × (2048 ≡ length (now high)) × (2048 ≡ length (now low)) ⌝ }
-    ensures { λ r. ⌜ Known (HoldBoth (now (s .entry)) (now (p .entry)) l (now (t .entry)) (now (q .entry)) k) (Iids (now (high .exit)) (now (low .exit)) (l .count + k .count)) × (2048 ≡ length (now (high .exit))) × (2048 ≡ length (now (low .exit))) ⌝ }
+    requires { ⌜ Given (HoldBoth (now s) (now p) l (now t) (now q) k) × (rowLimit ≡ length (now high)) × (rowLimit ≡ length (now low)) ⌝ }
+    ensures { λ r. ⌜ Known (HoldBoth (now (s .entry)) (now (p .entry)) l (now (t .entry)) (now (q .entry)) k) (Iids (now (high .exit)) (now (low .exit)) (l .count + k .count)) × (rowLimit ≡ length (now (high .exit))) × (rowLimit ≡ length (now (low .exit))) ⌝ }
 {
     let n = l.count;
     rows::note_iids(s, l, 0, high, low);
@@ -71,10 +75,10 @@ fn note_descriptors(
     t: &[u8],
     q: &[u8],
     k: Layout,
-    own: &mut [u32; 2048],
+    own: &mut [u32; ROW_LIMIT],
 )
-    requires { ⌜ Given (HoldBoth (now s) (now p) l (now t) (now q) k) × (2048 ≡ length (now own)) ⌝ }
-    ensures { λ r. ⌜ Known (HoldBoth (now (s .entry)) (now (p .entry)) l (now (t .entry)) (now (q .entry)) k) (Owns (now (p .entry)) (now (q .entry)) (now (own .exit)) (l .count) (l .count + k .count)) × (2048 ≡ length (now (own .exit))) ⌝ }
+    requires { ⌜ Given (HoldBoth (now s) (now p) l (now t) (now q) k) × (rowLimit ≡ length (now own)) ⌝ }
+    ensures { λ r. ⌜ Known (HoldBoth (now (s .entry)) (now (p .entry)) l (now (t .entry)) (now (q .entry)) k) (Owns (now (p .entry)) (now (q .entry)) (now (own .exit)) (l .count) (l .count + k .count)) × (rowLimit ≡ length (now (own .exit))) ⌝ }
 {
     let n = l.count;
     rows::note_own(s, l, 0, own);
@@ -89,22 +93,22 @@ fn write_union(
     t: &[u8],
     q: &[u8],
     k: Layout,
-    order: &[u16; 2048],
-    holders: &[u16; 2048],
-    high: &[u64; 2048],
-    low: &[u64; 2048],
-    place: &[u16; 2048],
+    order: &[u16; ROW_LIMIT],
+    holders: &[u16; ROW_LIMIT],
+    high: &[u64; ROW_LIMIT],
+    low: &[u64; ROW_LIMIT],
+    place: &[u16; ROW_LIMIT],
     c: usize,
     out: &mut [u8],
 ) -> Normalised
-    requires { ⌜ Given (HoldBoth (now s) (now p) l (now t) (now q) k) × Known (HoldBoth (now s) (now p) l (now t) (now q) k) (Arranged (now order) (now holders) (now high) (now low) (now place) c (l .count) (l .count + k .count)) × (2048 ≡ length (now order)) × (2048 ≡ length (now holders)) × (2048 ≡ length (now high)) × (2048 ≡ length (now low)) × (2048 ≡ length (now place)) ⌝ }
+    requires { ⌜ Given (HoldBoth (now s) (now p) l (now t) (now q) k) × Known (HoldBoth (now s) (now p) l (now t) (now q) k) (Arranged (now order) (now holders) (now high) (now low) (now place) c (l .count) (l .count + k .count)) × (rowLimit ≡ length (now order)) × (rowLimit ≡ length (now holders)) × (rowLimit ≡ length (now high)) × (rowLimit ≡ length (now low)) × (rowLimit ≡ length (now place)) ⌝ }
     ensures { λ r. ⌜ Joins (HoldBoth (now (s .entry)) (now (p .entry)) l (now (t .entry)) (now (q .entry)) k) (now (out .entry)) r (now (out .exit)) ⌝ }
 {
-    if 1024 < c {
+    if ENTRY_LIMIT < c {
         return stop(25, 0);
     }
     let size = total_size(s, p, l, t, q, k, order, holders, c);
-    if 1048576 < size {
+    if FILE_LIMIT < size {
         return stop(26, 0);
     }
     if out.len() < size {
@@ -122,19 +126,19 @@ fn join_order(
     t: &[u8],
     q: &[u8],
     k: Layout,
-    keys: &[u16; 2048],
-    first: &[u16; 2048],
+    keys: &[u16; ROW_LIMIT],
+    first: &[u16; ROW_LIMIT],
     c: usize,
-    high: &[u64; 2048],
-    low: &[u64; 2048],
-    holders: &[u16; 2048],
+    high: &[u64; ROW_LIMIT],
+    low: &[u64; ROW_LIMIT],
+    holders: &[u16; ROW_LIMIT],
     out: &mut [u8],
 ) -> Normalised
-    requires { ⌜ Given (HoldBoth (now s) (now p) l (now t) (now q) k) × Known (HoldBoth (now s) (now p) l (now t) (now q) k) (Ended (now keys) (now first) (now high) (now low) (now holders) c (l .count) (l .count + k .count)) × (2048 ≡ length (now keys)) × (2048 ≡ length (now first)) × (2048 ≡ length (now high)) × (2048 ≡ length (now low)) × (2048 ≡ length (now holders)) ⌝ }
+    requires { ⌜ Given (HoldBoth (now s) (now p) l (now t) (now q) k) × Known (HoldBoth (now s) (now p) l (now t) (now q) k) (Ended (now keys) (now first) (now high) (now low) (now holders) c (l .count) (l .count + k .count)) × (rowLimit ≡ length (now keys)) × (rowLimit ≡ length (now first)) × (rowLimit ≡ length (now high)) × (rowLimit ≡ length (now low)) × (rowLimit ≡ length (now holders)) ⌝ }
     ensures { λ r. ⌜ Joins (HoldBoth (now (s .entry)) (now (p .entry)) l (now (t .entry)) (now (q .entry)) k) (now (out .entry)) r (now (out .exit)) ⌝ }
 {
-    let mut order = [0u16; 2048];
-    let mut place = [0u16; 2048];
+    let mut order = [0u16; ROW_LIMIT];
+    let mut place = [0u16; ROW_LIMIT];
     let total = l.count + k.count;
     tables::order::order_rows(keys, c, high, low, &mut order);
     tables::order::place_rows(&order, c, first, total, &mut place);
@@ -149,18 +153,18 @@ fn join_chains(
     t: &[u8],
     q: &[u8],
     k: Layout,
-    keys: &[u16; 2048],
-    first: &[u16; 2048],
+    keys: &[u16; ROW_LIMIT],
+    first: &[u16; ROW_LIMIT],
     c: usize,
-    high: &[u64; 2048],
-    low: &[u64; 2048],
-    holders: &[u16; 2048],
+    high: &[u64; ROW_LIMIT],
+    low: &[u64; ROW_LIMIT],
+    holders: &[u16; ROW_LIMIT],
     out: &mut [u8],
 ) -> Normalised
-    requires { ⌜ Given (HoldBoth (now s) (now p) l (now t) (now q) k) × Known (HoldBoth (now s) (now p) l (now t) (now q) k) (Resolved (now keys) (now first) (now high) (now low) (now holders) c (l .count) (l .count + k .count)) × (2048 ≡ length (now keys)) × (2048 ≡ length (now first)) × (2048 ≡ length (now high)) × (2048 ≡ length (now low)) × (2048 ≡ length (now holders)) ⌝ }
+    requires { ⌜ Given (HoldBoth (now s) (now p) l (now t) (now q) k) × Known (HoldBoth (now s) (now p) l (now t) (now q) k) (Resolved (now keys) (now first) (now high) (now low) (now holders) c (l .count) (l .count + k .count)) × (rowLimit ≡ length (now keys)) × (rowLimit ≡ length (now first)) × (rowLimit ≡ length (now high)) × (rowLimit ≡ length (now low)) × (rowLimit ≡ length (now holders)) ⌝ }
     ensures { λ r. ⌜ Joins (HoldBoth (now (s .entry)) (now (p .entry)) l (now (t .entry)) (now (q .entry)) k) (now (out .entry)) r (now (out .exit)) ⌝ }
 {
-    let mut up = [0u16; 2048];
+    let mut up = [0u16; ROW_LIMIT];
     let n = l.count;
     let total = n + k.count;
     rows::note_up(s, l, t, k, first, holders, &mut up);
@@ -179,19 +183,19 @@ fn join_descriptors(
     t: &[u8],
     q: &[u8],
     k: Layout,
-    keys: &[u16; 2048],
-    first: &[u16; 2048],
+    keys: &[u16; ROW_LIMIT],
+    first: &[u16; ROW_LIMIT],
     c: usize,
-    mates: &[u16; 1024],
-    high: &[u64; 2048],
-    low: &[u64; 2048],
+    mates: &[u16; ENTRY_LIMIT],
+    high: &[u64; ROW_LIMIT],
+    low: &[u64; ROW_LIMIT],
     out: &mut [u8],
 ) -> Normalised
-    requires { ⌜ Given (HoldBoth (now s) (now p) l (now t) (now q) k) × Known (HoldBoth (now s) (now p) l (now t) (now q) k) (Numbered (now keys) (now first) (now mates) (now high) (now low) c (l .count) (l .count + k .count)) × (2048 ≡ length (now keys)) × (2048 ≡ length (now first)) × (1024 ≡ length (now mates)) × (2048 ≡ length (now high)) × (2048 ≡ length (now low)) ⌝ }
+    requires { ⌜ Given (HoldBoth (now s) (now p) l (now t) (now q) k) × Known (HoldBoth (now s) (now p) l (now t) (now q) k) (Numbered (now keys) (now first) (now mates) (now high) (now low) c (l .count) (l .count + k .count)) × (rowLimit ≡ length (now keys)) × (rowLimit ≡ length (now first)) × (entryLimit ≡ length (now mates)) × (rowLimit ≡ length (now high)) × (rowLimit ≡ length (now low)) ⌝ }
     ensures { λ r. ⌜ Joins (HoldBoth (now (s .entry)) (now (p .entry)) l (now (t .entry)) (now (q .entry)) k) (now (out .entry)) r (now (out .exit)) ⌝ }
 {
-    let mut own = [0u32; 2048];
-    let mut holders = [0u16; 2048];
+    let mut own = [0u32; ROW_LIMIT];
+    let mut holders = [0u16; ROW_LIMIT];
     let n = l.count;
     let total = n + k.count;
     note_descriptors(s, p, l, t, q, k, &mut own);
@@ -211,15 +215,15 @@ fn join_numbers(
     t: &[u8],
     q: &[u8],
     k: Layout,
-    keys: &[u16; 2048],
-    first: &[u16; 2048],
+    keys: &[u16; ROW_LIMIT],
+    first: &[u16; ROW_LIMIT],
     c: usize,
-    mates: &[u16; 1024],
-    high: &mut [u64; 2048],
-    low: &mut [u64; 2048],
+    mates: &[u16; ENTRY_LIMIT],
+    high: &mut [u64; ROW_LIMIT],
+    low: &mut [u64; ROW_LIMIT],
     out: &mut [u8],
 ) -> Normalised
-    requires { ⌜ Given (HoldBoth (now s) (now p) l (now t) (now q) k) × Known (HoldBoth (now s) (now p) l (now t) (now q) k) (Mated (now keys) (now first) (now mates) c (l .count) (l .count + k .count)) × Known (HoldBoth (now s) (now p) l (now t) (now q) k) (Iids (now high) (now low) (l .count + k .count)) × (2048 ≡ length (now keys)) × (2048 ≡ length (now first)) × (1024 ≡ length (now mates)) × (2048 ≡ length (now high)) × (2048 ≡ length (now low)) ⌝ }
+    requires { ⌜ Given (HoldBoth (now s) (now p) l (now t) (now q) k) × Known (HoldBoth (now s) (now p) l (now t) (now q) k) (Mated (now keys) (now first) (now mates) c (l .count) (l .count + k .count)) × Known (HoldBoth (now s) (now p) l (now t) (now q) k) (Iids (now high) (now low) (l .count + k .count)) × (rowLimit ≡ length (now keys)) × (rowLimit ≡ length (now first)) × (entryLimit ≡ length (now mates)) × (rowLimit ≡ length (now high)) × (rowLimit ≡ length (now low)) ⌝ }
     ensures { λ r. ⌜ Joins (HoldBoth (now (s .entry)) (now (p .entry)) l (now (t .entry)) (now (q .entry)) k) (now (out .entry)) r (now (out .exit)) ⌝ }
 {
     let n = l.count;
@@ -244,17 +248,17 @@ fn join_iids(
     t: &[u8],
     q: &[u8],
     k: Layout,
-    keys: &[u16; 2048],
-    first: &[u16; 2048],
+    keys: &[u16; ROW_LIMIT],
+    first: &[u16; ROW_LIMIT],
     c: usize,
-    mates: &[u16; 1024],
+    mates: &[u16; ENTRY_LIMIT],
     out: &mut [u8],
 ) -> Normalised
-    requires { ⌜ Given (HoldBoth (now s) (now p) l (now t) (now q) k) × Known (HoldBoth (now s) (now p) l (now t) (now q) k) (Mated (now keys) (now first) (now mates) c (l .count) (l .count + k .count)) × (2048 ≡ length (now keys)) × (2048 ≡ length (now first)) × (1024 ≡ length (now mates)) ⌝ }
+    requires { ⌜ Given (HoldBoth (now s) (now p) l (now t) (now q) k) × Known (HoldBoth (now s) (now p) l (now t) (now q) k) (Mated (now keys) (now first) (now mates) c (l .count) (l .count + k .count)) × (rowLimit ≡ length (now keys)) × (rowLimit ≡ length (now first)) × (entryLimit ≡ length (now mates)) ⌝ }
     ensures { λ r. ⌜ Joins (HoldBoth (now (s .entry)) (now (p .entry)) l (now (t .entry)) (now (q .entry)) k) (now (out .entry)) r (now (out .exit)) ⌝ }
 {
-    let mut high = [0u64; 2048];
-    let mut low = [0u64; 2048];
+    let mut high = [0u64; ROW_LIMIT];
+    let mut low = [0u64; ROW_LIMIT];
     note_numbers(s, p, l, t, q, k, &mut high, &mut low);
     join_numbers(
         s,
@@ -281,15 +285,15 @@ fn join_mates(
     t: &[u8],
     q: &[u8],
     k: Layout,
-    keys: &[u16; 2048],
-    first: &[u16; 2048],
+    keys: &[u16; ROW_LIMIT],
+    first: &[u16; ROW_LIMIT],
     c: usize,
     out: &mut [u8],
 ) -> Normalised
-    requires { ⌜ Given (HoldBoth (now s) (now p) l (now t) (now q) k) × Known (HoldBoth (now s) (now p) l (now t) (now q) k) (Keyed (now keys) (now first) c (l .count + k .count)) × (2048 ≡ length (now keys)) × (2048 ≡ length (now first)) ⌝ }
+    requires { ⌜ Given (HoldBoth (now s) (now p) l (now t) (now q) k) × Known (HoldBoth (now s) (now p) l (now t) (now q) k) (Keyed (now keys) (now first) c (l .count + k .count)) × (rowLimit ≡ length (now keys)) × (rowLimit ≡ length (now first)) ⌝ }
     ensures { λ r. ⌜ Joins (HoldBoth (now (s .entry)) (now (p .entry)) l (now (t .entry)) (now (q .entry)) k) (now (out .entry)) r (now (out .exit)) ⌝ }
 {
-    let mut mates = [0u16; 1024];
+    let mut mates = [0u16; ENTRY_LIMIT];
     let n = l.count;
     let total = n + k.count;
     tables::mates::note_mates(first, n, total, &mut mates);
@@ -309,8 +313,8 @@ fn join_keys(
     requires { ⌜ Given (HoldBoth (now s) (now p) l (now t) (now q) k) ⌝ }
     ensures { λ r. ⌜ Joins (HoldBoth (now (s .entry)) (now (p .entry)) l (now (t .entry)) (now (q .entry)) k) (now (out .entry)) r (now (out .exit)) ⌝ }
 {
-    let mut keys = [0u16; 2048];
-    let mut first = [0u16; 2048];
+    let mut keys = [0u16; ROW_LIMIT];
+    let mut first = [0u16; ROW_LIMIT];
     let c = sort_files(s, p, l, t, q, k, &mut keys, &mut first);
     join_mates(s, p, l, t, q, k, &keys, &first, c, out)
 }

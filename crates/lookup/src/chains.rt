@@ -1,5 +1,6 @@
 // The chains of an accepted file: an interface itself, then its parents upward.
 ghost use Prim.Native.Nat.{_≤_};
+ghost use Rattle.number.specs.Limits.{fileLimit};
 ghost use Rattle.reader.specs.Layout.{Lies};
 ghost use Rattle.lookup.specs.Chain.{chainAbove};
 ghost use Rattle.lookup.specs.Method.{slotOf};
@@ -11,7 +12,7 @@ use reader::Layout;
 // The slot of the first method of an interface whose parent has the index i, 0 being none: the methods of all its ancestors.
 pub fn slot_base(file: &[u8], pool: &[u8], l: Layout, i: usize) -> Slot
     requires { ⌜ Lies (now file) l × PoolOf (now file) l (now pool) × (i ≤ l .count) ⌝ }
-    ensures { λ r. ⌜ Answers (now (file .entry)) l (λ es. slotAs (slotOf (chainAbove es i) 0)) r × (slotNumber r ≤ 1048576) ⌝ }
+    ensures { λ r. ⌜ Answers (now (file .entry)) l (λ es. slotAs (slotOf (chainAbove es i) 0)) r × (slotNumber r ≤ fileLimit) ⌝ }
 {
     let mut left = l.count;
     let mut methods: usize = 0;

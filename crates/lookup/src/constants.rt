@@ -2,6 +2,7 @@
 ghost use mathlib.Core.Path.{_≡_};
 ghost use Prim.Native.Nat.{_≤_};
 ghost use lib.ListN.{length};
+ghost use Rattle.number.specs.Limits.{fileLimit};
 ghost use Rattle.reader.specs.Values.{constantsOf};
 ghost use Rattle.reader.specs.Records.{ShowsConstant};
 ghost use Rattle.reader.specs.Layout.{Lies, Stands, Tells, Rows};
@@ -43,7 +44,7 @@ fn to_i32(x: u32) -> i32
 
 // The value of the constant at `at`.
 fn value_of(pool: &[u8], at: usize) -> Value
-    requires { ⌜ Stands (ShowsConstant (now pool) at) × (length (now pool) ≤ 1048576) ⌝ }
+    requires { ⌜ Stands (ShowsConstant (now pool) at) × (length (now pool) ≤ fileLimit) ⌝ }
     ensures { λ r. ⌜ Tells (ShowsConstant (now (pool .entry)) at) valueOf r ⌝ }
 {
     match reader::record::constant_type(pool, at) {
@@ -56,7 +57,7 @@ fn value_of(pool: &[u8], at: usize) -> Value
 
 // Whether the constant at `at` has that name.
 fn is_called(pool: &[u8], at: usize, name: &[u8]) -> bool
-    requires { ⌜ Stands (NamedConstant (now pool) at) × (length (now pool) ≤ 1048576) ⌝ }
+    requires { ⌜ Stands (NamedConstant (now pool) at) × (length (now pool) ≤ fileLimit) ⌝ }
     ensures { λ r. ⌜ Tells (NamedConstant (now (pool .entry)) at) (isCalled (now (name .entry))) r ⌝ }
 {
     key::same_word(pool, reader::record::constant_name(pool, at), name)
@@ -64,7 +65,7 @@ fn is_called(pool: &[u8], at: usize, name: &[u8]) -> bool
 
 // The value of the first of n constants from `at` on that has that name.
 fn own_constant(pool: &[u8], at: usize, n: usize, name: &[u8]) -> OwnConstant
-    requires { ⌜ Stands (Rows (NamedConstant (now pool)) n at) × (length (now pool) ≤ 1048576) ⌝ }
+    requires { ⌜ Stands (Rows (NamedConstant (now pool)) n at) × (length (now pool) ≤ fileLimit) ⌝ }
     ensures { λ r. ⌜ Tells (Rows (NamedConstant (now (pool .entry))) n at) (λ ks. ownAs (firstOf (isCalled (now (name .entry))) ks)) r ⌝ }
 {
     let mut k: usize = 0;
@@ -81,7 +82,7 @@ fn own_constant(pool: &[u8], at: usize, n: usize, name: &[u8]) -> OwnConstant
 
 // The same, of the descriptor at `at`.
 fn held_by(pool: &[u8], at: usize, name: &[u8]) -> OwnConstant
-    requires { ⌜ Stands (NamedDescriptor (now pool) at) × (length (now pool) ≤ 1048576) ⌝ }
+    requires { ⌜ Stands (NamedDescriptor (now pool) at) × (length (now pool) ≤ fileLimit) ⌝ }
     ensures { λ r. ⌜ Tells (NamedDescriptor (now (pool .entry)) at) (λ d. ownAs (firstOf (isCalled (now (name .entry))) (constantsOf d))) r ⌝ }
 {
     let n = reader::record::method_count(pool, at);

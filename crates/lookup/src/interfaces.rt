@@ -2,6 +2,7 @@
 ghost use mathlib.Core.Path.{_≡_};
 ghost use Prim.Native.Nat.{_<_, _≤_};
 ghost use lib.ListN.{length, getD};
+ghost use Rattle.number.specs.Limits.{fileLimit};
 ghost use Rattle.number.specs.Number.{be};
 ghost use Rattle.key.specs.Word.{sameWord};
 ghost use Rattle.key.specs.Key.{spaceAt};
@@ -83,7 +84,7 @@ fn bad_space(space: &[u8]) -> bool
 
 // Whether the namespace that the pool pointer v leads to has the bytes of `space`.
 fn same_space(pool: &[u8], v: usize, space: &[u8]) -> bool
-    requires { ⌜ Spaced (now pool) v × (length (now pool) ≤ 1048576) ⌝ }
+    requires { ⌜ Spaced (now pool) v × (length (now pool) ≤ fileLimit) ⌝ }
     ensures { λ r. ⌜ r ≡ sameWord (spaceAt (now (pool .entry)) v) (now (space .entry)) ⌝ }
 {
     if v == 0 {

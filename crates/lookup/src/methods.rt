@@ -2,6 +2,7 @@
 ghost use mathlib.Core.Path.{_≡_};
 ghost use Prim.Native.Nat.{_+_, _≤_, _<_};
 ghost use lib.ListN.{length};
+ghost use Rattle.number.specs.Limits.{fileLimit, ownLimit};
 ghost use Rattle.reader.specs.Layout.{Lies, Stands, Tells, Rows};
 ghost use Rattle.lookup.specs.Chain.{chainOf, chainAbove, found, firstPosition};
 ghost use Rattle.lookup.specs.Method.{isKind, isNamed, slotOf, methodAt, methodNamed, methodInSlot};
@@ -30,7 +31,7 @@ fn is_kind(flags: u8, kind: Kind) -> bool
 
 // Whether the method at `at` has that name and kind.
 fn is_named(pool: &[u8], at: usize, name: &[u8], kind: Kind) -> bool
-    requires { ⌜ Stands (NamedMethod (now pool) at) × (length (now pool) ≤ 1048576) ⌝ }
+    requires { ⌜ Stands (NamedMethod (now pool) at) × (length (now pool) ≤ fileLimit) ⌝ }
     ensures { λ r. ⌜ Tells (NamedMethod (now (pool .entry)) at) (isNamed (now (name .entry)) kind) r ⌝ }
 {
     if is_kind(reader::record::method_flags(pool, at), kind) {
@@ -41,7 +42,7 @@ fn is_named(pool: &[u8], at: usize, name: &[u8], kind: Kind) -> bool
 
 // The position of the first of n methods from `at` on that has that name and kind; n where there is none.
 fn own_position(pool: &[u8], at: usize, n: usize, name: &[u8], kind: Kind) -> usize
-    requires { ⌜ Stands (Rows (NamedMethod (now pool)) n at) × (length (now pool) ≤ 1048576) ⌝ }
+    requires { ⌜ Stands (Rows (NamedMethod (now pool)) n at) × (length (now pool) ≤ fileLimit) ⌝ }
     ensures { λ r. ⌜ Tells (Rows (NamedMethod (now (pool .entry))) n at) (firstPosition (isNamed (now (name .entry)) kind) 0) r ⌝ }
 {
     let mut k: usize = 0;
@@ -76,7 +77,7 @@ fn found_at(
     up: usize,
     position: usize,
 ) -> MethodAnswer
-    requires { ⌜ Lies (now file) l × PoolOf (now file) l (now pool) × (up ≤ l .count) × (position ≤ 1024) ⌝ }
+    requires { ⌜ Lies (now file) l × PoolOf (now file) l (now pool) × (up ≤ l .count) × (position ≤ ownLimit) ⌝ }
     ensures { λ r. ⌜ Answers (now (file .entry)) l (λ es. soughtMethod (found (methodAt owner (chainAbove es up) position))) r ⌝ }
 {
     let base = crate::chains::slot_base(file, pool, l, up);

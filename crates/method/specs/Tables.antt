@@ -4,6 +4,7 @@ use mathlib.Core.Path.{_≡_}
 use mathlib.Core.List.{List}
 use Prim.Native.Nat.{ℕ, _-_, _<_}
 use lib.ListN.{length, getD, take}
+use Rattle.number.specs.Limits.{ownLimit}
 use Rattle.reading.specs.Got.{Got, got, many, stepOf}
 use Rattle.reading.specs.declared.Context.{Context}
 use Rattle.reading.specs.declared.Step.{Step}
@@ -28,5 +29,5 @@ pub record Kept (s flags names : List ℕ) (ms : List (Method ℕ)) (n : ℕ) : 
 pub record Noted (c : Context) (s : List ℕ) (n at : ℕ) (r : Step) (flags names : List ℕ) : Type 0 where
   pub step : r ≡ stepOf (many (readMethod c s) n at)
   pub kept : (ms : List (Method ℕ)) (e : ℕ) → many (readMethod c s) n at ≡ got ms e → Kept s flags names ms n
-  pub flags-long : 1024 ≡ length flags
-  pub names-long : 1024 ≡ length names
+  pub flags-long : ownLimit ≡ length flags
+  pub names-long : ownLimit ≡ length names

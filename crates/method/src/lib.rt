@@ -3,6 +3,7 @@ ghost use mathlib.Core.Bool.{true, false};
 ghost use mathlib.Core.Path.{_≡_};
 ghost use Prim.Native.Nat.{_+_, _≤_};
 ghost use lib.ListN.{length, take};
+ghost use Rattle.number.specs.Limits.{fileLimit, ownLimit};
 ghost use Rattle.reading.specs.Got.{stepOf, many, Accepted};
 ghost use Rattle.method.specs.Parameter.{readParam};
 ghost use Rattle.method.specs.Numbers.{wrongResult};
@@ -10,6 +11,7 @@ ghost use Rattle.method.specs.Method.{readSignature, readMethod};
 ghost use Rattle.method.specs.Walk.{ruleOf};
 ghost use Rattle.method.specs.Tables.{Noted};
 use crate::walk::Fine;
+use number::OWN_LIMIT;
 use reading::Context;
 use reading::Refusal;
 use reading::Step;
@@ -64,7 +66,7 @@ fn rule_signature(
     end: usize,
     table: &[u8; 256],
 ) -> Step
-    requires { ⌜ Accepted (many (readParam false c (now pool)) n at) × Accepted (readParam true c (now pool) mid) × (c .base + length (now pool) ≤ 1048576) × (first ≤ length (now pool)) × (n ≤ 255) × (256 ≡ length (now table)) ⌝ }
+    requires { ⌜ Accepted (many (readParam false c (now pool)) n at) × Accepted (readParam true c (now pool) mid) × (c .base + length (now pool) ≤ fileLimit) × (first ≤ length (now pool)) × (n ≤ 255) × (256 ≡ length (now table)) ⌝ }
     ensures { λ r. ⌜ r ≡ stepOf (ruleOf c first flags (take n (now (table .entry))) (many (readParam false c (now (pool .entry))) n at) (readParam true c (now (pool .entry)) mid) end) ⌝ }
 {
     let base = c.base;
@@ -92,7 +94,7 @@ fn rule_signature(
 
 // The argument count at `at`, the arguments and the result.
 fn read_signature(pool: &[u8], c: Context, first: usize, flags: u8, at: usize) -> Step
-    requires { ⌜ (at ≤ length (now pool)) × (c .base + length (now pool) ≤ 1048576) × (first ≤ length (now pool)) ⌝ }
+    requires { ⌜ (at ≤ length (now pool)) × (c .base + length (now pool) ≤ fileLimit) × (first ≤ length (now pool)) ⌝ }
     ensures { λ r. ⌜ r ≡ stepOf (readSignature c (now (pool .entry)) first flags at) ⌝ }
 {
     let base = c.base;
@@ -117,7 +119,7 @@ fn read_signature(pool: &[u8], c: Context, first: usize, flags: u8, at: usize) -
 
 // A method.
 pub fn read_method(pool: &[u8], c: Context, at: usize) -> Step
-    requires { ⌜ (at ≤ length (now pool)) × (c .base + length (now pool) ≤ 1048576) ⌝ }
+    requires { ⌜ (at ≤ length (now pool)) × (c .base + length (now pool) ≤ fileLimit) ⌝ }
     ensures { λ r. ⌜ r ≡ stepOf (readMethod c (now (pool .entry)) at) ⌝ }
 {
     let base = c.base;
@@ -147,10 +149,10 @@ pub fn read_methods(
     c: Context,
     n: usize,
     at: usize,
-    flags: &mut [u8; 1024],
-    names: &mut [u32; 1024],
+    flags: &mut [u8; OWN_LIMIT],
+    names: &mut [u32; OWN_LIMIT],
 ) -> Step
-    requires { ⌜ (at ≤ length (now pool)) × (c .base + length (now pool) ≤ 1048576) × (n ≤ 1024) × (1024 ≡ length (now flags)) × (1024 ≡ length (now names)) ⌝ }
+    requires { ⌜ (at ≤ length (now pool)) × (c .base + length (now pool) ≤ fileLimit) × (n ≤ ownLimit) × (ownLimit ≡ length (now flags)) × (ownLimit ≡ length (now names)) ⌝ }
     ensures { λ r. ⌜ Noted c (now (pool .entry)) n at r (now (flags .exit)) (now (names .exit)) ⌝ }
 {
     let mut k: usize = 0;

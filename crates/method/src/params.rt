@@ -3,6 +3,7 @@ ghost use mathlib.Core.Bool.{false};
 ghost use mathlib.Core.Path.{_≡_};
 ghost use Prim.Native.Nat.{_+_, _≤_};
 ghost use lib.ListN.{length};
+ghost use Rattle.number.specs.Limits.{fileLimit};
 ghost use Rattle.reading.specs.Got.{stepOf, many};
 ghost use Rattle.method.specs.Parameter.{reservedParam, wrongParam, readParam};
 ghost use Rattle.method.specs.Tables.{Listed};
@@ -42,7 +43,7 @@ fn wrong_param(result: bool, f: u8) -> bool
 
 // An argument or, where `result` says so, a result.
 pub fn read_param(pool: &[u8], c: Context, result: bool, at: usize) -> Step
-    requires { ⌜ (at ≤ length (now pool)) × (c .base + length (now pool) ≤ 1048576) ⌝ }
+    requires { ⌜ (at ≤ length (now pool)) × (c .base + length (now pool) ≤ fileLimit) ⌝ }
     ensures { λ r. ⌜ r ≡ stepOf (readParam result c (now (pool .entry)) at) ⌝ }
 {
     let base = c.base;
@@ -75,7 +76,7 @@ pub fn read_param(pool: &[u8], c: Context, result: bool, at: usize) -> Step
 
 // n arguments; the table gets the prefixes of their types.
 pub fn read_arguments(pool: &[u8], c: Context, n: usize, at: usize, table: &mut [u8; 256]) -> Step
-    requires { ⌜ (at ≤ length (now pool)) × (c .base + length (now pool) ≤ 1048576) × (n ≤ 255) × (256 ≡ length (now table)) ⌝ }
+    requires { ⌜ (at ≤ length (now pool)) × (c .base + length (now pool) ≤ fileLimit) × (n ≤ 255) × (256 ≡ length (now table)) ⌝ }
     ensures { λ r. ⌜ Listed (many (readParam false c (now (pool .entry))) n at) n r (now (table .exit)) ⌝ }
 {
     let mut k: usize = 0;

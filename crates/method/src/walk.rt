@@ -3,6 +3,7 @@ ghost use mathlib.Core.Bool.{false};
 ghost use mathlib.Core.Path.{_≡_};
 ghost use Prim.Native.Nat.{_+_, _≤_};
 ghost use lib.ListN.{length, take};
+ghost use Rattle.number.specs.Limits.{fileLimit};
 ghost use Rattle.reading.specs.Got.{many, Accepted};
 ghost use Rattle.types.specs.Types.{readType};
 ghost use Rattle.method.specs.Parameter.{readParam};
@@ -67,7 +68,7 @@ fn type_numbers(
     count: usize,
     table: &[u8; 256],
 ) -> Fine
-    requires { ⌜ Accepted (readType left c (now pool) at) × (at ≤ length (now pool)) × (length (now pool) ≤ 1048576) × (count ≤ 256) × (256 ≡ length (now table)) ⌝ }
+    requires { ⌜ Accepted (readType left c (now pool) at) × (at ≤ length (now pool)) × (length (now pool) ≤ fileLimit) × (count ≤ 256) × (256 ≡ length (now table)) ⌝ }
     ensures { λ r. ⌜ r ≡ fineOf (take count (now (table .entry))) (readType left c (now (pool .entry)) at) ⌝ }
 {
     let minor = c.minor;
@@ -104,7 +105,7 @@ fn type_numbers(
 
 // The same of an argument or a result. The common types have no numbers, and are told here, where no function calls itself.
 pub fn outer_numbers(pool: &[u8], c: Context, at: usize, count: usize, table: &[u8; 256]) -> Fine
-    requires { ⌜ Accepted (readType 8 c (now pool) at) × (at ≤ length (now pool)) × (length (now pool) ≤ 1048576) × (count ≤ 256) × (256 ≡ length (now table)) ⌝ }
+    requires { ⌜ Accepted (readType 8 c (now pool) at) × (at ≤ length (now pool)) × (length (now pool) ≤ fileLimit) × (count ≤ 256) × (256 ≡ length (now table)) ⌝ }
     ensures { λ r. ⌜ r ≡ fineOf (take count (now (table .entry))) (readType 8 c (now (pool .entry)) at) ⌝ }
 {
     let minor = c.minor;
@@ -119,7 +120,7 @@ pub fn outer_numbers(pool: &[u8], c: Context, at: usize, count: usize, table: &[
 
 // n arguments that were read from `at` on.
 pub fn wrong_arguments(pool: &[u8], c: Context, n: usize, at: usize, table: &[u8; 256]) -> bool
-    requires { ⌜ Accepted (many (readParam false c (now pool)) n at) × (length (now pool) ≤ 1048576) × (n ≤ 256) × (256 ≡ length (now table)) ⌝ }
+    requires { ⌜ Accepted (many (readParam false c (now pool)) n at) × (length (now pool) ≤ fileLimit) × (n ≤ 256) × (256 ≡ length (now table)) ⌝ }
     ensures { λ r. ⌜ r ≡ brokenOf (take n (now (table .entry))) (many (readParam false c (now (pool .entry))) n at) ⌝ }
 {
     let mut k: usize = 0;

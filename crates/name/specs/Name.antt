@@ -4,6 +4,7 @@ use mathlib.Core.Bool.{Bool, true, false}
 use mathlib.Core.List.{List, [], _∷_}
 use Prim.Native.Nat.{ℕ, _+_, _-_}
 use lib.ListN.{length, getD}
+use Rattle.number.specs.Limits.{nameLimit}
 use Rattle.number.specs.Choice.{if_then_else_, _<?_, _≤?_, _=?_}
 use Rattle.reading.specs.Got.{Got, got, bad, next, field}
 use Rattle.reading.specs.declared.Context.{Context}
@@ -28,12 +29,12 @@ letters (b ∷ w) = if letter b then letters w else false
 unfoldable pub isIdentifier : List ℕ → Bool
 isIdentifier w =
     if length w =? 0 then false else
-    if 255 <? length w then false else
+    if nameLimit <? length w then false else
     letters w
 
 -- how far the end of an identifier at p is looked for: 256 bytes, or up to the end of s
 unfoldable pub searchEnd : List ℕ → ℕ → ℕ
-searchEnd s p = if 256 <? length s - p then p + 256 else length s
+searchEnd s p = if (nameLimit + 1) <? length s - p then p + (nameLimit + 1) else length s
 
 -- byte i of s is no letter
 unfoldable pub offLetter : List ℕ → ℕ → Bool

@@ -2,10 +2,12 @@
 ghost use mathlib.Core.Path.{_≡_};
 ghost use Prim.Native.Nat.{_+_, _-_, _≤_};
 ghost use lib.ListN.{length};
+ghost use Rattle.number.specs.Limits.{fileLimit};
 ghost use Rattle.number.specs.Scan.{scan};
 ghost use Rattle.number.specs.Part.{part};
 ghost use Rattle.reading.specs.Got.{stepOf};
 ghost use Rattle.name.specs.Name.{letter, offLetter, isIdentifier, searchEnd, readIdentifier, follow, followSpace, readName};
+use number::NAME_LIMIT;
 use reading::Context;
 use reading::Refusal;
 use reading::Step;
@@ -46,7 +48,7 @@ pub fn is_identifier(s: &[u8], at: usize, end: usize) -> bool
     if end - at == 0 {
         return false;
     }
-    if 255 < end - at {
+    if NAME_LIMIT < end - at {
         return false;
     }
     let mut i = at;
@@ -131,7 +133,7 @@ pub fn follow_space(pool: &[u8], place: usize, q: usize) -> Step
 
 // The name pointer at `at`, and the identifier that it leads to.
 pub fn read_name(pool: &[u8], c: Context, at: usize) -> Step
-    requires { ⌜ (at ≤ length (now pool)) × (c .base + length (now pool) ≤ 1048576) ⌝ }
+    requires { ⌜ (at ≤ length (now pool)) × (c .base + length (now pool) ≤ fileLimit) ⌝ }
     ensures { λ r. ⌜ r ≡ stepOf (readName c (now (pool .entry)) at) ⌝ }
 {
     let base = c.base;

@@ -4,6 +4,7 @@ use mathlib.Core.Path.{_≡_}
 use mathlib.Core.List.{List}
 use Prim.Native.Nat.{ℕ, _+_, _*_, _^_, _<_}
 use lib.ListN.{length, getD, drop}
+use Rattle.number.specs.Limits.{entryWidth, rowLimit}
 use Rattle.number.specs.Number.{be}
 use Rattle.key.specs.Key.{keySpace, keyName}
 use Rattle.reader.specs.declared.Layout.{Layout}
@@ -16,7 +17,7 @@ use Rattle.tables.specs.Tables.{cell}
 
 -- u is t with n places from `from` on filled: the k-th of them with a value of which P k holds
 pub record Noted (P : ℕ → ℕ → Type 0) (t u : List ℕ) (from n : ℕ) : Type 0 where
-  pub long : 2048 ≡ length u
+  pub long : rowLimit ≡ length u
   pub kept : (k : ℕ) → k < from → getD u k 0 ≡ getD t k 0
   pub each : (k : ℕ) → k < n → P k (getD u (from + k) 0)
 
@@ -34,11 +35,11 @@ pub record OwnOf (s : List ℕ) (l : Layout) (i v : ℕ) : Type 0 where
 
 -- v is the number of the first eight bytes of its IID
 pub record HighOf (s : List ℕ) (l : Layout) (i v : ℕ) : Type 0 where
-  pub value : v ≡ be 8 s (l .directory + 28 * i)
+  pub value : v ≡ be 8 s (l .directory + entryWidth * i)
 
 -- of the last eight
 pub record LowOf (s : List ℕ) (l : Layout) (i v : ℕ) : Type 0 where
-  pub value : v ≡ be 8 s (l .directory + 28 * i + 8)
+  pub value : v ≡ be 8 s (l .directory + entryWidth * i + 8)
   pub small : v < 256 ^ 8
 
 -- the row above i, and 1, where tables tell the first row of each key and which row has the descriptor of i

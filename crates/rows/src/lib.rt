@@ -3,12 +3,14 @@ ghost use mathlib.Core.Path.{_≡_};
 ghost use mathlib.Core.List.{List};
 ghost use Prim.Native.Nat.{ℕ, _+_, _≤_, _<_};
 ghost use lib.ListN.{length};
+ghost use Rattle.number.specs.Limits.{rowLimit, lastRow};
 ghost use Rattle.key.specs.First.{Filled};
 ghost use Rattle.reader.specs.Values.{Entry, aboveIn};
 ghost use Rattle.reader.specs.Layout.{LaidOut, Lies};
 ghost use Rattle.rows.specs.Rows.{aboveRow};
 ghost use Rattle.tables.specs.Cells.{AtMost};
 ghost use Rattle.rows.specs.Notes.{Noted, NameOf, SpaceOf, OwnOf, HighOf, LowOf, upRow};
+use number::ROW_LIMIT;
 use reader::Layout;
 use tables::index;
 
@@ -41,10 +43,10 @@ pub fn note_pointers(
     file: &[u8],
     l: Layout,
     from: usize,
-    spaces: &mut [u32; 2048],
-    names: &mut [u32; 2048],
+    spaces: &mut [u32; ROW_LIMIT],
+    names: &mut [u32; ROW_LIMIT],
 )
-    requires { ⌜ Lies (now file) l × (from + l .count ≤ 2048) × (2048 ≡ length (now spaces)) × (2048 ≡ length (now names)) ⌝ }
+    requires { ⌜ Lies (now file) l × (from + l .count ≤ rowLimit) × (rowLimit ≡ length (now spaces)) × (rowLimit ≡ length (now names)) ⌝ }
     ensures { λ r. ⌜ Noted (SpaceOf (now (file .entry)) l) (now (spaces .entry)) (now (spaces .exit)) from (l .count) × Noted (NameOf (now (file .entry)) l) (now (names .entry)) (now (names .exit)) from (l .count) ⌝ }
 {
     let count = l.count;
@@ -57,8 +59,8 @@ pub fn note_pointers(
 }
 
 // The pool pointers of their descriptors.
-pub fn note_own(file: &[u8], l: Layout, from: usize, own: &mut [u32; 2048])
-    requires { ⌜ Lies (now file) l × (from + l .count ≤ 2048) × (2048 ≡ length (now own)) ⌝ }
+pub fn note_own(file: &[u8], l: Layout, from: usize, own: &mut [u32; ROW_LIMIT])
+    requires { ⌜ Lies (now file) l × (from + l .count ≤ rowLimit) × (rowLimit ≡ length (now own)) ⌝ }
     ensures { λ r. ⌜ Noted (OwnOf (now (file .entry)) l) (now (own .entry)) (now (own .exit)) from (l .count) ⌝ }
 {
     let count = l.count;
@@ -88,8 +90,14 @@ fn low_of(file: &[u8], l: Layout, i: usize) -> u64
 }
 
 // Their IIDs.
-pub fn note_iids(file: &[u8], l: Layout, from: usize, high: &mut [u64; 2048], low: &mut [u64; 2048])
-    requires { ⌜ Lies (now file) l × (from + l .count ≤ 2048) × (2048 ≡ length (now high)) × (2048 ≡ length (now low)) ⌝ }
+pub fn note_iids(
+    file: &[u8],
+    l: Layout,
+    from: usize,
+    high: &mut [u64; ROW_LIMIT],
+    low: &mut [u64; ROW_LIMIT],
+)
+    requires { ⌜ Lies (now file) l × (from + l .count ≤ rowLimit) × (rowLimit ≡ length (now high)) × (rowLimit ≡ length (now low)) ⌝ }
     ensures { λ r. ⌜ Noted (HighOf (now (file .entry)) l) (now (high .entry)) (now (high .exit)) from (l .count) × Noted (LowOf (now (file .entry)) l) (now (low .entry)) (now (low .exit)) from (l .count) ⌝ }
 {
     let count = l.count;
@@ -136,11 +144,11 @@ fn up_of(
     l: Layout,
     second: &[u8],
     k: Layout,
-    firsts: &[u16; 2048],
-    holders: &[u16; 2048],
+    firsts: &[u16; ROW_LIMIT],
+    holders: &[u16; ROW_LIMIT],
     i: usize,
 ) -> u16
-    requires { ⌜ Lies (now first) l × Lies (now second) k × (i < l .count + k .count) × (2048 ≡ length (now firsts)) × (2048 ≡ length (now holders)) × AtMost (now firsts) (l .count + k .count) 2047 × AtMost (now holders) (l .count + k .count) (l .count + k .count) ⌝ }
+    requires { ⌜ Lies (now first) l × Lies (now second) k × (i < l .count + k .count) × (rowLimit ≡ length (now firsts)) × (rowLimit ≡ length (now holders)) × AtMost (now firsts) (l .count + k .count) lastRow × AtMost (now holders) (l .count + k .count) (l .count + k .count) ⌝ }
     ensures { λ r. ⌜ ((es fs : List (Entry ℕ)) → LaidOut (now (first .entry)) l es → LaidOut (now (second .entry)) k fs → r ≡ upRow (now (firsts .entry)) (now (holders .entry)) es fs i) ⌝ }
 {
     let h = index(holders[i]);
@@ -160,12 +168,12 @@ pub fn note_up(
     l: Layout,
     second: &[u8],
     k: Layout,
-    firsts: &[u16; 2048],
-    holders: &[u16; 2048],
-    up: &mut [u16; 2048],
+    firsts: &[u16; ROW_LIMIT],
+    holders: &[u16; ROW_LIMIT],
+    up: &mut [u16; ROW_LIMIT],
 )
-    requires { ⌜ Lies (now first) l × Lies (now second) k × (2048 ≡ length (now firsts)) × (2048 ≡ length (now holders)) × (2048 ≡ length (now up)) × AtMost (now firsts) (l .count + k .count) 2047 × AtMost (now holders) (l .count + k .count) (l .count + k .count) ⌝ }
-    ensures { λ r. ⌜ ((es fs : List (Entry ℕ)) → LaidOut (now (first .entry)) l es → LaidOut (now (second .entry)) k fs → Filled (now (up .exit)) (l .count + k .count) (upRow (now (firsts .entry)) (now (holders .entry)) es fs)) × (2048 ≡ length (now (up .exit))) ⌝ }
+    requires { ⌜ Lies (now first) l × Lies (now second) k × (rowLimit ≡ length (now firsts)) × (rowLimit ≡ length (now holders)) × (rowLimit ≡ length (now up)) × AtMost (now firsts) (l .count + k .count) lastRow × AtMost (now holders) (l .count + k .count) (l .count + k .count) ⌝ }
+    ensures { λ r. ⌜ ((es fs : List (Entry ℕ)) → LaidOut (now (first .entry)) l es → LaidOut (now (second .entry)) k fs → Filled (now (up .exit)) (l .count + k .count) (upRow (now (firsts .entry)) (now (holders .entry)) es fs)) × (rowLimit ≡ length (now (up .exit))) ⌝ }
 {
     let n = l.count;
     let m = k.count;

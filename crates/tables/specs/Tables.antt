@@ -5,15 +5,16 @@ use mathlib.Core.Logic.{_⊎_}
 use mathlib.Core.List.{List}
 use Prim.Native.Nat.{ℕ, suc, _+_, _*_, _^_, _≤_, _<_}
 use lib.ListN.{length, getD}
+use Rattle.number.specs.Limits.{entryLimit}
 use Rattle.key.specs.declared.Order.the-variants.{Before}
 use Rattle.key.specs.Key.{Key, compareKeys}
 use Rattle.key.specs.First.{firstSame}
 
 -- K tells the key of each row; of N rows the first n are those of the first file. Keys are unique in each file
 pub record TwoFiles (K : ℕ → Key) (n N : ℕ) : Type 0 where
-  pub few : n ≤ 1024
+  pub few : n ≤ entryLimit
   pub low : n ≤ N
-  pub high : N ≤ n + 1024
+  pub high : N ≤ n + entryLimit
   pub first : (i j : ℕ) → i < j → j < n → K i ≡ K j → ⊥
   pub second : (i j : ℕ) → n ≤ i → i < j → j < N → K i ≡ K j → ⊥
 

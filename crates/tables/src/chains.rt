@@ -2,15 +2,17 @@
 ghost use mathlib.Core.Path.{_≡_};
 ghost use Prim.Native.Nat.{_+_, _≤_, _<_};
 ghost use lib.ListN.{length};
+ghost use Rattle.number.specs.Limits.{rowLimit};
 ghost use Rattle.number.specs.Scan.{scan};
 ghost use Rattle.tables.specs.Joined.{endlessRow};
 ghost use Rattle.tables.specs.Tables.{cell};
 ghost use Rattle.tables.specs.Cells.{AtMost};
 use crate::index;
+use number::ROW_LIMIT;
 
 // Whether the chain of row i doesn't end.
-fn endless_row(up: &[u16; 2048], total: usize, i: usize) -> bool
-    requires { ⌜ (i < total) × (total ≤ 2048) × (2048 ≡ length (now up)) × AtMost (now up) total total ⌝ }
+fn endless_row(up: &[u16; ROW_LIMIT], total: usize, i: usize) -> bool
+    requires { ⌜ (i < total) × (total ≤ rowLimit) × (rowLimit ≡ length (now up)) × AtMost (now up) total total ⌝ }
     ensures { λ r. ⌜ r ≡ endlessRow (cell (now (up .entry))) total i ⌝ }
 {
     let mut left = total + 1;
@@ -26,8 +28,8 @@ fn endless_row(up: &[u16; 2048], total: usize, i: usize) -> bool
 }
 
 // The lowest of the first n rows whose chain doesn't end, or n.
-pub fn first_endless(up: &[u16; 2048], n: usize, total: usize) -> usize
-    requires { ⌜ (n ≤ total) × (total ≤ 2048) × (2048 ≡ length (now up)) × AtMost (now up) total total ⌝ }
+pub fn first_endless(up: &[u16; ROW_LIMIT], n: usize, total: usize) -> usize
+    requires { ⌜ (n ≤ total) × (total ≤ rowLimit) × (rowLimit ≡ length (now up)) × AtMost (now up) total total ⌝ }
     ensures { λ r. ⌜ r ≡ scan (endlessRow (cell (now (up .entry))) total) n 0 ⌝ }
 {
     let mut i: usize = 0;

@@ -2,16 +2,19 @@
 ghost use mathlib.Core.Path.{_≡_};
 ghost use Prim.Native.Nat.{ℕ, _+_, _≤_, _<_};
 ghost use lib.ListN.{length};
+ghost use Rattle.number.specs.Limits.{entryLimit, rowLimit};
 ghost use Rattle.key.specs.Key.{Key};
 ghost use Rattle.key.specs.First.{firstSame, Filled};
 ghost use Rattle.tables.specs.Joined.{holder};
 ghost use Rattle.tables.specs.Tables.{cell, Mates, TwoFiles};
 ghost use Rattle.tables.specs.Cells.{AtMost, nothing, mateNoted};
 use crate::index;
+use number::ENTRY_LIMIT;
+use number::ROW_LIMIT;
 
 // Row j of the second file into the table of mates, where the first file has its key.
-fn note_mate(first: &[u16; 2048], n: usize, j: usize, mates: &mut [u16; 1024])
-    requires { ⌜ (n ≤ 1024) × (j < 2048) × (2048 ≡ length (now first)) × (1024 ≡ length (now mates)) ⌝ }
+fn note_mate(first: &[u16; ROW_LIMIT], n: usize, j: usize, mates: &mut [u16; ENTRY_LIMIT])
+    requires { ⌜ (n ≤ entryLimit) × (j < rowLimit) × (rowLimit ≡ length (now first)) × (entryLimit ≡ length (now mates)) ⌝ }
     ensures { λ r. ⌜ now (mates .exit) ≡ mateNoted n (cell (now (first .entry)) j) j (now (mates .entry)) ⌝ }
 {
     let k = index(first[j]);
@@ -21,9 +24,9 @@ fn note_mate(first: &[u16; 2048], n: usize, j: usize, mates: &mut [u16; 1024])
 }
 
 // The mates of the first file's rows, from the first row of each key.
-pub fn note_mates(first: &[u16; 2048], n: usize, total: usize, mates: &mut [u16; 1024])
-    requires { ⌜ (n ≤ 1024) × (n ≤ total) × (total ≤ 2048) × (2048 ≡ length (now first)) × (1024 ≡ length (now mates)) × Filled (now mates) n nothing ⌝ }
-    ensures { λ r. ⌜ ((K : ℕ → Key) → Filled (now (first .entry)) total (firstSame K) → TwoFiles K n total → Mates K n total (cell (now (mates .exit)))) × (1024 ≡ length (now (mates .exit))) ⌝ }
+pub fn note_mates(first: &[u16; ROW_LIMIT], n: usize, total: usize, mates: &mut [u16; ENTRY_LIMIT])
+    requires { ⌜ (n ≤ entryLimit) × (n ≤ total) × (total ≤ rowLimit) × (rowLimit ≡ length (now first)) × (entryLimit ≡ length (now mates)) × Filled (now mates) n nothing ⌝ }
+    ensures { λ r. ⌜ ((K : ℕ → Key) → Filled (now (first .entry)) total (firstSame K) → TwoFiles K n total → Mates K n total (cell (now (mates .exit)))) × (entryLimit ≡ length (now (mates .exit))) ⌝ }
 {
     let mut j = n;
     while j < total {
@@ -33,8 +36,8 @@ pub fn note_mates(first: &[u16; 2048], n: usize, total: usize, mates: &mut [u16;
 }
 
 // The row of i and its mate that has something, and 1; 0 where neither has.
-fn holder_of(own: &[u32; 2048], mates: &[u16; 1024], n: usize, i: usize) -> u16
-    requires { ⌜ (n ≤ 1024) × (i < 2048) × (2048 ≡ length (now own)) × (1024 ≡ length (now mates)) × AtMost (now mates) n 2048 ⌝ }
+fn holder_of(own: &[u32; ROW_LIMIT], mates: &[u16; ENTRY_LIMIT], n: usize, i: usize) -> u16
+    requires { ⌜ (n ≤ entryLimit) × (i < rowLimit) × (rowLimit ≡ length (now own)) × (entryLimit ≡ length (now mates)) × AtMost (now mates) n rowLimit ⌝ }
     ensures { λ r. ⌜ r ≡ holder (cell (now (own .entry))) (cell (now (mates .entry))) n i ⌝ }
 {
     if own[i] != 0 {
@@ -55,14 +58,14 @@ fn holder_of(own: &[u32; 2048], mates: &[u16; 1024], n: usize, i: usize) -> u16
 
 // The same of every row.
 pub fn note_holders(
-    own: &[u32; 2048],
-    mates: &[u16; 1024],
+    own: &[u32; ROW_LIMIT],
+    mates: &[u16; ENTRY_LIMIT],
     n: usize,
     total: usize,
-    holders: &mut [u16; 2048],
+    holders: &mut [u16; ROW_LIMIT],
 )
-    requires { ⌜ (n ≤ 1024) × (total ≤ 2048) × (2048 ≡ length (now own)) × (1024 ≡ length (now mates)) × AtMost (now mates) n 2048 × (2048 ≡ length (now holders)) ⌝ }
-    ensures { λ r. ⌜ Filled (now (holders .exit)) total (holder (cell (now (own .entry))) (cell (now (mates .entry))) n) × (2048 ≡ length (now (holders .exit))) ⌝ }
+    requires { ⌜ (n ≤ entryLimit) × (total ≤ rowLimit) × (rowLimit ≡ length (now own)) × (entryLimit ≡ length (now mates)) × AtMost (now mates) n rowLimit × (rowLimit ≡ length (now holders)) ⌝ }
+    ensures { λ r. ⌜ Filled (now (holders .exit)) total (holder (cell (now (own .entry))) (cell (now (mates .entry))) n) × (rowLimit ≡ length (now (holders .exit))) ⌝ }
 {
     let mut i: usize = 0;
     while i < total {

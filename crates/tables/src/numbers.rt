@@ -2,6 +2,7 @@
 ghost use mathlib.Core.Path.{_≡_};
 ghost use Prim.Native.Nat.{ℕ, _≤_, _<_};
 ghost use lib.ListN.{length, getD};
+ghost use Rattle.number.specs.Limits.{entryLimit, rowLimit};
 ghost use Rattle.number.specs.Choice.{_=?_, _≤?_};
 ghost use Rattle.number.specs.Scan.{scan, some};
 ghost use Rattle.key.specs.First.{Filled};
@@ -10,6 +11,8 @@ ghost use Rattle.tables.specs.Tables.{cell, Wide};
 ghost use Rattle.tables.specs.Cells.{AtMost, Across};
 ghost use Rattle.tables.specs.Numbers.{wide, numberIn, numberRow};
 use crate::index;
+use number::ENTRY_LIMIT;
+use number::ROW_LIMIT;
 
 // Whether the number of a and b is that of c and d.
 fn same_pair(a: u64, b: u64, c: u64, d: u64) -> bool
@@ -35,8 +38,8 @@ fn pair_most(a: u64, b: u64, c: u64, d: u64) -> bool
 }
 
 // Whether row i has the number 0.
-fn zero_number(high: &[u64; 2048], low: &[u64; 2048], i: usize) -> bool
-    requires { ⌜ (i < 2048) × (2048 ≡ length (now high)) × (2048 ≡ length (now low)) ⌝ }
+fn zero_number(high: &[u64; ROW_LIMIT], low: &[u64; ROW_LIMIT], i: usize) -> bool
+    requires { ⌜ (i < rowLimit) × (rowLimit ≡ length (now high)) × (rowLimit ≡ length (now low)) ⌝ }
     ensures { λ r. ⌜ r ≡ (numberIn (now (high .entry)) (now (low .entry)) i =? 0) ⌝ }
 {
     if high[i] == 0 {
@@ -46,24 +49,29 @@ fn zero_number(high: &[u64; 2048], low: &[u64; 2048], i: usize) -> bool
 }
 
 // Whether rows i and j have one number.
-fn same_number(high: &[u64; 2048], low: &[u64; 2048], i: usize, j: usize) -> bool
-    requires { ⌜ (i < 2048) × (j < 2048) × (2048 ≡ length (now high)) × (2048 ≡ length (now low)) ⌝ }
+fn same_number(high: &[u64; ROW_LIMIT], low: &[u64; ROW_LIMIT], i: usize, j: usize) -> bool
+    requires { ⌜ (i < rowLimit) × (j < rowLimit) × (rowLimit ≡ length (now high)) × (rowLimit ≡ length (now low)) ⌝ }
     ensures { λ r. ⌜ r ≡ (numberIn (now (high .entry)) (now (low .entry)) i =? numberIn (now (high .entry)) (now (low .entry)) j) ⌝ }
 {
     same_pair(high[i], low[i], high[j], low[j])
 }
 
 // Whether the number of row i is at most that of row j.
-pub fn at_most(high: &[u64; 2048], low: &[u64; 2048], i: usize, j: usize) -> bool
-    requires { ⌜ (i < 2048) × (j < 2048) × (2048 ≡ length (now high)) × (2048 ≡ length (now low)) ⌝ }
+pub fn at_most(high: &[u64; ROW_LIMIT], low: &[u64; ROW_LIMIT], i: usize, j: usize) -> bool
+    requires { ⌜ (i < rowLimit) × (j < rowLimit) × (rowLimit ≡ length (now high)) × (rowLimit ≡ length (now low)) ⌝ }
     ensures { λ r. ⌜ r ≡ (numberIn (now (high .entry)) (now (low .entry)) i ≤? numberIn (now (high .entry)) (now (low .entry)) j) ⌝ }
 {
     pair_most(high[i], low[i], high[j], low[j])
 }
 
 // Whether row i and its mate have two nonzero numbers.
-fn two_numbers(high: &[u64; 2048], low: &[u64; 2048], mates: &[u16; 1024], i: usize) -> bool
-    requires { ⌜ (i < 1024) × (2048 ≡ length (now high)) × (2048 ≡ length (now low)) × (1024 ≡ length (now mates)) × (getD (now mates) i 0 ≤ 2048) ⌝ }
+fn two_numbers(
+    high: &[u64; ROW_LIMIT],
+    low: &[u64; ROW_LIMIT],
+    mates: &[u16; ENTRY_LIMIT],
+    i: usize,
+) -> bool
+    requires { ⌜ (i < entryLimit) × (rowLimit ≡ length (now high)) × (rowLimit ≡ length (now low)) × (entryLimit ≡ length (now mates)) × (getD (now mates) i 0 ≤ rowLimit) ⌝ }
     ensures { λ r. ⌜ r ≡ twoNumbers (numberIn (now (high .entry)) (now (low .entry))) (cell (now (mates .entry))) i ⌝ }
 {
     let k = index(mates[i]);
@@ -84,13 +92,13 @@ fn two_numbers(high: &[u64; 2048], low: &[u64; 2048], mates: &[u16; 1024], i: us
 
 // The lowest of the first n rows that has, with its mate, two nonzero numbers, or n.
 pub fn first_two_numbers(
-    high: &[u64; 2048],
-    low: &[u64; 2048],
-    mates: &[u16; 1024],
+    high: &[u64; ROW_LIMIT],
+    low: &[u64; ROW_LIMIT],
+    mates: &[u16; ENTRY_LIMIT],
     n: usize,
     total: usize,
 ) -> usize
-    requires { ⌜ (n ≤ 1024) × (n ≤ total) × (total ≤ 2048) × (2048 ≡ length (now high)) × (2048 ≡ length (now low)) × (1024 ≡ length (now mates)) × AtMost (now mates) n total ⌝ }
+    requires { ⌜ (n ≤ entryLimit) × (n ≤ total) × (total ≤ rowLimit) × (rowLimit ≡ length (now high)) × (rowLimit ≡ length (now low)) × (entryLimit ≡ length (now mates)) × AtMost (now mates) n total ⌝ }
     ensures { λ r. ⌜ ((g : ℕ → ℕ) → Wide (now (high .entry)) (now (low .entry)) total g → r ≡ scan (twoNumbers g (cell (now (mates .entry)))) n 0) ⌝ }
 {
     let mut i: usize = 0;
@@ -104,8 +112,13 @@ pub fn first_two_numbers(
 }
 
 // The row that has the number which row i and its mate have together.
-fn number_row(high: &[u64; 2048], low: &[u64; 2048], mates: &[u16; 1024], i: usize) -> usize
-    requires { ⌜ (i < 1024) × (2048 ≡ length (now high)) × (2048 ≡ length (now low)) × (1024 ≡ length (now mates)) ⌝ }
+fn number_row(
+    high: &[u64; ROW_LIMIT],
+    low: &[u64; ROW_LIMIT],
+    mates: &[u16; ENTRY_LIMIT],
+    i: usize,
+) -> usize
+    requires { ⌜ (i < entryLimit) × (rowLimit ≡ length (now high)) × (rowLimit ≡ length (now low)) × (entryLimit ≡ length (now mates)) ⌝ }
     ensures { λ r. ⌜ r ≡ numberRow (numberIn (now (high .entry)) (now (low .entry))) (cell (now (mates .entry))) i ⌝ }
 {
     let k = index(mates[i]);
@@ -120,14 +133,14 @@ fn number_row(high: &[u64; 2048], low: &[u64; 2048], mates: &[u16; 1024], i: usi
 
 // To each row the number that it and its mate have together.
 pub fn join_numbers(
-    mates: &[u16; 1024],
+    mates: &[u16; ENTRY_LIMIT],
     n: usize,
     total: usize,
-    high: &mut [u64; 2048],
-    low: &mut [u64; 2048],
+    high: &mut [u64; ROW_LIMIT],
+    low: &mut [u64; ROW_LIMIT],
 )
-    requires { ⌜ (n ≤ 1024) × (n ≤ total) × (total ≤ 2048) × (1024 ≡ length (now mates)) × (2048 ≡ length (now high)) × (2048 ≡ length (now low)) × Across (now mates) n total ⌝ }
-    ensures { λ r. ⌜ ((g : ℕ → ℕ) → Wide (now (high .entry)) (now (low .entry)) total g → Wide (now (high .exit)) (now (low .exit)) total (joined g (cell (now (mates .entry))) n)) × (2048 ≡ length (now (high .exit))) × (2048 ≡ length (now (low .exit))) ⌝ }
+    requires { ⌜ (n ≤ entryLimit) × (n ≤ total) × (total ≤ rowLimit) × (entryLimit ≡ length (now mates)) × (rowLimit ≡ length (now high)) × (rowLimit ≡ length (now low)) × Across (now mates) n total ⌝ }
+    ensures { λ r. ⌜ ((g : ℕ → ℕ) → Wide (now (high .entry)) (now (low .entry)) total g → Wide (now (high .exit)) (now (low .exit)) total (joined g (cell (now (mates .entry))) n)) × (rowLimit ≡ length (now (high .exit))) × (rowLimit ≡ length (now (low .exit))) ⌝ }
 {
     let mut i: usize = 0;
     while i < n {
@@ -140,13 +153,13 @@ pub fn join_numbers(
 
 // Whether row r is the first of its key, another than i, and has the number of i.
 fn shares_row(
-    first: &[u16; 2048],
-    high: &[u64; 2048],
-    low: &[u64; 2048],
+    first: &[u16; ROW_LIMIT],
+    high: &[u64; ROW_LIMIT],
+    low: &[u64; ROW_LIMIT],
     i: usize,
     r: usize,
 ) -> bool
-    requires { ⌜ (i < 2048) × (r < 2048) × (2048 ≡ length (now first)) × (2048 ≡ length (now high)) × (2048 ≡ length (now low)) ⌝ }
+    requires { ⌜ (i < rowLimit) × (r < rowLimit) × (rowLimit ≡ length (now first)) × (rowLimit ≡ length (now high)) × (rowLimit ≡ length (now low)) ⌝ }
     ensures { λ b. ⌜ b ≡ sharesRow (cell (now (first .entry))) (numberIn (now (high .entry)) (now (low .entry))) i r ⌝ }
 {
     if index(first[r]) != r {
@@ -160,13 +173,13 @@ fn shares_row(
 
 // Whether one of the rows does so.
 fn some_share(
-    first: &[u16; 2048],
-    high: &[u64; 2048],
-    low: &[u64; 2048],
+    first: &[u16; ROW_LIMIT],
+    high: &[u64; ROW_LIMIT],
+    low: &[u64; ROW_LIMIT],
     total: usize,
     i: usize,
 ) -> bool
-    requires { ⌜ (i < 2048) × (total ≤ 2048) × (2048 ≡ length (now first)) × (2048 ≡ length (now high)) × (2048 ≡ length (now low)) ⌝ }
+    requires { ⌜ (i < rowLimit) × (total ≤ rowLimit) × (rowLimit ≡ length (now first)) × (rowLimit ≡ length (now high)) × (rowLimit ≡ length (now low)) ⌝ }
     ensures { λ b. ⌜ b ≡ some (sharesRow (cell (now (first .entry))) (numberIn (now (high .entry)) (now (low .entry))) i) total ⌝ }
 {
     let mut r: usize = 0;
@@ -181,13 +194,13 @@ fn some_share(
 
 // Whether another key has the nonzero number of row i.
 fn shared_number(
-    first: &[u16; 2048],
-    high: &[u64; 2048],
-    low: &[u64; 2048],
+    first: &[u16; ROW_LIMIT],
+    high: &[u64; ROW_LIMIT],
+    low: &[u64; ROW_LIMIT],
     total: usize,
     i: usize,
 ) -> bool
-    requires { ⌜ (i < 2048) × (total ≤ 2048) × (2048 ≡ length (now first)) × (2048 ≡ length (now high)) × (2048 ≡ length (now low)) ⌝ }
+    requires { ⌜ (i < rowLimit) × (total ≤ rowLimit) × (rowLimit ≡ length (now first)) × (rowLimit ≡ length (now high)) × (rowLimit ≡ length (now low)) ⌝ }
     ensures { λ b. ⌜ b ≡ sharedNumber (cell (now (first .entry))) (numberIn (now (high .entry)) (now (low .entry))) total i ⌝ }
 {
     if zero_number(high, low, i) {
@@ -198,13 +211,13 @@ fn shared_number(
 
 // The lowest of the first n rows whose nonzero number another key has, or n.
 pub fn first_shared(
-    first: &[u16; 2048],
-    high: &[u64; 2048],
-    low: &[u64; 2048],
+    first: &[u16; ROW_LIMIT],
+    high: &[u64; ROW_LIMIT],
+    low: &[u64; ROW_LIMIT],
     n: usize,
     total: usize,
 ) -> usize
-    requires { ⌜ (n ≤ total) × (total ≤ 2048) × (2048 ≡ length (now first)) × (2048 ≡ length (now high)) × (2048 ≡ length (now low)) ⌝ }
+    requires { ⌜ (n ≤ total) × (total ≤ rowLimit) × (rowLimit ≡ length (now first)) × (rowLimit ≡ length (now high)) × (rowLimit ≡ length (now low)) ⌝ }
     ensures { λ b. ⌜ ((f g : ℕ → ℕ) → Filled (now (first .entry)) total f → Wide (now (high .entry)) (now (low .entry)) total g → b ≡ scan (sharedNumber f g total) n 0) ⌝ }
 {
     let mut i: usize = 0;

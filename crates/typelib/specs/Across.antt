@@ -4,6 +4,7 @@ use mathlib.Core.Bool.{Bool, true, not}
 use mathlib.Core.List.{List}
 use mathlib.Core.Option.{Option, none, some}
 use Prim.Native.Nat.{ℕ, zero, suc, _+_, _-_, _*_}
+use Rattle.number.specs.Limits.{entryWidth}
 use Rattle.number.specs.Choice.{if_then_else_, _<?_, _=?_}
 use Rattle.number.specs.Scan.{scan}
 use Rattle.reading.specs.Got.{Got, got, bad}
@@ -50,6 +51,6 @@ firstCircling up n = scan (circles up n) n 0
 -- The keys and the chains of n entries of a directory at d: entry places are file offsets. What is read is their number.
 unfoldable pub readAcross : (ℕ → Key) → (ℕ → ℕ) → ℕ → ℕ → ℕ → Got ℕ
 readAcross K up n d e =
-    if firstRepeated K n <? n then bad 18 (d + 28 * firstRepeated K n) else
-    if firstCircling up n <? n then bad 19 (d + 28 * firstCircling up n) else
+    if firstRepeated K n <? n then bad 18 (d + entryWidth * firstRepeated K n) else
+    if firstCircling up n <? n then bad 19 (d + entryWidth * firstCircling up n) else
     got n e

@@ -5,19 +5,20 @@ use mathlib.Core.Bool.{Bool}
 use mathlib.Core.List.{List}
 use Prim.Native.Nat.{ℕ, _+_, _-_, _*_, _≤_, _<_}
 use lib.ListN.{length}
+use Rattle.number.specs.Limits.{fileLimit, entryLimit, entryWidth}
 use Rattle.number.specs.Choice.{if_then_else_, _=?_}
 use Rattle.number.specs.Number.{be}
 use Rattle.key.specs.Word.{Leads}
 use Rattle.key.specs.Key.{Key, keyAt}
 
 unfoldable pub namePointer : List ℕ → ℕ → ℕ → ℕ
-namePointer s d k = be 4 s (d + 28 * k + 16)
+namePointer s d k = be 4 s (d + entryWidth * k + 16)
 
 unfoldable pub spacePointer : List ℕ → ℕ → ℕ → ℕ
-spacePointer s d k = be 4 s (d + 28 * k + 20)
+spacePointer s d k = be 4 s (d + entryWidth * k + 20)
 
 unfoldable pub ownPointer : List ℕ → ℕ → ℕ → ℕ
-ownPointer s d k = be 4 s (d + 28 * k + 24)
+ownPointer s d k = be 4 s (d + entryWidth * k + 24)
 
 unfoldable pub keyOn : List ℕ → List ℕ → ℕ → ℕ → Key
 keyOn s pool d k = keyAt pool (spacePointer s d k) (namePointer s d k)
@@ -32,9 +33,9 @@ aboveOn s pool d k = if ownPointer s d k =? 0 then 0 else be 2 pool (ownPointer 
 
 -- the directory's n entries lie in the file
 pub record Lies (s : List ℕ) (n d : ℕ) : Type 0 where
-  pub few : n ≤ 1024
-  pub inside : d + 28 * n ≤ length s
-  pub small : length s ≤ 1048576
+  pub few : n ≤ entryLimit
+  pub inside : d + entryWidth * n ≤ length s
+  pub small : length s ≤ fileLimit
 
 -- its names and namespaces lead to words of the pool
 pub record Named (s pool : List ℕ) (n d : ℕ) : Type 0 where
@@ -43,6 +44,6 @@ pub record Named (s pool : List ℕ) (n d : ℕ) : Type 0 where
 
 -- its descriptors lie in the pool, and their parents are entries
 pub record Rooted (s pool : List ℕ) (n d : ℕ) : Type 0 where
-  pub small : length pool ≤ 1048576
+  pub small : length pool ≤ fileLimit
   pub inside : (k : ℕ) → k < n → (ownPointer s d k ≡ 0 → ⊥) → ownPointer s d k - 1 + 2 ≤ length pool
   pub entry : (k : ℕ) → k < n → aboveOn s pool d k ≤ n

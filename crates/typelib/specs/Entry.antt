@@ -4,6 +4,7 @@ use mathlib.Core.List.{List, [], _∷_}
 use mathlib.Core.Option.{Option, none, some}
 use Prim.Native.Nat.{ℕ, _+_, _-_}
 use lib.ListN.{length, getD}
+use Rattle.number.specs.Limits.{entryWidth}
 use Rattle.number.specs.Choice.{if_then_else_, _<?_, _=?_}
 use Rattle.number.specs.Number.{be}
 use Rattle.reading.specs.Got.{Got, got, bad, next}
@@ -29,10 +30,10 @@ entryDescriptor (entry k i d) = d
 -- the descriptor of the directory entry at p: its pointer is tested with its descriptor
 unfoldable pub readOwn : Context → List ℕ → List ℕ → ℕ → Got (Option (Descriptor ℕ))
 readOwn c s pool p =
-    if be 4 s (p + 24) =? 0 then got none (p + 28) else
+    if be 4 s (p + 24) =? 0 then got none (p + entryWidth) else
     if length pool <? be 4 s (p + 24) then bad 13 (p + 24) else
     next (readDescriptor c pool (be 4 s (p + 24) - 1)) λ d _.
-    got (some d) (p + 28)
+    got (some d) (p + entryWidth)
 
 -- the rows of the directory, each with its descriptor
 unfoldable pub entriesOf : List Row → List (Option (Descriptor ℕ)) → List (Entry ℕ)

@@ -5,13 +5,14 @@ ghost use lib.ListN.{length};
 ghost use Rattle.number.specs.Scan.{scan};
 ghost use Rattle.typelib.specs.Across.{chainEnds, circles};
 ghost use Rattle.typelib.specs.Directory.{Lies, Rooted, aboveOn};
+use number::ENTRY_WIDTH;
 
 // The index above entry k of n, counted from 1; 0 above one without a parent.
 fn above_entry(file: &[u8], pool: &[u8], n: usize, d: usize, k: usize) -> usize
     requires { ⌜ Lies (now file) n d × Rooted (now file) (now pool) n d × (k < n) ⌝ }
     ensures { λ r. ⌜ r ≡ aboveOn (now (file .entry)) (now (pool .entry)) d k ⌝ }
 {
-    let q = number::u32_at(file, d + 28 * k + 24) as usize;
+    let q = number::u32_at(file, d + ENTRY_WIDTH * k + 24) as usize;
     if q == 0 {
         return 0;
     }

@@ -2,23 +2,25 @@
 ghost use mathlib.Core.Path.{_≡_};
 ghost use Prim.Native.Nat.{_+_, _*_, _≤_, _<_};
 ghost use lib.ListN.{length};
+ghost use Rattle.number.specs.Limits.{fileLimit, entryWidth};
 ghost use Rattle.number.specs.Scan.{some};
 ghost use Rattle.reading.specs.Got.{stepOf, many};
 ghost use Rattle.typelib.specs.Entry.{readOwn};
 ghost use Rattle.typelib.specs.Own.{Settled};
 ghost use Rattle.typelib.specs.Directory.{Lies, pointsTo};
+use number::ENTRY_WIDTH;
 use reading::Context;
 use reading::Refusal;
 use reading::Step;
 
 // The verdict on the descriptor of the entry at p.
 fn check_own(file: &[u8], pool: &[u8], c: Context, p: usize) -> Step
-    requires { ⌜ (p + 28 ≤ length (now file)) × (length (now file) ≤ 1048576) × (c .base + length (now pool) ≤ 1048576) ⌝ }
+    requires { ⌜ (p + entryWidth ≤ length (now file)) × (length (now file) ≤ fileLimit) × (c .base + length (now pool) ≤ fileLimit) ⌝ }
     ensures { λ r. ⌜ r ≡ stepOf (readOwn c (now (file .entry)) (now (pool .entry)) p) ⌝ }
 {
     let q = number::u32_at(file, p + 24) as usize;
     if q == 0 {
-        return Step::End(p + 28);
+        return Step::End(p + ENTRY_WIDTH);
     }
     if pool.len() < q {
         return Step::Refused(Refusal {
@@ -30,7 +32,7 @@ fn check_own(file: &[u8], pool: &[u8], c: Context, p: usize) -> Step
     let Step::End(e) = r else {
         return r;
     };
-    Step::End(p + 28)
+    Step::End(p + ENTRY_WIDTH)
 }
 
 // Whether entry j has the descriptor pointer q.
@@ -38,7 +40,7 @@ fn points_to(file: &[u8], n: usize, d: usize, j: usize, q: u32) -> bool
     requires { ⌜ Lies (now file) n d × (j < n) ⌝ }
     ensures { λ r. ⌜ r ≡ pointsTo (now (file .entry)) d q j ⌝ }
 {
-    number::u32_at(file, d + 28 * j + 24) == q
+    number::u32_at(file, d + ENTRY_WIDTH * j + 24) == q
 }
 
 // Whether one of the first k entries does.
@@ -58,20 +60,20 @@ fn stood_earlier(file: &[u8], n: usize, d: usize, k: usize, q: u32) -> bool
 
 // The verdict on the descriptor of entry k, where those before it were accepted.
 fn check_once(file: &[u8], pool: &[u8], c: Context, n: usize, d: usize, k: usize) -> Step
-    requires { ⌜ Lies (now file) n d × (k < n) × (c .base + length (now pool) ≤ 1048576) × Settled c (now file) (now pool) d k ⌝ }
-    ensures { λ r. ⌜ r ≡ stepOf (readOwn c (now (file .entry)) (now (pool .entry)) (d + 28 * k)) ⌝ }
+    requires { ⌜ Lies (now file) n d × (k < n) × (c .base + length (now pool) ≤ fileLimit) × Settled c (now file) (now pool) d k ⌝ }
+    ensures { λ r. ⌜ r ≡ stepOf (readOwn c (now (file .entry)) (now (pool .entry)) (d + entryWidth * k)) ⌝ }
 {
-    let p = d + 28 * k;
+    let p = d + ENTRY_WIDTH * k;
     let q = number::u32_at(file, p + 24);
     if stood_earlier(file, n, d, k, q) {
-        return Step::End(p + 28);
+        return Step::End(p + ENTRY_WIDTH);
     }
     check_own(file, pool, c, p)
 }
 
 // The descriptors of n entries.
 pub fn check_descriptors(file: &[u8], pool: &[u8], c: Context, n: usize, d: usize) -> Step
-    requires { ⌜ Lies (now file) n d × (c .base + length (now pool) ≤ 1048576) ⌝ }
+    requires { ⌜ Lies (now file) n d × (c .base + length (now pool) ≤ fileLimit) ⌝ }
     ensures { λ r. ⌜ r ≡ stepOf (many (readOwn c (now (file .entry)) (now (pool .entry))) n d) ⌝ }
 {
     let mut k: usize = 0;
@@ -82,5 +84,5 @@ pub fn check_descriptors(file: &[u8], pool: &[u8], c: Context, n: usize, d: usiz
         };
         k += 1;
     }
-    Step::End(d + 28 * n)
+    Step::End(d + ENTRY_WIDTH * n)
 }

@@ -7,6 +7,7 @@ ghost use Rattle.typelib.specs.Directory.{Lies, Named, Rooted, keyOn, ab
 ghost use Rattle.typelib.specs.Typelib.{Fronted, poolOf, readTypelib, countOf, verdictOf};
 use head::Head;
 use head::Header;
+use number::ENTRY_WIDTH;
 use reading::Context;
 use reading::Refusal;
 use reading::Step;
@@ -21,14 +22,14 @@ fn check_across(file: &[u8], pool: &[u8], n: usize, d: usize) -> Verdict
     if i < n {
         return Verdict::Refused(Refusal {
             no: 18,
-            place: d + 28 * i,
+            place: d + ENTRY_WIDTH * i,
         });
     }
     let j = crate::chains::first_circling(file, pool, n, d);
     if j < n {
         return Verdict::Refused(Refusal {
             no: 19,
-            place: d + 28 * j,
+            place: d + ENTRY_WIDTH * j,
         });
     }
     Verdict::Accepted(n)

@@ -2,6 +2,7 @@
 ghost use mathlib.Core.Path.{_≡_};
 ghost use Prim.Native.Nat.{_+_, _≤_, _<_};
 ghost use lib.ListN.{length, getD};
+ghost use Rattle.number.specs.Limits.{fileLimit};
 ghost use Rattle.reading.specs.Got.{stepOf, byte};
 ghost use Rattle.types.specs.Types.{classOf, isReserved, needsPointer, lacksPointer, readIndex, readRest, readArray, readType};
 use reading::Context;
@@ -97,7 +98,7 @@ pub fn lacks_pointer(k: Class, b: u8) -> bool
 
 // An index of the directory.
 pub fn read_index(pool: &[u8], c: Context, at: usize) -> Step
-    requires { ⌜ (at ≤ length (now pool)) × (c .base + length (now pool) ≤ 1048576) ⌝ }
+    requires { ⌜ (at ≤ length (now pool)) × (c .base + length (now pool) ≤ fileLimit) ⌝ }
     ensures { λ r. ⌜ r ≡ stepOf (readIndex c (now (pool .entry)) at) ⌝ }
 {
     let base = c.base;
@@ -126,7 +127,7 @@ pub fn read_index(pool: &[u8], c: Context, at: usize) -> Step
 
 // An argument number.
 fn read_number(pool: &[u8], c: Context, at: usize) -> Step
-    requires { ⌜ (at ≤ length (now pool)) × (c .base + length (now pool) ≤ 1048576) ⌝ }
+    requires { ⌜ (at ≤ length (now pool)) × (c .base + length (now pool) ≤ fileLimit) ⌝ }
     ensures { λ r. ⌜ r ≡ stepOf (byte c (now (pool .entry)) at) ⌝ }
 {
     let base = c.base;
@@ -141,7 +142,7 @@ fn read_number(pool: &[u8], c: Context, at: usize) -> Step
 
 // What follows the prefix at `at`, which is of class k. No array is left here: an array is refused.
 fn read_plain(pool: &[u8], c: Context, k: Class, at: usize) -> Step
-    requires { ⌜ (at < length (now pool)) × (c .base + length (now pool) ≤ 1048576) ⌝ }
+    requires { ⌜ (at < length (now pool)) × (c .base + length (now pool) ≤ fileLimit) ⌝ }
     ensures { λ r. ⌜ r ≡ stepOf (readRest (readArray 0 c (now (pool .entry))) c (now (pool .entry)) k at (getD (now (pool .entry)) at 0) (at + 1)) ⌝ }
 {
     let base = c.base;
@@ -171,7 +172,7 @@ fn read_plain(pool: &[u8], c: Context, k: Class, at: usize) -> Step
 
 // A type, with `left` arrays allowed one inside another.
 pub fn read_type(pool: &[u8], c: Context, left: usize, at: usize) -> Step
-    requires { ⌜ (at ≤ length (now pool)) × (c .base + length (now pool) ≤ 1048576) × (left ≤ 8) ⌝ }
+    requires { ⌜ (at ≤ length (now pool)) × (c .base + length (now pool) ≤ fileLimit) × (left ≤ 8) ⌝ }
     ensures { λ r. ⌜ r ≡ stepOf (readType left c (now (pool .entry)) at) ⌝ }
 {
     let base = c.base;
@@ -204,7 +205,7 @@ pub fn read_type(pool: &[u8], c: Context, left: usize, at: usize) -> Step
 
 // What follows an array's prefix at `at`: two argument numbers, and the element's type.
 fn read_array(pool: &[u8], c: Context, left: usize, at: usize) -> Step
-    requires { ⌜ (at < length (now pool)) × (c .base + length (now pool) ≤ 1048576) × (left ≤ 8) ⌝ }
+    requires { ⌜ (at < length (now pool)) × (c .base + length (now pool) ≤ fileLimit) × (left ≤ 8) ⌝ }
     ensures { λ r. ⌜ r ≡ stepOf (readArray left c (now (pool .entry)) at (getD (now (pool .entry)) at 0) (at + 1)) ⌝ }
 {
     let base = c.base;
