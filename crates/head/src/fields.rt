@@ -130,7 +130,7 @@ fn read_fields(file: &[u8]) -> Head
             place: 20,
         });
     }
-    if ENTRY_LIMIT < count {
+    if ENTRY_LIMIT < count as usize {
         return Head::Refused(Refusal { no: 7, place: 18 });
     }
     read_positions(file)

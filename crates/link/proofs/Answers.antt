@@ -23,7 +23,8 @@ use Rattle.link.specs.declared.Which.the-variants.{Union}
 use Rattle.link.specs.declared.Linked as link
 use Rattle.link.specs.declared.Linked.the-variants as linked
 use Rattle.link.specs.declared.LinkRefusal.{LinkRefusal}
-use Rattle.link.specs.Outcome.{Outcome, refusal, refusalOf, encoded, inRoom, after, normaliseIn, normalisedAs, normaliseAnswer, normaliseBuffer, linkIn, linkedAs, linkAnswer, linkBuffer}
+use Rattle.joining.specs.Outcome.{Outcome, refusal, encoded, inRoom, after, normalisedAs}
+use Rattle.link.specs.Outcome.{refusalOf, normaliseIn, normaliseAnswer, normaliseBuffer, linkIn, linkedAs, linkAnswer, linkBuffer}
 use Rattle.link.specs.Demand.{Means, Buffer, leftIn, leftBy, placeless, asLink}
 use Rattle.link.proofs.Files.{accepted-valid, accepted-sound, normal-of, link-of, form-means}
 use Rattle.link.proofs.Unions.{fine-readable, valid-fine, sound-both}

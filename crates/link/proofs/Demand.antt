@@ -12,7 +12,8 @@ use Rattle.facts.proofs.Algebra as algebra
 use Rattle.facts.proofs.Algebra.{joined-exactly, stopped-exactly}
 use Rattle.normal.specs.Size.{normalLength}
 use Rattle.link.specs.declared.Linked.the-variants as linked
-use Rattle.link.specs.Outcome.{encoded, after, linkedAs, linkAnswer, linkBuffer}
+use Rattle.joining.specs.Outcome.{encoded, after}
+use Rattle.link.specs.Outcome.{linkedAs, linkAnswer, linkBuffer}
 use Rattle.link.specs.Demand.{Means, Buffer, leftBy, placeless, asLink, AsNormal, Writes, Refuses, Demand3}
 use Rattle.link.proofs.Files.{accepted-valid}
 use Rattle.link.proofs.Unions.{grows}

@@ -24,11 +24,12 @@ use Rattle.normal.specs.Normal.{normalForm}
 use Rattle.output.specs.Files.{Pair, HoldBoth, Given}
 use Rattle.link.specs.declared.Which.the-variants.{First, Second, Union}
 use Rattle.link.specs.declared.LinkRefusal.{LinkRefusal}
-use Rattle.link.specs.declared.Normalised.{Normalised}
-use Rattle.link.specs.declared.Normalised.the-variants as normalised
+use Rattle.joining.specs.declared.Normalised.{Normalised}
+use Rattle.joining.specs.declared.Normalised.the-variants as normalised
 use Rattle.link.specs.declared.Linked.the-variants as linked
-use Rattle.link.specs.Outcome.{Outcome, refused, written, refusal, refusalOf, encoded, inRoom, after, normalOf, normaliseIn, normalisedAs, normaliseAnswer, normaliseBuffer, linkOf, linkIn, linkedAs, linkAnswer, linkBuffer}
-use Rattle.link.specs.Stages.{linkPair, unionIn, Joins}
+use Rattle.joining.specs.Outcome.{Outcome, refused, written, refusal, encoded, inRoom, after, normalisedAs}
+use Rattle.link.specs.Outcome.{refusalOf, normalOf, normaliseIn, normaliseAnswer, normaliseBuffer, linkOf, linkIn, linkedAs, linkAnswer, linkBuffer}
+use Rattle.joining.specs.Stages.{linkPair, unionIn, Joins}
 use Rattle.link.specs.Demand.{asLink}
 use Rattle.link.proofs.Files.{decoded-valid}
 

@@ -22,7 +22,8 @@ use Rattle.normal.proofs.Accepted as normal
 use Rattle.normal.proofs.Back.{bytes-back, read-back, means-back}
 use Rattle.bridge.proofs.Valids.{meaning-valid}
 use Rattle.link.specs.declared.Which.the-variants.{Union}
-use Rattle.link.specs.Outcome.{refusal, refusalOf, encoded, normalOf, linkOf}
+use Rattle.joining.specs.Outcome.{refusal, encoded}
+use Rattle.link.specs.Outcome.{refusalOf, normalOf, linkOf}
 use Rattle.link.specs.Demand.{Means}
 
 pub decoded-valid : (s : List ℕ) (t : Typelib) (e : ℕ) → decode s ≡ got t e → Valid (meaning (entriesIn t))

@@ -5,8 +5,4 @@ pub mod Answers
 pub mod Demand
 pub mod Theorems
 pub mod Marked
-pub mod Held
-pub mod Meets
-pub mod Knows
-pub mod Writes
 pub mod Faces

@@ -22,7 +22,8 @@ use Rattle.normal.specs.Size.{sum, valueWidth, constantSize, descriptorSize, na
 use Rattle.normal.specs.Record.{run, nameAfter, methodsBytes, constantBytes, constantsBytes, parentNumber, constantsFrom, descriptorBytes, nameBytes, constantNameBytes, namesBytes}
 use Rattle.normal.specs.Normal.{spaceFrom, ownFrom, namesFrom, spaceBytes, ownBytes, entryPool, poolBytes, spacePointer, ownPointer, entryBytes, directoryBytes, minorOf, normalHeader, headerBytes, noteBytes, fileBytes, normalForm}
 use Rattle.link.specs.declared.Which.the-variants.{Union}
-use Rattle.link.specs.Outcome.{refused, written, refusalOf, encoded, normalOf, linkOf}
+use Rattle.joining.specs.Outcome.{refused, written, encoded}
+use Rattle.link.specs.Outcome.{refusalOf, normalOf, linkOf}
 
 pub record Marked : Type 0 where
   pub own1 : normalOf (decode P1) ≡ written P1

@@ -16,7 +16,8 @@ use Rattle.normal.specs.Encodable.{Readable}
 use Rattle.normal.proofs.Lengths.{length-normal}
 use Rattle.normal.proofs.Back.{normal-injective}
 use Rattle.link.specs.declared.Which.the-variants.{Union}
-use Rattle.link.specs.Outcome.{written, refusal, refusalOf, encoded, normalOf}
+use Rattle.joining.specs.Outcome.{written, refusal, encoded}
+use Rattle.link.specs.Outcome.{refusalOf, normalOf}
 use Rattle.link.specs.Demand.{Means}
 use Rattle.link.specs.Theorems.{SizedForms, FormOf, ReadsBack, SameForms, LinksBack}
 use Rattle.link.proofs.Files.{accepted-valid, normal-of, link-of, form-means}

@@ -19,8 +19,8 @@ use Rattle.facts.specs.Link.{StoppedBy, andThen}
 use Rattle.normal.specs.Size.{normalLength}
 use Rattle.normal.specs.Normal.{normalForm}
 use Rattle.link.specs.declared.Which.the-variants.{Union}
-use Rattle.link.specs.declared.Normalised.{Normalised}
-use Rattle.link.specs.declared.Normalised.the-variants as normalised
+use Rattle.joining.specs.declared.Normalised.{Normalised}
+use Rattle.joining.specs.declared.Normalised.the-variants as normalised
 use Rattle.link.specs.declared.Linked.{Linked}
 use Rattle.link.specs.declared.Linked.the-variants as linked
 use Rattle.link.specs.Outcome.{refusalOf, normaliseAnswer, normaliseBuffer, linkAnswer, linkBuffer}

@@ -1,4 +1,3 @@
 pub mod Outcome
-pub mod Stages
 pub mod Demand
 pub mod Theorems

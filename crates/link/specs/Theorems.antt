@@ -13,7 +13,8 @@ use Rattle.facts.specs.Facts.{MeanSame}
 use Rattle.facts.specs.Union.{union}
 use Rattle.normal.specs.Size.{normalLength}
 use Rattle.normal.specs.Normal.{normalForm}
-use Rattle.link.specs.Outcome.{written, normalOf, linkOf}
+use Rattle.joining.specs.Outcome.{written}
+use Rattle.link.specs.Outcome.{normalOf, linkOf}
 use Rattle.link.specs.Demand.{Means}
 
 -- The length that 26 judges is that of the normal form.

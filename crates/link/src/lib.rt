@@ -3,12 +3,10 @@ ghost use mathlib.Core.Path.{_≡_};
 ghost use Rattle.reading.specs.Got.{Accepted};
 ghost use Rattle.reader.specs.Reader.{decode};
 ghost use Rattle.link.specs.Outcome.{normaliseAnswer, normaliseBuffer, linkAnswer, linkBuffer};
+use joining::Normalised;
 use reader::Layout;
 use reading::Refusal;
 use reading::Verdict;
-
-mod descriptors;
-mod stages;
 
 // What was refused: the first file, the second file, or their union.
 pub enum Which {
@@ -24,12 +22,6 @@ pub struct LinkRefusal {
 }
 
 // The length of the normal form that was written, or a refusal.
-pub enum Normalised {
-    Written(usize),
-    Refused(Refusal),
-}
-
-// The same of a link.
 pub enum Linked {
     Written(usize),
     Refused(LinkRefusal),
@@ -46,7 +38,7 @@ fn normalise_accepted(file: &[u8], out: &mut [u8]) -> Normalised
         directory: 0,
         pool: 0,
     };
-    stages::join_files(file, l, &file[0..0], none, out)
+    joining::stages::join_files(file, l, &file[0..0], none, out)
 }
 
 // The normal form of a file into `out`.
@@ -66,7 +58,7 @@ fn link_accepted(first: &[u8], second: &[u8], out: &mut [u8]) -> Linked
 {
     let l = reader::layout_of(first);
     let l2 = reader::layout_of(second);
-    match stages::join_files(first, l, second, l2, out) {
+    match joining::stages::join_files(first, l, second, l2, out) {
         Normalised::Written(n) => Linked::Written(n),
         Normalised::Refused(why) => Linked::Refused(LinkRefusal {
             which: Which::Union,

@@ -16,7 +16,8 @@ use Rattle.lines.specs.Listing.{printedOf}
 use Rattle.lines.specs.Marked.{listed3}
 use Rattle.link.specs.declared.LinkRefusal.{LinkRefusal}
 use Rattle.link.specs.declared.Which.the-variants.{Union}
-use Rattle.link.specs.Outcome.{Outcome, refused, written, refusalOf, normalOf, linkOf}
+use Rattle.joining.specs.Outcome.{Outcome, refused, written}
+use Rattle.link.specs.Outcome.{refusalOf, normalOf, linkOf}
 
 -- what is done with which files
 pub data Task : Type 0 where

@@ -1,0 +1,11 @@
+// The union of two accepted files: its refusals 21 to 27, and its normal form into a buffer.
+use reading::Refusal;
+
+mod descriptors;
+pub mod stages;
+
+// The length of the normal form that was written, or a refusal.
+pub enum Normalised {
+    Written(usize),
+    Refused(Refusal),
+}
