@@ -16,8 +16,9 @@ use Rattle.normal.specs.Normal.{fileBytes, normalForm}
 use Rattle.normal.proofs.Mapped.{normal-length, file-mapped, normal-file}
 use Rattle.facts.specs.Union.{union}
 use Rattle.rows.specs.Rows.{keyOfRow, iidOfRow, descriptorOfRow, referenceIn}
-use Rattle.tables.specs.Joined.{holder, joined}
-use Rattle.tables.specs.Tables.{cell, Ordered, Placed}
+use Rattle.iids.specs.Joined.{holder, joined}
+use Rattle.iids.specs.Cells.{cell}
+use Rattle.tables.specs.Tables.{Ordered, Placed}
 use Rattle.bridge.specs.Written.{Matched, Owned, heldIn, countedOf, keyMeant, meantOf, meantEntry, rowEntry, rowEntries}
 use Rattle.bridge.proofs.Spans.{span-ext, map-span}
 use Rattle.bridge.proofs.Maps.{own-agrees, own-twice}

@@ -18,7 +18,8 @@ use Rattle.reader.specs.Reader.Chains.{climb-zero}
 use Rattle.meaning.specs.Refs.{OwnRefs}
 use Rattle.facts.specs.Conditions.{parentFrom, parentIn, climb, isSome, endless}
 use Rattle.rows.specs.Rows.{rowOf, keyOfRow, descriptorOfRow, referenceIn, aboveRow}
-use Rattle.tables.specs.Joined.{holder, held, climbRows, endlessRow, upFirst}
+use Rattle.iids.specs.Joined.{holder, held}
+use Rattle.tables.specs.Chains.{climbRows, endlessRow, upFirst}
 use Rattle.bridge.specs.Written.{Matched, Owned, heldIn, keyMeant, meantOf}
 use Rattle.bridge.proofs.Rows.{told, told-length, row-first, row-second, reference-first, reference-second, ownLength, reference-row, row-refs}
 use Rattle.bridge.proofs.Climbs.{keyed, At, climb-keyed, parent-keyed}

@@ -21,7 +21,7 @@ use Rattle.facts.specs.Conditions.{anyOf, differ, twoIids, twoDescriptors}
 use Rattle.facts.specs.Valid.{entryAt}
 use Rattle.facts.proofs.Values.{not-some}
 use Rattle.rows.specs.Rows.{keyOfRow, iidOfRow, descriptorOfRow}
-use Rattle.tables.specs.Joined.{holder, held, joined, twoNumbers}
+use Rattle.iids.specs.Joined.{holder, held, joined, twoNumbers}
 use Rattle.bridge.specs.Written.{Matched, Owned, heldIn, keyMeant, meantOf, differing, twoMeanings}
 use Rattle.bridge.proofs.Rows.{told, told-iid, told-own}
 use Rattle.bridge.proofs.Values.{nonzero, iid-tagged, descriptor-tagged}

@@ -16,7 +16,8 @@ use Rattle.facts.specs.Union.{union}
 use Rattle.facts.specs.Conditions.{twoIids, sharedIid, twoDescriptors, endless}
 use Rattle.facts.specs.Link.{Linked, stopped, joined as linked, anySuch, linkBoth, linkEntries}
 use Rattle.rows.specs.Rows.{keyOfRow, iidOfRow, aboveRow}
-use Rattle.tables.specs.Joined.{holder, held, joined, twoNumbers, sharedNumber, endlessRow, upFirst}
+use Rattle.iids.specs.Joined.{holder, held, joined, twoNumbers, sharedNumber}
+use Rattle.tables.specs.Chains.{endlessRow, upFirst}
 use Rattle.tables.specs.Tables.{Ordered}
 use Rattle.bridge.specs.Written.{Matched, Owned, twoMeanings, rowEntries}
 use Rattle.bridge.proofs.Rows.{told}

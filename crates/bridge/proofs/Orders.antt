@@ -20,8 +20,9 @@ use Rattle.facts.proofs.Sorts.{Rising, rising-pairs, sorted-is}
 use Rattle.facts.proofs.Orders.{by-iid, by-key, before-by, ordered}
 use Rattle.facts.proofs.Unions.{sortedKeys, union-keys, union-length}
 use Rattle.rows.specs.Rows.{keyOfRow, iidOfRow}
-use Rattle.tables.specs.Joined.{joined}
-use Rattle.tables.specs.Tables.{cell, Precedes, Ordered, Placed}
+use Rattle.iids.specs.Joined.{joined}
+use Rattle.iids.specs.Cells.{cell}
+use Rattle.tables.specs.Tables.{Precedes, Ordered, Placed}
 use Rattle.bridge.specs.Span.{span}
 use Rattle.bridge.specs.Written.{Matched, Owned, meantEntry}
 use Rattle.bridge.proofs.Spans.{length-span, span-at, span-ext, in-span, span-in, map-span}

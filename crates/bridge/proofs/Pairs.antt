@@ -19,7 +19,7 @@ use Rattle.facts.specs.Facts.{prepend, said}
 use Rattle.facts.specs.Union.{valuesOf, firstOf}
 use Rattle.facts.specs.Valid.{entryAt}
 use Rattle.rows.specs.Rows.{keyOfRow}
-use Rattle.tables.specs.Joined.{holder}
+use Rattle.iids.specs.Joined.{holder}
 use Rattle.tables.specs.Tables.{Mate, alone, paired, Mates}
 use Rattle.bridge.specs.Written.{heldIn}
 use Rattle.bridge.proofs.Rows.{told, told-first, told-second, told-key}

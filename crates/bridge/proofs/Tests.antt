@@ -23,7 +23,7 @@ use Rattle.facts.specs.Conditions.{anyOf, sharesWith, sharedIid}
 use Rattle.facts.specs.Link.{suchAt, anySuch, firstSuch}
 use Rattle.facts.proofs.Tests.{any-found, any-none}
 use Rattle.rows.specs.Rows.{keyOfRow, iidOfRow}
-use Rattle.tables.specs.Joined.{joined, sharesRow, sharedNumber}
+use Rattle.iids.specs.Joined.{joined, sharesRow, sharedNumber}
 use Rattle.bridge.specs.Written.{Matched}
 use Rattle.bridge.proofs.Rows.{told, told-length, told-first, told-key}
 use Rattle.bridge.proofs.Valids.{key-at, at-key}

@@ -13,8 +13,9 @@ use Rattle.reader.specs.Rules.{EntriesRule}
 use Rattle.meaning.specs.Meaning.{mapOwn}
 use Rattle.facts.specs.Equal.{sameDescriptor}
 use Rattle.rows.specs.Rows.{keyOfRow, iidOfRow, descriptorOfRow, referenceIn}
-use Rattle.tables.specs.Joined.{holder, joined}
-use Rattle.tables.specs.Tables.{Mates, cell}
+use Rattle.iids.specs.Joined.{holder, joined}
+use Rattle.tables.specs.Tables.{Mates}
+use Rattle.iids.specs.Cells.{cell}
 use Rattle.bridge.specs.Span.{span}
 
 -- the entries of two accepted files, of any minor versions, and the mates of the first file's rows

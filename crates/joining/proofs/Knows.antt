@@ -16,9 +16,11 @@ use Rattle.reader.specs.Values.{Entry}
 use Rattle.reader.specs.Layout.{LaidOut}
 use Rattle.facts.specs.Link.{stopped}
 use Rattle.rows.specs.Rows.{keyOfRow, iidOfRow, aboveRow}
-use Rattle.tables.specs.Joined.{holder, held, joined, twoNumbers, sharedNumber, endlessRow, upFirst}
-use Rattle.tables.specs.Tables.{cell, Mates, Wide, Ordered, Placed, TwoFiles}
-use Rattle.tables.specs.Cells.{AtMost, Across}
+use Rattle.iids.specs.Joined.{holder, held, joined, twoNumbers, sharedNumber}
+use Rattle.tables.specs.Chains.{endlessRow, upFirst}
+use Rattle.iids.specs.Cells.{cell, AtMost, Across}
+use Rattle.tables.specs.Tables.{Mates, Ordered, Placed, TwoFiles}
+use Rattle.iids.specs.Numbers.{Wide}
 use Rattle.rows.specs.Notes.{Noted, NameOf, SpaceOf, OwnOf, HighOf, LowOf, upRow}
 use Rattle.tables.proofs.MateLaws.{mates-across, across-most}
 use Rattle.rows.proofs.FillLaws.{own-lacks, own-has, rows-keyed, row-key, iids-wide, owns-low, owns-high, up-told, up-most}

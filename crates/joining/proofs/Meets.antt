@@ -22,7 +22,7 @@ use Rattle.facts.specs.Equal.{sameDescriptor}
 use Rattle.facts.proofs.Tests.{same-descriptors}
 use Rattle.normal.proofs.Apart.{refs-in}
 use Rattle.rows.specs.Rows.{keyOfRow, descriptorOfRow, referenceIn}
-use Rattle.tables.specs.Tables.{cell}
+use Rattle.iids.specs.Cells.{cell}
 use Rattle.tables.proofs.MateLaws.{mates-across}
 use Rattle.bridge.specs.Written.{keyMeant, meantOf, differing, twoMeanings}
 use Rattle.bridge.proofs.Rows.{row-first, row-second, reference-first, reference-second}

@@ -19,10 +19,10 @@ use Rattle.normal.specs.Size.{normalLength}
 use Rattle.normal.specs.Normal.{fileBytes, normalForm}
 use Rattle.normal.proofs.Lengths.{length-normal}
 use Rattle.rows.specs.Rows.{keyOfRow, iidOfRow}
-use Rattle.tables.specs.Joined.{joined}
-use Rattle.tables.specs.Tables.{cell}
-use Rattle.tables.specs.Numbers.{numberIn}
-use Rattle.tables.proofs.NumberLaws.{wide-number}
+use Rattle.iids.specs.Joined.{joined}
+use Rattle.iids.specs.Cells.{cell}
+use Rattle.iids.specs.Numbers.{numberIn}
+use Rattle.iids.proofs.NumberLaws.{wide-number}
 use Rattle.bridge.specs.Written.{Matched, heldIn, countedOf, rowEntry, rowEntries}
 use Rattle.bridge.proofs.Spans.{span-ext}
 use Rattle.bridge.proofs.Bytes.{union-length, union-bytes}

@@ -15,8 +15,11 @@ use Rattle.facts.specs.Link as facts
 use Rattle.facts.specs.Link.{linkEntries}
 use Rattle.normal.specs.Size.{normalLength}
 use Rattle.rows.specs.Rows.{keyOfRow, iidOfRow, descriptorOfRow, aboveRow}
-use Rattle.tables.specs.Joined.{holder, held, joined, twoNumbers, sharedNumber, endlessRow, upFirst}
-use Rattle.tables.specs.Tables.{cell, Mates, Wide, Ordered, Placed}
+use Rattle.iids.specs.Joined.{holder, held, joined, twoNumbers, sharedNumber}
+use Rattle.tables.specs.Chains.{endlessRow, upFirst}
+use Rattle.iids.specs.Cells.{cell}
+use Rattle.tables.specs.Tables.{Mates, Ordered, Placed}
+use Rattle.iids.specs.Numbers.{Wide}
 use Rattle.bridge.specs.Written.{Owned, twoMeanings}
 use Rattle.output.specs.Files.{Pair}
 use Rattle.joining.specs.declared.Normalised.{Normalised}

@@ -5,7 +5,7 @@ ghost use Prim.Native.Nat.{_+_, _<_};
 ghost use lib.ListN.{length};
 ghost use Rattle.number.specs.Limits.{entryLimit, rowLimit};
 ghost use Rattle.number.specs.Scan.{scan};
-ghost use Rattle.tables.specs.Tables.{cell};
+ghost use Rattle.iids.specs.Cells.{cell};
 ghost use Rattle.bridge.specs.Written.{twoMeanings};
 ghost use Rattle.output.specs.Files.{Given, HoldBoth, Gives};
 ghost use Rattle.joining.specs.Stages.{Known, Meets};

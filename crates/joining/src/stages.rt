@@ -228,12 +228,12 @@ fn join_numbers(
 {
     let n = l.count;
     let total = n + k.count;
-    let i = tables::numbers::first_two_numbers(high, low, mates, n, total);
+    let i = iids::first_two_numbers(high, low, mates, n, total);
     if i < n {
         return stop(21, i + 1);
     }
-    tables::numbers::join_numbers(mates, n, total, high, low);
-    let j = tables::numbers::first_shared(first, high, low, n, total);
+    iids::join_numbers(mates, n, total, high, low);
+    let j = iids::first_shared(first, high, low, n, total);
     if j < n {
         return stop(22, j + 1);
     }

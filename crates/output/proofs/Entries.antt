@@ -15,7 +15,7 @@ use Rattle.normal.specs.Record.{nameAfter}
 use Rattle.normal.specs.Normal.{spaceFrom, ownFrom, ownBytes, spacePointer, ownPointer, entryPool, poolBytes, entryBytes, directoryBytes}
 use Rattle.normal.proofs.Appends.{sum-append, pool-append, directory-append}
 use Rattle.normal.proofs.Lengths.{sum-entries}
-use Rattle.tables.specs.Tables.{cell}
+use Rattle.iids.specs.Cells.{cell}
 use Rattle.bridge.specs.Span.{span}
 use Rattle.bridge.proofs.Spans.{length-span}
 use Rattle.output.specs.Files.{Pair}

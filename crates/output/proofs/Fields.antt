@@ -13,7 +13,7 @@ use Rattle.normal.specs.BigEndian.{bytesOf}
 use Rattle.normal.specs.Normal.{headerBytes, noteBytes}
 use Rattle.normal.proofs.Numbers.{bytes-add}
 use Rattle.normal.proofs.Lengths.{length-bytes, length-header}
-use Rattle.tables.specs.Numbers.{wide}
+use Rattle.iids.specs.Numbers.{wide}
 use Rattle.output.specs.declared.Parts.{Parts}
 use Rattle.output.specs.Front.{directoryAt, frontHeader, frontBytes}
 use Rattle.output.specs.Row.{pointerTo, rowBytes}

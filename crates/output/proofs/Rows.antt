@@ -22,7 +22,7 @@ use Rattle.normal.specs.Size.{nameSize, spaceSize, ownSize}
 use Rattle.normal.specs.Normal.{ownBytes}
 use Rattle.normal.proofs.Mapped.{own-size, own-bytes}
 use Rattle.rows.specs.Rows.{descriptorOfRow, referenceIn}
-use Rattle.tables.specs.Tables.{cell}
+use Rattle.iids.specs.Cells.{cell}
 use Rattle.bridge.specs.Written.{heldIn, countedOf}
 use Rattle.bridge.proofs.Rows.{row-first, row-second, key-first, key-second, reference-first, reference-second}
 use Rattle.bridge.proofs.Pairs.{held-none, held-some}

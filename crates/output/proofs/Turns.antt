@@ -12,8 +12,8 @@ use Rattle.reader.specs.Values.{Entry}
 use Rattle.normal.specs.Size.{sum, ownSize, entrySize, normalLength}
 use Rattle.normal.specs.Normal.{ownBytes, entryPool, poolBytes, entryBytes, directoryBytes, minorOf, normalHeader, headerBytes, noteBytes, fileBytes}
 use Rattle.normal.proofs.Lengths.{length-entry, length-directory, length-pool}
-use Rattle.tables.specs.Tables.{cell}
-use Rattle.tables.specs.Numbers.{wide, numberIn}
+use Rattle.iids.specs.Cells.{cell}
+use Rattle.iids.specs.Numbers.{wide, numberIn}
 use Rattle.writing.proofs.Lent.{rest, back, lent}
 use Rattle.output.specs.declared.Parts.{Parts}
 use Rattle.output.specs.Files.{Pair, Fits, Gives}

@@ -11,9 +11,10 @@ use Rattle.normal.specs.Size.{normalLength}
 use Rattle.normal.specs.Normal.{fileBytes, normalForm}
 use Rattle.facts.specs.Union.{union}
 use Rattle.rows.specs.Rows.{keyOfRow, iidOfRow}
-use Rattle.tables.specs.Joined.{holder, joined}
-use Rattle.tables.specs.Tables.{cell, Wide, Ordered, Placed}
-use Rattle.tables.specs.Numbers.{wide, numberIn}
+use Rattle.iids.specs.Joined.{holder, joined}
+use Rattle.iids.specs.Cells.{cell}
+use Rattle.iids.specs.Numbers.{Wide, wide, numberIn}
+use Rattle.tables.specs.Tables.{Ordered, Placed}
 use Rattle.bridge.specs.Written.{Matched, Owned, heldIn, countedOf, rowEntry, rowEntries}
 use Rattle.bridge.proofs.Spans.{span-ext}
 use Rattle.bridge.proofs.Rows.{told}

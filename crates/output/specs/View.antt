@@ -9,7 +9,7 @@ use Rattle.reader.specs.Values.{Descriptor, Entry, entry}
 use Rattle.normal.specs.Size.{normalLength}
 use Rattle.normal.specs.Normal.{fileBytes}
 use Rattle.rows.specs.Rows.{keyOfRow}
-use Rattle.tables.specs.Tables.{cell}
+use Rattle.iids.specs.Cells.{cell}
 use Rattle.bridge.specs.Span.{span}
 use Rattle.bridge.specs.Written.{heldIn, countedOf}
 use Rattle.output.specs.Files.{Pair}

@@ -3,7 +3,7 @@ ghost use mathlib.Core.Path.{_≡_};
 ghost use Prim.Native.Nat.{_+_, _≤_, _<_};
 ghost use lib.ListN.{length};
 ghost use lib.Seq.{sets};
-ghost use Rattle.tables.specs.Numbers.{wide};
+ghost use Rattle.iids.specs.Numbers.{wide};
 ghost use Rattle.output.specs.Row.{pointerTo, rowBytes};
 use crate::Parts;
 use writing::field::put_u32;

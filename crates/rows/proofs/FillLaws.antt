@@ -28,9 +28,10 @@ use Rattle.reader.specs.Records.{ShowsDescriptor, ShowsOwn, ShowsEntry}
 use Rattle.reader.specs.Layout.{LaidOut, Lies, Stands, Tells, Spells, SpellsSpace}
 use Rattle.reader.specs.Reader.Chains.{parents-below}
 use Rattle.rows.specs.Rows.{rowOf, keyOfRow, iidOfRow, descriptorOfRow, aboveRow}
-use Rattle.tables.specs.Joined.{held, upFirst}
-use Rattle.tables.specs.Tables.{cell, Wide}
-use Rattle.tables.specs.Cells.{AtMost}
+use Rattle.iids.specs.Joined.{held}
+use Rattle.tables.specs.Chains.{upFirst}
+use Rattle.iids.specs.Cells.{cell, AtMost}
+use Rattle.iids.specs.Numbers.{Wide}
 use Rattle.rows.specs.Notes.{Noted, NameOf, SpaceOf, OwnOf, HighOf, LowOf, upRow}
 
 -- ---- places filled one by one

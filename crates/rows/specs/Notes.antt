@@ -12,8 +12,9 @@ use Rattle.reader.specs.Values.{Entry, keysIn, descriptorIn}
 use Rattle.reader.specs.Records.{ShowsOwn}
 use Rattle.reader.specs.Layout.{LaidOut, Spells, SpellsSpace}
 use Rattle.rows.specs.Rows.{aboveRow}
-use Rattle.tables.specs.Joined.{held, upFirst}
-use Rattle.tables.specs.Tables.{cell}
+use Rattle.iids.specs.Joined.{held}
+use Rattle.tables.specs.Chains.{upFirst}
+use Rattle.iids.specs.Cells.{cell}
 
 -- u is t with n places from `from` on filled: the k-th of them with a value of which P k holds
 pub record Noted (P : ℕ → ℕ → Type 0) (t u : List ℕ) (from n : ℕ) : Type 0 where

@@ -8,11 +8,11 @@ ghost use Rattle.key.specs.First.{Filled};
 ghost use Rattle.reader.specs.Values.{Entry, aboveIn};
 ghost use Rattle.reader.specs.Layout.{LaidOut, Lies};
 ghost use Rattle.rows.specs.Rows.{aboveRow};
-ghost use Rattle.tables.specs.Cells.{AtMost};
+ghost use Rattle.iids.specs.Cells.{AtMost};
 ghost use Rattle.rows.specs.Notes.{Noted, NameOf, SpaceOf, OwnOf, HighOf, LowOf, upRow};
+use iids::index;
 use number::ROW_LIMIT;
 use reader::Layout;
-use tables::index;
 
 // The pool pointer of the name of entry i.
 fn name_of(file: &[u8], l: Layout, i: usize) -> u32

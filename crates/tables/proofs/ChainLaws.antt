@@ -7,9 +7,8 @@ use Prim.Native.Nat.{ℕ, zero, suc, _+_, _-_, _≤_, _<_}
 use native.Mathlib.Omega.{arith}
 use lib.ListN.{getD}
 use Rattle.number.proofs.Choice.{is-eq, no-eq, yes-ne, not-ne}
-use Rattle.tables.specs.Joined.{climbRows, endlessRow}
-use Rattle.tables.specs.Tables.{cell}
-use Rattle.tables.specs.Cells.{AtMost}
+use Rattle.tables.specs.Chains.{climbRows, endlessRow}
+use Rattle.iids.specs.Cells.{cell, AtMost}
 
 module _ (up : ℕ → ℕ) where
   climb-none : (k j : ℕ) → j ≡ 0 → climbRows k up j ≡ 0

@@ -15,8 +15,9 @@ use Rattle.key.specs.Key.{Key}
 use Rattle.key.specs.First.{firstSame, Filled}
 use Rattle.key.proofs.Firsts.{first-le, first-key, first-equal}
 use Rattle.sorting.proofs.Tables.{last}
-use Rattle.tables.specs.Tables.{cell, Mate, alone, paired, Mates, TwoFiles}
-use Rattle.tables.specs.Cells.{AtMost, Across, nothing, mateNoted}
+use Rattle.iids.specs.Cells.{cell, AtMost, Across}
+use Rattle.tables.specs.Tables.{Mate, alone, paired, Mates, TwoFiles}
+use Rattle.tables.specs.Cells.{nothing, mateNoted}
 
 -- a row of the first file is the first of its key
 pub first-row : (K : ℕ → Key) (n N i : ℕ) → TwoFiles K n N → i < n → firstSame K i ≡ i

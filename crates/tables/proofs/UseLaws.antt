@@ -10,9 +10,10 @@ use Rattle.key.specs.Key.{Key, compareKeys}
 use Rattle.key.specs.First.{firstSame, Filled}
 use Rattle.sorting.specs.Table.{Sorted}
 use Rattle.key.proofs.Firsts.{first-le, first-ext}
-use Rattle.tables.specs.Joined.{holder}
-use Rattle.tables.specs.Tables.{cell, Ordered}
-use Rattle.tables.specs.Cells.{AtMost, Across, nothing}
+use Rattle.iids.specs.Joined.{holder}
+use Rattle.iids.specs.Cells.{cell, AtMost, Across}
+use Rattle.tables.specs.Tables.{Ordered}
+use Rattle.tables.specs.Cells.{nothing}
 
 -- ---- bounds
 

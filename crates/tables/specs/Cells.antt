@@ -9,15 +9,6 @@ use Rattle.number.specs.Choice.{if_then_else_, _<?_}
 unfoldable pub nothing : ℕ → ℕ
 nothing i = 0
 
--- the first n places of t hold at most b
-pub record AtMost (t : List ℕ) (n b : ℕ) : Type 0 where
-  pub each : (i : ℕ) → i < n → getD t i 0 ≤ b
-
--- the first n places of t hold 0, or a row from n on and below N, and 1
-pub record Across (t : List ℕ) (n N : ℕ) : Type 0 where
-  pub low : (i : ℕ) → i < n → (getD t i 0 ≡ 0 → ⊥) → n < getD t i 0
-  pub high : (i : ℕ) → i < n → getD t i 0 ≤ N
-
 -- no row stands twice among the first c of t
 pub record Apart (t : List ℕ) (c : ℕ) : Type 0 where
   pub each : (a b : ℕ) → a < b → b < c → getD t a 0 ≡ getD t b 0 → ⊥

@@ -1,5 +1,4 @@
-pub mod Joined
+pub mod Chains
 pub mod Tables
 pub mod Cells
-pub mod Numbers
 pub mod Order

@@ -3,7 +3,7 @@
 use mathlib.Core.Path.{_≡_}
 use mathlib.Core.Logic.{_⊎_}
 use mathlib.Core.List.{List}
-use Prim.Native.Nat.{ℕ, suc, _+_, _*_, _^_, _≤_, _<_}
+use Prim.Native.Nat.{ℕ, suc, _+_, _≤_, _<_}
 use lib.ListN.{length, getD}
 use Rattle.number.specs.Limits.{entryLimit}
 use Rattle.key.specs.declared.Order.the-variants.{Before}
@@ -18,10 +18,6 @@ pub record TwoFiles (K : ℕ → Key) (n N : ℕ) : Type 0 where
   pub first : (i j : ℕ) → i < j → j < n → K i ≡ K j → ⊥
   pub second : (i j : ℕ) → n ≤ i → i < j → j < N → K i ≡ K j → ⊥
 
--- what a table holds at i
-unfoldable pub cell : List ℕ → ℕ → ℕ
-cell t i = getD t i 0
-
 -- v is the row of the second file with the key of row i, and 1; or 0, and there is none
 pub data Mate (K : ℕ → Key) (n N i v : ℕ) : Type 0 where
   alone : v ≡ 0 → ((j : ℕ) → n ≤ j → j < N → K j ≡ K i → ⊥) → Mate K n N i v
@@ -30,13 +26,6 @@ pub data Mate (K : ℕ → Key) (n N i v : ℕ) : Type 0 where
 -- m tells this of each row of the first file
 pub record Mates (K : ℕ → Key) (n N : ℕ) (m : ℕ → ℕ) : Type 0 where
   pub each : (i : ℕ) → i < n → Mate K n N i (m i)
-
--- two tables hold the high and the low eight bytes of what g gives
-pub record Wide (high low : List ℕ) (N : ℕ) (g : ℕ → ℕ) : Type 0 where
-  pub long : N ≤ length high
-  pub wide : N ≤ length low
-  pub each : (i : ℕ) → i < N → getD high i 0 * 256 ^ 8 + getD low i 0 ≡ g i
-  pub small : (i : ℕ) → i < N → getD low i 0 < 256 ^ 8
 
 -- row i stands before row j: by number, among equal numbers by key
 abbrev pub Precedes : (ℕ → Key) → (ℕ → ℕ) → ℕ → ℕ → Type 0

@@ -4,10 +4,9 @@ ghost use Prim.Native.Nat.{_+_, _≤_, _<_};
 ghost use lib.ListN.{length};
 ghost use Rattle.number.specs.Limits.{rowLimit};
 ghost use Rattle.number.specs.Scan.{scan};
-ghost use Rattle.tables.specs.Joined.{endlessRow};
-ghost use Rattle.tables.specs.Tables.{cell};
-ghost use Rattle.tables.specs.Cells.{AtMost};
-use crate::index;
+ghost use Rattle.tables.specs.Chains.{endlessRow};
+ghost use Rattle.iids.specs.Cells.{cell, AtMost};
+use iids::index;
 use number::ROW_LIMIT;
 
 // Whether the chain of row i doesn't end.

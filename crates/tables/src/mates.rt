@@ -5,10 +5,11 @@ ghost use lib.ListN.{length};
 ghost use Rattle.number.specs.Limits.{entryLimit, rowLimit};
 ghost use Rattle.key.specs.Key.{Key};
 ghost use Rattle.key.specs.First.{firstSame, Filled};
-ghost use Rattle.tables.specs.Joined.{holder};
-ghost use Rattle.tables.specs.Tables.{cell, Mates, TwoFiles};
-ghost use Rattle.tables.specs.Cells.{AtMost, nothing, mateNoted};
-use crate::index;
+ghost use Rattle.iids.specs.Joined.{holder};
+ghost use Rattle.iids.specs.Cells.{cell, AtMost};
+ghost use Rattle.tables.specs.Tables.{Mates, TwoFiles};
+ghost use Rattle.tables.specs.Cells.{nothing, mateNoted};
+use iids::index;
 use number::ENTRY_LIMIT;
 use number::ROW_LIMIT;
 

@@ -4,7 +4,7 @@ use Rattle.joining.proofs.Held.{given-few}
 use Rattle.joining.specs.Stages.{Known}
 use Rattle.output.specs.Files.{HoldBoth}
 use Rattle.bridge.specs.Written.{twoMeanings}
-use Rattle.tables.specs.Tables.{cell}
+use Rattle.iids.specs.Cells.{cell}
 use Rattle.number.proofs.Scans.{Misses, misses-none, misses-more, misses-scan, misses-end}
 use Rattle.number.proofs.Tools.{_≡_, sym, _∙_, _-_, _≤_, arith}
 use Rattle.joining.proofs.descriptors.first_two_descriptors.Statement.{statement}

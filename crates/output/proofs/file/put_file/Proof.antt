@@ -1,8 +1,8 @@
 -- `output::file::put_file` meets its contract: what stands before the directory is written last.
 -- Assumes nothing.
 use Rattle.number.proofs.Tools.{arith, needs}
-use Rattle.tables.specs.Tables.{cell}
-use Rattle.tables.specs.Numbers.{numberIn}
+use Rattle.iids.specs.Cells.{cell}
+use Rattle.iids.specs.Numbers.{numberIn}
 use Rattle.output.proofs.Entries as entries
 use Rattle.output.proofs.Turns as laws
 use Rattle.output.proofs.file.put_file.Statement.{statement}

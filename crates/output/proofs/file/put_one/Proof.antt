@@ -3,7 +3,7 @@
 use Rattle.number.proofs.Tools.{_+_, arith, needs}
 use lib.ListN.{length-take, length-drop}
 use Rattle.normal.specs.Normal.{ownBytes}
-use Rattle.tables.specs.Numbers.{wide}
+use Rattle.iids.specs.Numbers.{wide}
 use Rattle.writing.proofs.Lent.{back}
 use Rattle.output.specs.View.{rowKey, rowOwn, placeOf}
 use Rattle.output.specs.Row.{keyBytes}

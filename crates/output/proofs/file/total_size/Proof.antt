@@ -1,7 +1,7 @@
 -- `output::file::total_size` meets its contract.
 -- Assumes nothing.
 use Rattle.number.proofs.Tools.{_-_, arith}
-use Rattle.tables.specs.Tables.{cell}
+use Rattle.iids.specs.Cells.{cell}
 use Rattle.output.specs.Files.{HoldBoth}
 use Rattle.output.proofs.Turns as laws
 use Rattle.output.proofs.Rows as rows

@@ -1,8 +1,8 @@
 -- `tables::chains::first_endless` meets its contract.
 -- Assumes nothing.
 use Rattle.number.proofs.Scans.{Misses, misses-none, misses-more, misses-scan, misses-end}
-use Rattle.tables.specs.Tables.{cell}
-use Rattle.tables.specs.Joined.{endlessRow}
+use Rattle.iids.specs.Cells.{cell}
+use Rattle.tables.specs.Chains.{endlessRow}
 use Rattle.number.proofs.Tools.{_≡_, sym, _∙_, _-_, _≤_, arith}
 use Rattle.tables.proofs.chains.first_endless.Statement.{statement}
 use Rattle.tables.proofs.chains.first_endless.Tie as tie

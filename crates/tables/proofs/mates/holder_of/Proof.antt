@@ -1,7 +1,7 @@
 -- `tables::mates::holder_of` meets its contract.
 -- Assumes nothing.
-use Rattle.tables.specs.Tables.{cell}
-use Rattle.tables.specs.Joined.{holder}
+use Rattle.iids.specs.Cells.{cell}
+use Rattle.iids.specs.Joined.{holder}
 use Rattle.number.proofs.Tools.{refl, arith, needs, is-le, no-le, is-eq, no-eq, is-ne, no-ne}
 use Rattle.tables.proofs.mates.holder_of.Statement.{statement}
 use Rattle.tables.proofs.mates.holder_of.Tie as tie

@@ -3,8 +3,8 @@
 use lib.ListN.{length-set}
 use Rattle.key.specs.First.{Filled}
 use Rattle.sorting.proofs.Tables.{fill-none, fill-more, fill-to}
-use Rattle.tables.specs.Tables.{cell}
-use Rattle.tables.specs.Joined.{holder}
+use Rattle.iids.specs.Cells.{cell}
+use Rattle.iids.specs.Joined.{holder}
 use Rattle.number.proofs.Tools.{_≡_, _-_, _≤_, arith, length}
 use Rattle.tables.proofs.mates.note_holders.Statement.{statement}
 use Rattle.tables.proofs.mates.note_holders.Tie as tie
