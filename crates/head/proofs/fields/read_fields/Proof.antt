@@ -21,6 +21,7 @@ read-fields-spec =
     (λ c. search needs)
     (λ c κs. search needs)
     (λ c. no-ne _ _ _ _ (omega arith) (is-false _ _ _ (cc) (is-ne _ _ _ _ (rw (← c .before .before .u32-at .ensures) (λ e. omega arith)) (cc (at-bad (c .before .length-fault .result) 20)))))
+    (λ c. search needs)
     (λ c. no-ne _ _ _ _ (omega arith) (is-false _ _ _ (cc) (no-ne _ _ _ _ (rw (← c .before .before .before .u32-at .ensures) (omega arith)) (is-lt _ _ _ _ (omega arith) (at-bad _ _)))))
     (λ c κs. search needs)
     (λ c. no-ne _ _ _ _ (omega arith) (is-false _ _ _ (cc) (no-ne _ _ _ _ (rw (← c .before .before .before .before .u32-at .ensures) (omega arith)) (no-lt _ _ _ _ (omega arith) (c .read-positions .ensures))))))
