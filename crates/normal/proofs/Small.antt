@@ -10,7 +10,8 @@ use lib.ListN.{length, getD}
 use Rattle.key.specs.Key.{key}
 use Rattle.reader.specs.Values.{Ty, simple, interface, interfaceIs, array, sized, Param, param, Method, method, signature, methodName, Constant, constant, Descriptor, descriptor, Entry, entry, Header}
 use Rattle.reader.specs.Records.{Bytes, magic}
-use Rattle.reader.specs.Rules.{All, Letter, Identifier, MethodRule, ConstantRule, DescriptorRule, SpaceRule, OwnRule, EntryRule}
+use Rattle.reader.specs.Rules.{All, Identifier, MethodRule, ConstantRule, DescriptorRule, SpaceRule, OwnRule, EntryRule}
+use Rattle.reader.specs.Reader.Laws.{identifier-bytes}
 use Rattle.meaning.proofs.Maps.{itself}
 use Rattle.normal.specs.BigEndian.{bytesOf}
 use Rattle.normal.specs.Size.{valueWidth, constantName, entrySize, normalLength}
@@ -53,21 +54,12 @@ small-run W f h (x ∷ xs) a = join (h x (a .0)) (small-run W f h xs (a .1))
 
 -- ---- names
 
-small-letter : (b : ℕ) → Letter b → b < 256
-small-letter b l = elim l [
-  | inl h ↦ omega arith
-  | inr (inl h) ↦ omega arith
-  | inr (inr (inl h)) ↦ omega arith
-  | inr (inr (inr h)) ↦ omega arith
-]
-
-small-letters : (w : List ℕ) → All Letter w → Bytes w
-small-letters [] a = none-small
-small-letters (b ∷ w) a = cons-small b (small-letter b (a .0)) (small-letters w (a .1))
+small-word : (w : List ℕ) → Identifier w → Bytes w
+small-word w i = record { small = identifier-bytes w i }
 
 small-name : (w : List ℕ) → Identifier w → Bytes (nameBytes w)
 unfolding nameBytes
-small-name w i = join (small-letters w (i .letters)) (one-small 0 (omega arith))
+small-name w i = join (small-word w i) (one-small 0 (omega arith))
 
 -- ---- descriptors
 
