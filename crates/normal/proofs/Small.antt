@@ -69,7 +69,7 @@ small-type (simple b) r = one-small b (r .0)
 small-type (interface b i) r = cons-small b (r .0) (small-number 2 i)
 small-type (interfaceIs b a) r = cons-small b (r .0) (one-small a (r .2))
 small-type (array b x y t) r = cons-small b (r .0) (cons-small x (r .2) (cons-small y (r .3) (small-type t (r .4))))
-small-type (sized b x y) r = cons-small b (r .0) (cons-small x (r .3) (one-small y (r .4)))
+small-type (sized b x y) r = cons-small b (r .0) (cons-small x (r .2) (one-small y (r .3)))
 
 small-param : (x : Param ℕ) → RangedParam x → Bytes (paramBytes itself x)
 unfolding paramBytes

@@ -1,23 +1,51 @@
 // The records of an accepted file's pool: their fields, and where each ends. Positions are in the pool.
+ghost use mathlib.Core.Path.{_≡_};
 ghost use Prim.Native.Nat.{_+_, _≤_};
 ghost use lib.ListN.{length};
 ghost use Rattle.reader.specs.Values.{methodFlags, methodName, argumentCount, constantName, constantType, constantValue, parentIndex, parentOf, methodsOf};
 ghost use Rattle.reader.specs.Records.{ShowsType, ShowsParam, ShowsMethod, ShowsConstant, ShowsDescriptor};
+ghost use Rattle.reader.specs.Form.{formOf};
 ghost use Rattle.reader.specs.Layout.{Stands, Ends, Tells, Names, Rows};
+use crate::NEWEST;
+use types::Class;
 
-// Where the type at `at` ends. An array is three bytes, and then its element.
+// What stands after a type's prefix: nothing; an index; an argument number; two of them and an element; two of them.
+pub enum Form {
+    Simple,
+    Interface,
+    InterfaceIs,
+    Array,
+    Sized,
+}
+
+// That of the prefix b of a type in an accepted file.
+pub fn form_of(b: u8) -> Form
+    ensures { λ r. ⌜ r ≡ formOf b ⌝ }
+{
+    let k = types::tag_class(NEWEST as usize, b % 32);
+    match k {
+        Class::Reserved => Form::Simple,
+        Class::Plain => Form::Simple,
+        Class::Text => Form::Simple,
+        Class::Interface => Form::Interface,
+        Class::InterfaceIs => Form::InterfaceIs,
+        Class::Array => Form::Array,
+        Class::Sized => Form::Sized,
+    }
+}
+
+// Where the type at `at` ends.
 pub fn type_end(pool: &[u8], at: usize) -> usize
     requires { ⌜ Stands (ShowsType (now pool) at) × (length (now pool) ≤ 1048576) ⌝ }
     ensures { λ r. ⌜ Ends (ShowsType (now (pool .entry)) at) r ⌝ }
 {
-    let mut p = at;
-    while pool[p] % 32 == 20 {
-        p += 3;
-    }
-    match pool[p] % 32 {
-        0..=17 => p + 1,
-        19 => p + 2,
-        _ => p + 3,
+    let f = form_of(pool[at]);
+    match f {
+        Form::Simple => at + 1,
+        Form::Interface => at + 3,
+        Form::InterfaceIs => at + 2,
+        Form::Array => type_end(pool, at + 3),
+        Form::Sized => at + 3,
     }
 }
 

@@ -212,13 +212,17 @@ pub record EntriesRule (minor n : ℕ) (es : List (Entry ℕ)) : Type 0 where
 
 -- ---- a file
 
+-- the newest minor version
+abbrev pub newest : ℕ
+newest = 1
+
 -- the header of a file of `len` bytes
 pub record PositionRule (len : ℕ) (h : Header) : Type 0 where
   -- at most 1,048,576 bytes and 1,024 interfaces
   pub short : len ≤ 1048576
   pub few : h .count ≤ 1024
   -- minor is 0 or 1
-  pub known : h .minor ≤ 1
+  pub known : h .minor ≤ newest
   pub low : 33 ≤ h .pool
   pub inside : h .pool ≤ len
   -- with n = 0 the directory offset is 0

@@ -61,12 +61,28 @@ pub record ShowsName (s : List ℕ) (p : ℕ) (w : List ℕ) : Type 0 where
 
 -- ---- types, parameters, methods
 
+-- the tags of each kind of type; the file's minor plays no part in the layout
+abbrev pub SimpleTag : ℕ → Type 0
+SimpleTag t = t ≤ 17
+
+abbrev pub InterfaceTag : ℕ → Type 0
+InterfaceTag t = t ≡ 18
+
+abbrev pub InterfaceIsTag : ℕ → Type 0
+InterfaceIsTag t = t ≡ 19
+
+abbrev pub ArrayTag : ℕ → Type 0
+ArrayTag t = t ≡ 20
+
+abbrev pub SizedTag : ℕ → Type 0
+SizedTag t = (21 ≤ t) × (t ≤ 22)
+
 abbrev pub ShowsType : List ℕ → ℕ → Ty ℕ → ℕ → Type 0
-ShowsType s p (simple b) e = ShowsByte s p b × (b % 32 ≤ 17) × (e ≡ p + 1)
-ShowsType s p (interface b i) e = ShowsByte s p b × (b % 32 ≡ 18) × ShowsField 2 s (p + 1) i × (e ≡ p + 3)
-ShowsType s p (interfaceIs b a) e = ShowsByte s p b × (b % 32 ≡ 19) × ShowsByte s (p + 1) a × (e ≡ p + 2)
-ShowsType s p (array b x y t) e = ShowsByte s p b × (b % 32 ≡ 20) × ShowsByte s (p + 1) x × ShowsByte s (p + 2) y × ShowsType s (p + 3) t e
-ShowsType s p (sized b x y) e = ShowsByte s p b × (21 ≤ b % 32) × (b % 32 ≤ 22) × ShowsByte s (p + 1) x × ShowsByte s (p + 2) y × (e ≡ p + 3)
+ShowsType s p (simple b) e = ShowsByte s p b × SimpleTag (b % 32) × (e ≡ p + 1)
+ShowsType s p (interface b i) e = ShowsByte s p b × InterfaceTag (b % 32) × ShowsField 2 s (p + 1) i × (e ≡ p + 3)
+ShowsType s p (interfaceIs b a) e = ShowsByte s p b × InterfaceIsTag (b % 32) × ShowsByte s (p + 1) a × (e ≡ p + 2)
+ShowsType s p (array b x y t) e = ShowsByte s p b × ArrayTag (b % 32) × ShowsByte s (p + 1) x × ShowsByte s (p + 2) y × ShowsType s (p + 3) t e
+ShowsType s p (sized b x y) e = ShowsByte s p b × SizedTag (b % 32) × ShowsByte s (p + 1) x × ShowsByte s (p + 2) y × (e ≡ p + 3)
 
 abbrev pub ShowsParam : List ℕ → ℕ → Param ℕ → ℕ → Type 0
 ShowsParam s p (param f t) e = ShowsByte s p f × ShowsType s (p + 1) t e

@@ -2,7 +2,7 @@
 // meaning have the same size, so both are walked at once. A number answered is where the record in `pool` ends, or 0 where the two
 // differ. The table `first` holds for each row the first row of the same key; the rows of the second file come after the n of the first.
 ghost use mathlib.Core.Path.{_≡_};
-ghost use Prim.Native.Nat.{_+_, _-_, _%_, _≤_, _<_};
+ghost use Prim.Native.Nat.{_+_, _-_, _≤_, _<_};
 ghost use lib.ListN.{length, getD};
 ghost use Rattle.number.specs.Choice.{if_then_else_};
 ghost use Rattle.number.specs.Number.{be};
@@ -10,6 +10,7 @@ ghost use Rattle.key.specs.Word.{Leads, wordAt};
 ghost use Rattle.reader.specs.Layout.{Rows};
 ghost use Rattle.same.specs.Same.{sameDescriptor};
 ghost use Rattle.same.specs.Match.{rowOf, Rowed, HasType, HasParam, HasSignature, HasMethod, HasConstant, HasDescriptor, HasTail, Ready, TypesMatch, ParamMatches, ParamsMatch, SignaturesMatch, MethodMatches, MethodsMatch, ConstantMatches, ConstantsMatch, Decides, Decided, Compares, SameTail, SameMembers, SameParents};
+use reader::record::Form;
 
 // The references r of the first file and s of the second have the same key.
 fn same_row(first: &[u16; 2048], n: usize, r: usize, s: usize) -> bool
@@ -70,36 +71,7 @@ fn end_where(same: bool, e: usize) -> usize
     0
 }
 
-// Types with one prefix, which is not that of an array.
-fn match_plain(
-    pool: &[u8],
-    p: usize,
-    other: &[u8],
-    q: usize,
-    first: &[u16; 2048],
-    n: usize,
-) -> usize
-    requires { ⌜ Ready (now pool) (now other) (HasType (now pool) 0) (HasType (now other) n) p q × ((2048 ≡ length (now first)) × ((getD (now pool) p 0 ≡ getD (now other) q 0) × (getD (now pool) p 0 % 32 ≡ 20 → ⊥))) ⌝ }
-    ensures { λ r. ⌜ TypesMatch (now (pool .entry)) (now (other .entry)) (now (first .entry)) n p q r ⌝ }
-{
-    match pool[p] % 32 {
-        0..=17 => p + 1,
-        18 => {
-            let same = same_reference(pool, p + 1, other, q + 1, first, n);
-            end_where(same, p + 3)
-        }
-        19 => {
-            let same = pool[p + 1] == other[q + 1];
-            end_where(same, p + 2)
-        }
-        _ => {
-            let same = same_pair(pool, p + 1, other, q + 1);
-            end_where(same, p + 3)
-        }
-    }
-}
-
-// Types. The element of an array is compared after the numbers before it.
+// Types: prefixes, what stands after them, and the elements of arrays.
 fn match_type(pool: &[u8], p: usize, other: &[u8], q: usize, first: &[u16; 2048], n: usize) -> usize
     requires { ⌜ Ready (now pool) (now other) (HasType (now pool) 0) (HasType (now other) n) p q × (2048 ≡ length (now first)) ⌝ }
     ensures { λ r. ⌜ TypesMatch (now (pool .entry)) (now (other .entry)) (now (first .entry)) n p q r ⌝ }
@@ -107,13 +79,28 @@ fn match_type(pool: &[u8], p: usize, other: &[u8], q: usize, first: &[u16; 2048]
     if pool[p] != other[q] {
         return 0;
     }
-    if pool[p] % 32 != 20 {
-        return match_plain(pool, p, other, q, first, n);
+    let f = reader::record::form_of(pool[p]);
+    match f {
+        Form::Simple => p + 1,
+        Form::Interface => {
+            let same = same_reference(pool, p + 1, other, q + 1, first, n);
+            end_where(same, p + 3)
+        }
+        Form::InterfaceIs => {
+            let same = pool[p + 1] == other[q + 1];
+            end_where(same, p + 2)
+        }
+        Form::Array => {
+            if same_pair(pool, p + 1, other, q + 1) {
+                return match_type(pool, p + 3, other, q + 3, first, n);
+            }
+            0
+        }
+        Form::Sized => {
+            let same = same_pair(pool, p + 1, other, q + 1);
+            end_where(same, p + 3)
+        }
     }
-    if same_pair(pool, p + 1, other, q + 1) {
-        return match_type(pool, p + 3, other, q + 3, first, n);
-    }
-    0
 }
 
 // Parameters: flags, then the type.

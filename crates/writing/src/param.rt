@@ -15,6 +15,7 @@ ghost use Rattle.writing.specs.Source.{Known, renumber, InTable};
 ghost use Rattle.writing.specs.Wrote.{Room, Wrote};
 use crate::field::copy;
 use crate::field::put_u16;
+use reader::record::Form;
 
 // A prefix, and the index that the two bytes after it become.
 fn put_interface(pool: &[u8], at: usize, place: &[u16; 2048], shift: usize, out: &mut [u8]) -> usize
@@ -33,15 +34,16 @@ pub fn put_type(pool: &[u8], at: usize, place: &[u16; 2048], shift: usize, out: 
     requires { ⌜ Room (Known (ShowsType (now pool)) (TypeRefs (InTable shift)) at) typeSize (length (now out)) × ((length (now pool) ≤ 1048576) × (2048 ≡ length (now place))) ⌝ }
     ensures { λ r. ⌜ Wrote (Known (ShowsType (now (pool .entry))) (TypeRefs (InTable shift)) at) (typeBytes (renumber (now (place .entry)) shift)) (now (out .entry)) r (now (out .exit)) ⌝ }
 {
-    match pool[at] % 32 {
-        0..=17 => copy(pool, at, 1, out),
-        18 => put_interface(pool, at, place, shift, out),
-        19 => copy(pool, at, 2, out),
-        20 => {
+    let f = reader::record::form_of(pool[at]);
+    match f {
+        Form::Simple => copy(pool, at, 1, out),
+        Form::Interface => put_interface(pool, at, place, shift, out),
+        Form::InterfaceIs => copy(pool, at, 2, out),
+        Form::Array => {
             let n = copy(pool, at, 3, out);
             n + put_type(pool, at + 3, place, shift, &mut out[n..])
         }
-        _ => copy(pool, at, 3, out),
+        Form::Sized => copy(pool, at, 3, out),
     }
 }
 
