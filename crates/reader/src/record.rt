@@ -34,18 +34,21 @@ pub fn form_of(b: u8) -> Form
     }
 }
 
-// Where the type at `at` ends.
+// Where the type at `at` ends. An array is three bytes, and then its element.
 pub fn type_end(pool: &[u8], at: usize) -> usize
     requires { ⌜ Stands (ShowsType (now pool) at) × (length (now pool) ≤ 1048576) ⌝ }
     ensures { λ r. ⌜ Ends (ShowsType (now (pool .entry)) at) r ⌝ }
 {
-    let f = form_of(pool[at]);
-    match f {
-        Form::Simple => at + 1,
-        Form::Interface => at + 3,
-        Form::InterfaceIs => at + 2,
-        Form::Array => type_end(pool, at + 3),
-        Form::Sized => at + 3,
+    let mut p = at;
+    loop {
+        let f = form_of(pool[p]);
+        match f {
+            Form::Simple => return p + 1,
+            Form::Interface => return p + 3,
+            Form::InterfaceIs => return p + 2,
+            Form::Array => p += 3,
+            Form::Sized => return p + 3,
+        }
     }
 }
 
