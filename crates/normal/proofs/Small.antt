@@ -16,8 +16,9 @@ use Rattle.meaning.proofs.Maps.{itself}
 use Rattle.normal.specs.BigEndian.{bytesOf}
 use Rattle.normal.specs.Size.{valueWidth, constantName, entrySize, normalLength}
 use Rattle.normal.specs.Record.{run, typeBytes, paramBytes, methodBytes, nameAfter, methodsBytes, constantBytes, constantsBytes, parentNumber, constantsFrom, descriptorBytes, nameBytes, methodNameBytes, constantNameBytes, namesBytes}
-use Rattle.normal.specs.Normal.{spaceFrom, ownFrom, namesFrom, spaceBytes, ownBytes, entryPool, poolBytes, spacePointer, ownPointer, entryBytes, directoryBytes, minorOf, normalHeader, headerBytes, noteBytes, fileBytes}
+use Rattle.normal.specs.Normal.{spaceFrom, ownFrom, namesFrom, spaceBytes, ownBytes, entryPool, poolBytes, spacePointer, ownPointer, entryBytes, directoryBytes, normalHeader, headerBytes, noteBytes, fileBytes}
 use Rattle.normal.specs.Ranged.{RangedType, RangedParam, RangedMethod, Ranged, RangedOwn, RangedEntry}
+use Rattle.normal.proofs.Minors.{minor-most, header-minor}
 
 -- ---- lists
 
@@ -168,11 +169,7 @@ small-note : Bytes noteBytes
 unfolding noteBytes
 small-note = cons-small 128 (omega arith) (cons-small 0 (omega arith) (cons-small 0 (omega arith) (one-small 0 (omega arith))))
 
-minor-small : {R : Type 0} (us : List (Entry R)) → normalHeader us .minor < 256
-unfolding normalHeader minorOf
-minor-small us = omega arith
-
 pub file-bytes : (us : List (Entry ℕ)) (minor : ℕ) → All RangedEntry us → All (EntryRule minor (length us)) us → Bytes (fileBytes itself us)
 unfolding fileBytes
 file-bytes us minor g r =
-    join (join (join (small-header (normalHeader us) (normalLength us) (minor-small us)) small-note) (small-directory 1 us)) (small-pool minor (length us) 1 us g r)
+    join (join (join (small-header (normalHeader us) (normalLength us) (omega (arith, header-minor us, minor-most us))) small-note) (small-directory 1 us)) (small-pool minor (length us) 1 us g r)

@@ -18,6 +18,7 @@ use crate::own::put_row_own;
 use crate::own::row_own_size;
 use crate::row::put_row;
 use reader::Layout;
+use reader::NEWEST;
 
 // The length of the file of the first c rows of t, of which `holders` tells whose descriptors they have.
 // One over 1,048,576 for any length over it: it stops there.
@@ -159,6 +160,6 @@ pub fn put_file(
         c,
         out,
     );
-    put_front(c, end, out);
+    put_front(NEWEST, c, end, out);
     end
 }

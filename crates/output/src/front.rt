@@ -15,12 +15,13 @@ fn directory_at(c: usize) -> u32
     36
 }
 
-// Header and annotation of a file of c entries and `len` bytes.
-pub fn put_front(c: usize, len: usize, out: &mut [u8])
+// Header and annotation of a file of this minor, c entries and `len` bytes.
+pub fn put_front(minor: u8, c: usize, len: usize, out: &mut [u8])
     requires { ⌜ (c ≤ 1024) × ((len ≤ 1048576) × (36 ≤ length (now out))) ⌝ }
-    ensures { λ _. ⌜ now (out .exit) ≡ sets (now (out .entry)) 0 (frontBytes c len) ⌝ }
+    ensures { λ _. ⌜ now (out .exit) ≡ sets (now (out .entry)) 0 (frontBytes minor c len) ⌝ }
 {
-    text::put_bytes(out, 0, b"XPCOM\nTypeLib\r\n\x1a\x01\x01");
+    text::put_bytes(out, 0, b"XPCOM\nTypeLib\r\n\x1a\x01");
+    out[17] = minor;
     writing::field::put_u16(out, 18, c as u16);
     writing::field::put_u32(out, 20, len as u32);
     writing::field::put_u32(out, 24, directory_at(c));
