@@ -8,9 +8,9 @@ ghost use Rattle.normal.specs.Normal.{ownBytes};
 ghost use Rattle.writing.specs.Source.{renumber};
 ghost use Rattle.output.specs.Files.{Holds, HoldBoth, Given, Fits, Gives, Puts};
 ghost use Rattle.output.specs.View.{rowOwn, placeOf};
+use interfaces::own_size;
+use interfaces::put_own;
 use reader::Layout;
-use writing::descriptor::own_size;
-use writing::descriptor::put_own;
 
 // What the descriptor of entry i takes.
 fn held_size(file: &[u8], pool: &[u8], l: Layout, i: usize) -> usize

@@ -1,4 +1,4 @@
-// Descriptors, with their names.
+// Writes descriptors in normal form, with their names, and tells their sizes without writing.
 ghost use mathlib.Core.Path.{_≡_};
 ghost use mathlib.Core.Logic.{_⊎_};
 ghost use mathlib.Core.Option.{some};
@@ -9,17 +9,18 @@ ghost use Rattle.reader.specs.Layout.{Stands, Tells};
 ghost use Rattle.normal.specs.Size.{descriptorSize, namesSize, ownSize};
 ghost use Rattle.normal.specs.Record.{descriptorBytes, namesBytes};
 ghost use Rattle.normal.specs.Normal.{ownBytes};
-ghost use Rattle.writing.specs.Source.{Known, NamedDescriptor, DescriptorFit, InTable, renumber, renumberParent, ShowsTail, TailAt, NamedTail, tailSize, tailBytes};
+ghost use Rattle.writing.specs.Source.{Known, InTable, renumber};
+ghost use Rattle.interfaces.specs.Source.{NamedDescriptor, DescriptorFit, renumberParent, ShowsTail, TailAt, NamedTail, tailSize, tailBytes};
 ghost use Rattle.writing.specs.Wrote.{Room, Wrote};
-use crate::constant::constant_names_size;
-use crate::constant::constants_end;
-use crate::constant::put_constant_names;
-use crate::constant::put_constants;
-use crate::field::copy;
-use crate::field::put_u16;
-use crate::method::method_names_size;
-use crate::method::put_method_names;
-use crate::method::put_methods;
+use writing::constant::constant_names_size;
+use writing::constant::constants_end;
+use writing::constant::put_constant_names;
+use writing::constant::put_constants;
+use writing::field::copy;
+use writing::field::put_u16;
+use writing::method::method_names_size;
+use writing::method::put_method_names;
+use writing::method::put_methods;
 
 // What a parent's index r becomes; 0 is none.
 fn parent_number(place: &[u16; 2048], shift: usize, r: usize) -> u16
