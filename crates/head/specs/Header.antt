@@ -25,9 +25,12 @@ offMagic s i = getD s i 0 ≠? getD magic i 0
 unfoldable pub magicEnd : List ℕ → ℕ
 magicEnd s = scan (offMagic s) 16 0
 
--- minor is 0 or 1
+-- the newest minor version
+abbrev pub newest : ℕ
+newest = 1
+
 unfoldable pub unknownMinor : ℕ → Bool
-unknownMinor m = 1 <? m
+unknownMinor m = newest <? m
 
 -- the refusal of a file of `given` bytes whose length field says `said`, or 0: it must equal the bytes given
 unfoldable pub lengthFault : ℕ → ℕ → ℕ

@@ -5,6 +5,7 @@ ghost use lib.ListN.{length};
 ghost use Rattle.head.specs.Header.{magicEnd, unknownMinor, lengthFault, misplacedPool, misplacedDirectory, readPositions, readFields, readHeader, headOf};
 use super::Head;
 use super::Header;
+use super::NEWEST;
 use number::ENTRY_LIMIT;
 use number::ENTRY_WIDTH;
 use number::FILE_LIMIT;
@@ -48,7 +49,7 @@ fn magic_end(file: &[u8]) -> usize
 fn unknown_minor(m: u8) -> bool
     ensures { λ r. ⌜ r ≡ unknownMinor m ⌝ }
 {
-    1 < m
+    NEWEST < m
 }
 
 // The refusal of a file of `given` bytes whose length field says `said`, or 0.

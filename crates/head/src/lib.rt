@@ -8,6 +8,9 @@ pub use annotation::annotation_limit;
 pub use annotation::read_annotations;
 pub use fields::read_header;
 
+// The newest minor version.
+pub const NEWEST: u8 = 1;
+
 // What an accepted header says.
 pub struct Header {
     pub minor: u8,

@@ -10,7 +10,7 @@ use Rattle.reading.specs.Got.{Got, got}
 use Rattle.key.specs.Word.{compareWords, isSame, sameWord}
 use Rattle.key.specs.Key.{key}
 use Rattle.reader.specs.Values.{simple, param, signature, Method, method, methodFlags, methodName, descriptor, parentOf, methodsOf, constantsOf, constantName, Entry, entry, entryDescriptor, noEntry, descriptorIn, Typelib, typelib, entriesIn, empty}
-use Rattle.reader.specs.Rules.{letter, letters, isIdentifier}
+use Rattle.reader.specs.Rules.{isIdentifier}
 use Rattle.reader.specs.Reader.{decode}
 use Rattle.reader.specs.Reader.Marked.{P3, says3, decodes3}
 use Rattle.lookup.specs.declared.Kind.the-variants.{Getter, Plain}
@@ -27,7 +27,7 @@ use Rattle.lookup.specs.Question.{malformed, badName, badIndex, slotAs, 
 
 -- P14, constant K of P3: signed 16-bit, -2
 said14 : askConstant (got says3 82) 1 (0x4b ∷ []) ≡ value.Found (I16 (negsuc 1))
-unfolding says3 if_then_else_ _<?_ _≤?_ _=?_ _≠?_ compareWords isSame sameWord parentOf constantsOf constantName entryDescriptor noEntry descriptorIn entriesIn letter letters isIdentifier under ofParent ofEntry chainWithin descriptorAt chainOf missed orUpward seek signed valueOf isCalled firstOf ownConstant constantNamed badName badIndex soughtConstant constantAnswer askConstant
+unfolding says3 if_then_else_ _<?_ _≤?_ _=?_ _≠?_ compareWords isSame sameWord parentOf constantsOf constantName entryDescriptor noEntry descriptorIn entriesIn isIdentifier under ofParent ofEntry chainWithin descriptorAt chainOf missed orUpward seek signed valueOf isCalled firstOf ownConstant constantNamed badName badIndex soughtConstant constantAnswer askConstant
 said14 = refl
 
 pub P14 : askConstant (decode P3) 1 (0x4b ∷ []) ≡ value.Found (I16 (negsuc 1))
@@ -68,5 +68,5 @@ pub slots : (askMethod family 2 (0x6d ∷ []) Plain ≡ foundAt 1 0 (slot.Known 
     × (askSlot family 4 0 ≡ answer.Undetermined 3)
     × (askMethod family 3 (0x6d ∷ []) Plain ≡ answer.Undetermined 3)
     × (askMethod family 5 (0x6d ∷ []) Plain ≡ answer.Refused malformed)
-unfolding family foundAt one plain if_then_else_ _<?_ _≤?_ _=?_ _≠?_ compareWords isSame sameWord methodFlags methodName parentOf methodsOf entryDescriptor noEntry descriptorIn entriesIn letter letters isIdentifier under ofParent ofEntry chainWithin descriptorAt chainOf missed orUpward seek position methodsIn slotOf methodAt isKind isNamed methodIf ownMethod methodNamed atSlot methodInSlot badName badIndex slotAs soughtMethod methodAnswer slottedAnswer askMethod askSlot
+unfolding family foundAt one plain if_then_else_ _<?_ _≤?_ _=?_ _≠?_ compareWords isSame sameWord methodFlags methodName parentOf methodsOf entryDescriptor noEntry descriptorIn entriesIn isIdentifier under ofParent ofEntry chainWithin descriptorAt chainOf missed orUpward seek position methodsIn slotOf methodAt isKind isNamed methodIf ownMethod methodNamed atSlot methodInSlot badName badIndex slotAs soughtMethod methodAnswer slottedAnswer askMethod askSlot
 slots = (refl, refl, refl, refl, refl, refl, refl, refl, refl, refl, refl)

@@ -26,7 +26,9 @@ letters [] = true
 letters (b ∷ w) = if letter b then letters w else false
 
 -- Document 01, "Identifier", of the bytes before the zero byte: 1 to 255 letters. The rule is asked of all of them at once.
+-- Whoever unfolds it unfolds the letters with it: no crate above names them.
 unfoldable pub isIdentifier : List ℕ → Bool
+unfolding letter letters
 isIdentifier w =
     if length w =? 0 then false else
     if nameLimit <? length w then false else

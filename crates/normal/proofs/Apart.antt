@@ -6,7 +6,7 @@ use Prim.Native.Nat.{ℕ}
 use native.Mathlib.Omega.{arith}
 use Rattle.key.specs.Key.{key}
 use Rattle.reader.specs.Values.{Ty, simple, interface, interfaceIs, array, sized, Param, param, paramType, signature, Method, method, Descriptor, descriptor, Entry, entry}
-use Rattle.reader.specs.Rules.{InDirectory, TypeRule, ArgumentRule, MethodRule, ParentRule, DescriptorRule, EntryRule}
+use Rattle.reader.specs.Rules.{InDirectory, TypeRule, ArgumentRule, MethodRule, ParentRule, DescriptorRule, EntryRule, newest}
 use Rattle.meaning.specs.Meaning.{mapDescriptor, mapOwn, mapEntry}
 use Rattle.meaning.specs.Refs.{TypeRefs, ParamRefs, MethodRefs, ParentRefs, AllRefs, EntryRefs}
 use Rattle.meaning.proofs.Alls.{all-then}
@@ -51,7 +51,7 @@ module _ (minor n : ℕ) where
   obeys-apart d r =
       let refs = refs-in d r in
       let r1 : DescriptorRule minor n (mapDescriptor itself d) = rw (descriptor-itself d) r in
-      descriptor-rule (λ _. 1) itself minor 1 n 1 (λ z. absurd (omega arith)) d r1 (refs-then (InDirectory n) (λ _. InDirectory 1 1) (λ i _. (omega arith, omega arith)) d refs)
+      descriptor-rule (λ _. 1) itself minor newest n 1 (λ z. absurd (omega arith)) d r1 (refs-then (InDirectory n) (λ _. InDirectory 1 1) (λ i _. (omega arith, omega arith)) d refs)
 
   pub entry-obeys-apart : (e : Entry ℕ) → EntryRule minor n e → EntryApart e
   unfolding mapEntry mapOwn
@@ -60,10 +60,10 @@ module _ (minor n : ℕ) where
 
 -- ---- and back, in a directory of m entries
 
-pub apart-obeys : {R : Type 0} (f : R → ℕ) (m : ℕ) (d : Descriptor R) → DescriptorApart d → AllRefs (λ r. InDirectory m (f r)) d → DescriptorRule 1 m (mapDescriptor f d)
-apart-obeys f m d r a = descriptor-rule f (λ _. 1) 1 1 1 m (λ z. z) d r a
+pub apart-obeys : {R : Type 0} (f : R → ℕ) (m : ℕ) (d : Descriptor R) → DescriptorApart d → AllRefs (λ r. InDirectory m (f r)) d → DescriptorRule newest m (mapDescriptor f d)
+apart-obeys f m d r a = descriptor-rule f (λ _. 1) newest newest 1 m (λ z. z) d r a
 
-pub entry-apart-obeys : {R : Type 0} (f : R → ℕ) (m : ℕ) (u : Entry R) → EntryApart u → EntryRefs (λ r. InDirectory m (f r)) u → EntryRule 1 m (mapEntry f u)
+pub entry-apart-obeys : {R : Type 0} (f : R → ℕ) (m : ℕ) (u : Entry R) → EntryApart u → EntryRefs (λ r. InDirectory m (f r)) u → EntryRule newest m (mapEntry f u)
 unfolding mapEntry mapOwn
 entry-apart-obeys f m (entry (key v w) i none) r a = r
 entry-apart-obeys f m (entry (key v w) i (some d)) r a = (r .0, r .1, (r .2 .0, apart-obeys f m d (r .2 .1) a))
@@ -71,7 +71,7 @@ entry-apart-obeys f m (entry (key v w) i (some d)) r a = (r .0, r .1, (r .2 .0, 
 -- ---- whatever the references are
 
 pub apart-same : {R S : Type 0} (g : R → S) (d : Descriptor R) → DescriptorApart (mapDescriptor g d) ≡ DescriptorApart d
-apart-same g d = λ i. DescriptorRule 1 1 (map-descriptor (λ _. 1) g d i)
+apart-same g d = λ i. DescriptorRule newest 1 (map-descriptor (λ _. 1) g d i)
 
 pub entry-apart-same : {R S : Type 0} (g : R → S) (u : Entry R) → EntryApart (mapEntry g u) ≡ EntryApart u
-entry-apart-same g u = λ i. EntryRule 1 1 (map-entry (λ _. 1) g u i)
+entry-apart-same g u = λ i. EntryRule newest 1 (map-entry (λ _. 1) g u i)

@@ -25,25 +25,11 @@ use Rattle.normal.specs.Ranged.{RangedEntry}
 use Rattle.normal.specs.Encodable.{Sound, Encodable, Readable}
 use Rattle.normal.proofs.Lengths.{length-normal}
 use Rattle.normal.proofs.Files.{file-shows, directory-none, directory-at, header-count, header-pool, length-parts}
+use Rattle.normal.proofs.Minors.{minor-most, minor-legal, header-minor}
 use Rattle.normal.proofs.Small.{file-bytes}
 use Rattle.normal.proofs.Mapped.{normal-length, header-mapped, normal-file}
 use Rattle.normal.proofs.Ranges.{ranged-entry}
 use Rattle.normal.proofs.Apart.{entry-apart-obeys}
-
--- ---- the minor of a meaning
-
--- every record that obeys the rules is legal under it
-pub minor-legal : {R : Type 0} (us : List (Entry R)) (n : ℕ) (e : Entry ℕ) → EntryRule 1 n e → EntryRule (minorOf us) n e
-unfolding minorOf
-minor-legal us n e r = r
-
-pub minor-known : {R : Type 0} (us : List (Entry R)) → normalHeader us .minor ≤ 1
-unfolding normalHeader minorOf
-minor-known us = omega arith
-
-header-minor : {R : Type 0} (us : List (Entry R)) → normalHeader us .minor ≡ minorOf us
-unfolding normalHeader
-header-minor us = refl
 
 -- ---- what is written
 
@@ -104,7 +90,7 @@ module _ (us : List (Entry Key)) (enc : Encodable us) where
       record {
         short = omega (arith, enc .short);
         few = omega (arith, enc .few);
-        known = minor-known us;
+        known = omega (arith, header-minor us, minor-most us);
         low = omega arith;
         inside = omega arith;
         absent = λ z. directory-none us (omega arith);

@@ -8,12 +8,13 @@ use Prim.Native.Nat.{ℕ, zero, suc, _^_, _≤_}
 use native.Mathlib.Bridge.{le-by-compare, IsLe}
 use native.Mathlib.Omega.{arith}
 use lib.ListN.{length, getD}
-use Rattle.number.specs.Choice.{if_then_else_, _=?_}
+use Rattle.number.specs.Choice.{if_then_else_, _<?_, _=?_}
 use Rattle.key.specs.Key.{Key}
 use Rattle.reading.specs.Got.{got}
 use Rattle.reader.specs.Values.{parentOf, Entry}
-use Rattle.reader.specs.Rules.{Identifier, InOrder, UniqueKeys}
+use Rattle.reader.specs.Rules.{isIdentifier, InOrder, UniqueKeys}
 use Rattle.reader.specs.Reader.{decode}
+use Rattle.reader.specs.Reader.Laws.{identifier-exactly}
 use Rattle.meaning.specs.Meaning.{mapParent, mapDescriptor, mapOwn, mapEntry}
 use Rattle.meaning.specs.Index.{renumbered}
 use Rattle.meaning.specs.Chain.{parentRef}
@@ -50,14 +51,10 @@ unfolding normalLength sum tank parentRef
 readable-none = readable-one [] (omega arith) tank (λ i. refl) (record { few = omega arith; short = omega arith; each = tt; closed = tt })
 
 sound-tank : Sound tank
-unfolding tank mapEntry mapOwn IsLe
+unfolding tank mapEntry mapOwn isIdentifier if_then_else_ _<?_ _=?_ IsLe
 sound-tank = record {
   rule = (
-    record {
-      some = omega arith;
-      few = omega arith;
-      letters = (inr (inl (omega arith, omega arith)), (inr (inr (inr (omega arith, omega arith))), (inr (inr (inr (omega arith, omega arith))), (inr (inr (inr (omega arith, omega arith))), tt))));
-    },
+    identifier-exactly (0x54 ∷ 0x61 ∷ 0x6e ∷ 0x6b ∷ []) .0 refl,
     inl refl,
     tt,
   );
@@ -72,15 +69,11 @@ readable-tank = readable-one (tank ∷ []) (omega arith) tank parents (record { 
     parents zero = refl
     parents (suc i) = refl
 
--- one upper-case letter
-letter-word : (b : ℕ) → 65 ≤ b → b ≤ 90 → Identifier (b ∷ [])
-letter-word b l m = record { some = omega arith; few = omega arith; letters = (inr (inl (l, m)), tt) }
-
 sound-constant : Sound withConstant
-unfolding withConstant mapEntry mapOwn mapDescriptor mapParent valueWidth if_then_else_ _=?_ IsLe
+unfolding withConstant mapEntry mapOwn mapDescriptor mapParent valueWidth isIdentifier if_then_else_ _<?_ _=?_ IsLe
 sound-constant = record {
   rule = (
-    letter-word 0x41 (omega arith) (omega arith),
+    identifier-exactly (0x41 ∷ []) .0 refl,
     inl refl,
     (
       λ e. omega arith,
@@ -89,7 +82,7 @@ sound-constant = record {
         fewMethods = omega arith;
         methods = tt;
         fewConstants = omega arith;
-        constants = ((letter-word 0x4b (omega arith) (omega arith), inl refl), tt);
+        constants = ((identifier-exactly (0x4b ∷ []) .0 refl, inl refl), tt);
         reserved = refl;
         function = λ z. refl;
         constructors = λ i j l m x y. absurd (omega arith);

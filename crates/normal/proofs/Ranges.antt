@@ -13,7 +13,7 @@ use Rattle.number.specs.Choice.{if_then_else_, _=?_}
 use Rattle.number.specs.Number.{be}
 use Rattle.key.specs.Key.{key}
 use Rattle.reader.specs.Values.{Ty, simple, interface, interfaceIs, array, sized, Param, param, signature, Method, method, Constant, constant, Descriptor, descriptor, Entry, entry, noEntry, Typelib, typelib, entriesIn, Header}
-use Rattle.reader.specs.Records.{Bytes, ShowsByte, Run, ShowsType, ShowsParam, ShowsMethod, Stored, ShowsConstant, ShowsDescriptor, ShowsOwn, ShowsEntry, poolOf, ShowsTypelib}
+use Rattle.reader.specs.Records.{Bytes, ShowsByte, Run, ArrayTag, ShowsType, ShowsParam, ShowsMethod, Stored, ShowsConstant, ShowsDescriptor, ShowsOwn, ShowsEntry, poolOf, ShowsTypelib}
 use Rattle.reader.specs.Rules.{All}
 use Rattle.meaning.specs.Meaning.{mapTy, mapParam, mapSignature, mapMethod, mapDescriptor, mapOwn, mapEntry}
 use Rattle.meaning.proofs.Alls.{all-mapped, each-all}
@@ -47,7 +47,7 @@ module _ (s : List ℕ) (bytes : Bytes s) where
   type-ranged p (interface b i) e h = (byte-below p b (h .0), h .1)
   type-ranged p (interfaceIs b a) e h = (byte-below p b (h .0), h .1, byte-below (p + 1) a (h .2))
   type-ranged p (array b x y t) e h = (byte-below p b (h .0), h .1, byte-below (p + 1) x (h .2), byte-below (p + 2) y (h .3), type-ranged (p + 3) t e (h .4))
-  type-ranged p (sized b x y) e h = (byte-below p b (h .0), h .1, h .2, byte-below (p + 1) x (h .3), byte-below (p + 2) y (h .4))
+  type-ranged p (sized b x y) e h = (byte-below p b (h .0), h .1, byte-below (p + 1) x (h .2), byte-below (p + 2) y (h .3))
 
   param-ranged : (p : ℕ) (x : Param ℕ) (e : ℕ) → ShowsParam s p x e → RangedParam x
   param-ranged p (param f t) e h = (byte-below p f (h .0), type-ranged (p + 1) t e (h .1))
@@ -101,7 +101,7 @@ module _ {R S : Type 0} (g : R → S) where
   type-same (simple b) = refl
   type-same (interface b r) = refl
   type-same (interfaceIs b a) = refl
-  type-same (array b x y t) = λ i. (b < 256) × (b % 32 ≡ 20) × (x < 256) × (y < 256) × type-same t i
+  type-same (array b x y t) = λ i. (b < 256) × ArrayTag (b % 32) × (x < 256) × (y < 256) × type-same t i
   type-same (sized b x y) = refl
 
   param-same : (x : Param R) → RangedParam (mapParam g x) ≡ RangedParam x

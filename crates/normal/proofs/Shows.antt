@@ -67,7 +67,7 @@ module _ (s : List ℕ) where
     type-shows (sized b x y) p e r k q h =
         let h1 = from-tail s p b (x ∷ y ∷ []) h in
         let h2 = from-at s (p + 1 + 1) (p + 2) (y ∷ []) (omega arith) (from-tail s (p + 1) x (y ∷ []) h1) in
-        (from-head s p b (x ∷ y ∷ []) h, r .1, r .2, from-head s (p + 1) x (y ∷ []) h1, from-head s (p + 2) y [] h2, q)
+        (from-head s p b (x ∷ y ∷ []) h, r .1, from-head s (p + 1) x (y ∷ []) h1, from-head s (p + 2) y [] h2, q)
 
     param-shows : (x : Param ℕ) (p e : ℕ) → GoodParam minor n x → e ≡ p + paramSize x → From s p (paramBytes itself x) → ShowsParam s p x e
     unfolding paramBytes paramSize paramType

@@ -10,13 +10,15 @@ use lib.ListN.{length, getD}
 use Rattle.key.specs.Key.{key}
 use Rattle.reader.specs.Values.{Ty, simple, interface, interfaceIs, array, sized, Param, param, Method, method, signature, methodName, Constant, constant, Descriptor, descriptor, Entry, entry, Header}
 use Rattle.reader.specs.Records.{Bytes, magic}
-use Rattle.reader.specs.Rules.{All, Letter, Identifier, MethodRule, ConstantRule, DescriptorRule, SpaceRule, OwnRule, EntryRule}
+use Rattle.reader.specs.Rules.{All, Identifier, MethodRule, ConstantRule, DescriptorRule, SpaceRule, OwnRule, EntryRule}
+use Rattle.reader.specs.Reader.Laws.{identifier-bytes}
 use Rattle.meaning.proofs.Maps.{itself}
 use Rattle.normal.specs.BigEndian.{bytesOf}
 use Rattle.normal.specs.Size.{valueWidth, constantName, entrySize, normalLength}
 use Rattle.normal.specs.Record.{run, typeBytes, paramBytes, methodBytes, nameAfter, methodsBytes, constantBytes, constantsBytes, parentNumber, constantsFrom, descriptorBytes, nameBytes, methodNameBytes, constantNameBytes, namesBytes}
-use Rattle.normal.specs.Normal.{spaceFrom, ownFrom, namesFrom, spaceBytes, ownBytes, entryPool, poolBytes, spacePointer, ownPointer, entryBytes, directoryBytes, minorOf, normalHeader, headerBytes, noteBytes, fileBytes}
+use Rattle.normal.specs.Normal.{spaceFrom, ownFrom, namesFrom, spaceBytes, ownBytes, entryPool, poolBytes, spacePointer, ownPointer, entryBytes, directoryBytes, normalHeader, headerBytes, noteBytes, fileBytes}
 use Rattle.normal.specs.Ranged.{RangedType, RangedParam, RangedMethod, Ranged, RangedOwn, RangedEntry}
+use Rattle.normal.proofs.Minors.{minor-most, header-minor}
 
 -- ---- lists
 
@@ -53,21 +55,12 @@ small-run W f h (x ∷ xs) a = join (h x (a .0)) (small-run W f h xs (a .1))
 
 -- ---- names
 
-small-letter : (b : ℕ) → Letter b → b < 256
-small-letter b l = elim l [
-  | inl h ↦ omega arith
-  | inr (inl h) ↦ omega arith
-  | inr (inr (inl h)) ↦ omega arith
-  | inr (inr (inr h)) ↦ omega arith
-]
-
-small-letters : (w : List ℕ) → All Letter w → Bytes w
-small-letters [] a = none-small
-small-letters (b ∷ w) a = cons-small b (small-letter b (a .0)) (small-letters w (a .1))
+small-word : (w : List ℕ) → Identifier w → Bytes w
+small-word w i = record { small = identifier-bytes w i }
 
 small-name : (w : List ℕ) → Identifier w → Bytes (nameBytes w)
 unfolding nameBytes
-small-name w i = join (small-letters w (i .letters)) (one-small 0 (omega arith))
+small-name w i = join (small-word w i) (one-small 0 (omega arith))
 
 -- ---- descriptors
 
@@ -77,7 +70,7 @@ small-type (simple b) r = one-small b (r .0)
 small-type (interface b i) r = cons-small b (r .0) (small-number 2 i)
 small-type (interfaceIs b a) r = cons-small b (r .0) (one-small a (r .2))
 small-type (array b x y t) r = cons-small b (r .0) (cons-small x (r .2) (cons-small y (r .3) (small-type t (r .4))))
-small-type (sized b x y) r = cons-small b (r .0) (cons-small x (r .3) (one-small y (r .4)))
+small-type (sized b x y) r = cons-small b (r .0) (cons-small x (r .2) (one-small y (r .3)))
 
 small-param : (x : Param ℕ) → RangedParam x → Bytes (paramBytes itself x)
 unfolding paramBytes
@@ -176,11 +169,7 @@ small-note : Bytes noteBytes
 unfolding noteBytes
 small-note = cons-small 128 (omega arith) (cons-small 0 (omega arith) (cons-small 0 (omega arith) (one-small 0 (omega arith))))
 
-minor-small : {R : Type 0} (us : List (Entry R)) → normalHeader us .minor < 256
-unfolding normalHeader minorOf
-minor-small us = omega arith
-
 pub file-bytes : (us : List (Entry ℕ)) (minor : ℕ) → All RangedEntry us → All (EntryRule minor (length us)) us → Bytes (fileBytes itself us)
 unfolding fileBytes
 file-bytes us minor g r =
-    join (join (join (small-header (normalHeader us) (normalLength us) (minor-small us)) small-note) (small-directory 1 us)) (small-pool minor (length us) 1 us g r)
+    join (join (join (small-header (normalHeader us) (normalLength us) (omega (arith, header-minor us, minor-most us))) small-note) (small-directory 1 us)) (small-pool minor (length us) 1 us g r)

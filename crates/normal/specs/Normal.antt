@@ -4,6 +4,7 @@ use mathlib.Core.List.{List, [], _∷_, _++_}
 use mathlib.Core.Option.{Option, none, some}
 use Prim.Native.Nat.{ℕ, _+_, _*_}
 use lib.ListN.{length}
+use Rattle.number.specs.Limits.{entryWidth}
 use Rattle.number.specs.Choice.{if_then_else_, _=?_}
 use Rattle.key.specs.Key.{Key, key}
 use Rattle.reader.specs.Values.{Descriptor, Entry, entry, Header, empty, Typelib, typelib}
@@ -78,7 +79,7 @@ normalHeader us = record {
   minor = minorOf us;
   count = length us;
   directory = if length us =? 0 then 0 else 36;
-  pool = 36 + 28 * length us;
+  pool = 36 + entryWidth * length us;
 }
 
 -- a header of a file of `len` bytes: magic, major, minor, interface count, file length, directory offset, pool offset

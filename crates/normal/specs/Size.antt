@@ -4,6 +4,7 @@ use mathlib.Core.List.{List, [], _∷_}
 use mathlib.Core.Option.{Option, none, some}
 use Prim.Native.Nat.{ℕ, _+_}
 use lib.ListN.{length}
+use Rattle.number.specs.Limits.{entryWidth}
 use Rattle.number.specs.Choice.{if_then_else_, _=?_}
 use Rattle.key.specs.Key.{key}
 unfoldable pub use Rattle.reader.specs.Values.{constantName}
@@ -75,7 +76,7 @@ entrySize (entry (key v w) i d) = nameSize w + spaceSize v + ownSize d
 
 -- of one entry, in the directory and in the pool
 unfoldable pub entryLength : {R : Type 0} → Entry R → ℕ
-entryLength u = 28 + entrySize u
+entryLength u = entryWidth + entrySize u
 
 -- of the normal form of these entries
 unfoldable pub normalLength : {R : Type 0} → List (Entry R) → ℕ

@@ -17,9 +17,10 @@ use Rattle.meaning.proofs.Alls.{all-at}
 use Rattle.normal.specs.Size.{ownSize}
 use Rattle.normal.specs.Normal.{ownBytes}
 use Rattle.normal.proofs.Lengths.{length-own}
-use Rattle.writing.specs.Source.{Known, NamedDescriptor, DescriptorFit}
+use Rattle.writing.specs.Source.{Known}
+use Rattle.interfaces.specs.Source.{NamedDescriptor, DescriptorFit}
 use Rattle.writing.specs.Wrote.{Room, Wrote}
-use Rattle.writing.proofs.Fits.{fit-shown}
+use Rattle.interfaces.proofs.Fits.{fit-shown}
 use Rattle.output.specs.Files.{Holds}
 
 -- the pool of a file is no longer than a file may be

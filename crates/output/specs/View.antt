@@ -3,6 +3,7 @@
 use mathlib.Core.List.{List}
 use mathlib.Core.Option.{Option}
 use Prim.Native.Nat.{ℕ, _-_, _≤_, _<_}
+use Rattle.number.specs.Limits.{fileLimit, entryLimit}
 use Rattle.number.specs.Choice.{if_then_else_, _≤?_}
 use Rattle.key.specs.Key.{Key}
 use Rattle.reader.specs.Values.{Descriptor, Entry, entry}
@@ -35,7 +36,7 @@ viewEntries x iid holder t c = span (λ q. viewEntry x iid holder (cell t q)) c
 
 -- c of n rows stand in t, and `holders` tells of every row one of them, or 0
 pub record Viewed (n : ℕ) (t holders : List ℕ) (c : ℕ) : Type 0 where
-  pub few : c ≤ 1024
+  pub few : c ≤ entryLimit
   pub rows : (q : ℕ) → q < c → cell t q < n
   pub held : (r : ℕ) → r < n → cell holders r ≤ n
 
@@ -45,7 +46,7 @@ placeOf place r = cell place (r - 1)
 
 -- a length; for any that is over what a file may have, one over that
 unfoldable pub capped : ℕ → ℕ
-capped n = if n ≤? 1048576 then n else 1048577
+capped n = if n ≤? fileLimit then n else (fileLimit + 1)
 
 -- the length of the file of these entries, and its bytes
 unfoldable pub viewLength : Pair → (ℕ → ℕ) → (ℕ → ℕ) → List ℕ → ℕ → ℕ

@@ -4,6 +4,7 @@ ghost use mathlib.Core.List.{_++_};
 ghost use Prim.Native.Nat.{ℕ, _+_, _≤_, _<_};
 ghost use lib.ListN.{length};
 ghost use lib.Seq.{sets};
+ghost use Rattle.number.specs.Limits.{fileLimit, entryWidth, rowLimit};
 ghost use Rattle.normal.specs.Size.{entrySize};
 ghost use Rattle.normal.specs.Normal.{entryPool, entryBytes, directoryBytes, poolBytes};
 ghost use Rattle.iids.specs.Cells.{cell};
@@ -17,7 +18,11 @@ use crate::keys::row_parts;
 use crate::own::put_row_own;
 use crate::own::row_own_size;
 use crate::row::put_row;
+use number::ENTRY_WIDTH;
+use number::FILE_LIMIT;
+use number::ROW_LIMIT;
 use reader::Layout;
+use reader::NEWEST;
 
 // The length of the file of the first c rows of t, of which `holders` tells whose descriptors they have.
 // One over 1,048,576 for any length over it: it stops there.
@@ -28,11 +33,11 @@ pub fn total_size(
     b: &[u8],
     pool2: &[u8],
     l2: Layout,
-    t: &[u16; 2048],
-    holders: &[u16; 2048],
+    t: &[u16; ROW_LIMIT],
+    holders: &[u16; ROW_LIMIT],
     c: usize,
 ) -> usize
-    requires { ⌜ Given (HoldBoth (now a) (now pool) l (now b) (now pool2) l2) × Viewed (l .count + l2 .count) (now t) (now holders) c × (2048 ≡ length (now t)) × (2048 ≡ length (now holders)) ⌝ }
+    requires { ⌜ Given (HoldBoth (now a) (now pool) l (now b) (now pool2) l2) × Viewed (l .count + l2 .count) (now t) (now holders) c × (rowLimit ≡ length (now t)) × (rowLimit ≡ length (now holders)) ⌝ }
     ensures { λ r. ⌜ ((iid : ℕ → ℕ) → Gives (HoldBoth (now (a .entry)) (now (pool .entry)) l (now (b .entry)) (now (pool2 .entry)) l2) (λ x. capped (viewLength x iid (cell (now (holders .entry))) (now (t .entry)) c)) r) ⌝ }
 {
     let mut size: usize = 36;
@@ -41,9 +46,9 @@ pub fn total_size(
         let r = index(t[q]);
         let own = row_own_size(a, pool, l, b, pool2, l2, index(holders[r]));
         let k = row_parts(a, pool, l, b, pool2, l2, r);
-        size += 28 + k.name + k.space + own;
-        if 1048576 < size {
-            return 1048577;
+        size += ENTRY_WIDTH + k.name + k.space + own;
+        if FILE_LIMIT < size {
+            return FILE_LIMIT + 1;
         }
         q += 1;
     }
@@ -63,12 +68,12 @@ fn put_one(
     p: usize,
     high: u64,
     low: u64,
-    place: &[u16; 2048],
+    place: &[u16; ROW_LIMIT],
     dir: usize,
     at: usize,
     out: &mut [u8],
 ) -> usize
-    requires { ⌜ Fits (HoldBoth (now a) (now pool) l (now b) (now pool2) l2) (λ x. at + entrySize (entryOf x r (wide high low) h)) (length (now out)) × Fits (HoldBoth (now a) (now pool) l (now b) (now pool2) l2) (λ x. at + entrySize (entryOf x r (wide high low) h)) 1048576 × (p ≤ at) × (r < l .count + l2 .count) × (h ≤ l .count + l2 .count) × (dir + 28 ≤ at) × (2048 ≡ length (now place)) ⌝ }
+    requires { ⌜ Fits (HoldBoth (now a) (now pool) l (now b) (now pool2) l2) (λ x. at + entrySize (entryOf x r (wide high low) h)) (length (now out)) × Fits (HoldBoth (now a) (now pool) l (now b) (now pool2) l2) (λ x. at + entrySize (entryOf x r (wide high low) h)) fileLimit × (p ≤ at) × (r < l .count + l2 .count) × (h ≤ l .count + l2 .count) × (dir + entryWidth ≤ at) × (rowLimit ≡ length (now place)) ⌝ }
     ensures { λ e. ⌜ ((x : Pair) → HoldBoth (now (a .entry)) (now (pool .entry)) l (now (b .entry)) (now (pool2 .entry)) l2 x → (e ≡ at + entrySize (entryOf x r (wide high low) h)) × (now (out .exit) ≡ sets (sets (now (out .entry)) dir (entryBytes p (entryOf x r (wide high low) h))) at (entryPool (placeOf (now (place .entry))) p (entryOf x r (wide high low) h)))) ⌝ }
 {
     let k = put_row_key(a, pool, l, b, pool2, l2, r, &mut out[at..]);
@@ -98,18 +103,18 @@ fn put_rows(
     b: &[u8],
     pool2: &[u8],
     l2: Layout,
-    t: &[u16; 2048],
-    holders: &[u16; 2048],
-    high: &[u64; 2048],
-    low: &[u64; 2048],
-    place: &[u16; 2048],
+    t: &[u16; ROW_LIMIT],
+    holders: &[u16; ROW_LIMIT],
+    high: &[u64; ROW_LIMIT],
+    low: &[u64; ROW_LIMIT],
+    place: &[u16; ROW_LIMIT],
     c: usize,
     out: &mut [u8],
 ) -> usize
-    requires { ⌜ Fits (HoldBoth (now a) (now pool) l (now b) (now pool2) l2) (λ x. viewLength x (numberIn (now high) (now low)) (cell (now holders)) (now t) c) (length (now out)) × Fits (HoldBoth (now a) (now pool) l (now b) (now pool2) l2) (λ x. viewLength x (numberIn (now high) (now low)) (cell (now holders)) (now t) c) 1048576 × Viewed (l .count + l2 .count) (now t) (now holders) c × (2048 ≡ length (now t)) × (2048 ≡ length (now holders)) × (2048 ≡ length (now high)) × (2048 ≡ length (now low)) × (2048 ≡ length (now place)) ⌝ }
+    requires { ⌜ Fits (HoldBoth (now a) (now pool) l (now b) (now pool2) l2) (λ x. viewLength x (numberIn (now high) (now low)) (cell (now holders)) (now t) c) (length (now out)) × Fits (HoldBoth (now a) (now pool) l (now b) (now pool2) l2) (λ x. viewLength x (numberIn (now high) (now low)) (cell (now holders)) (now t) c) fileLimit × Viewed (l .count + l2 .count) (now t) (now holders) c × (rowLimit ≡ length (now t)) × (rowLimit ≡ length (now holders)) × (rowLimit ≡ length (now high)) × (rowLimit ≡ length (now low)) × (rowLimit ≡ length (now place)) ⌝ }
     ensures { λ e. ⌜ ((x : Pair) → HoldBoth (now (a .entry)) (now (pool .entry)) l (now (b .entry)) (now (pool2 .entry)) l2 x → (e ≡ viewLength x (numberIn (now (high .entry)) (now (low .entry))) (cell (now (holders .entry))) (now (t .entry)) c) × (now (out .exit) ≡ sets (now (out .entry)) 36 (directoryBytes 1 (viewEntries x (numberIn (now (high .entry)) (now (low .entry))) (cell (now (holders .entry))) (now (t .entry)) c) ++ poolBytes (placeOf (now (place .entry))) 1 (viewEntries x (numberIn (now (high .entry)) (now (low .entry))) (cell (now (holders .entry))) (now (t .entry)) c)))) ⌝ }
 {
-    let base = 36 + 28 * c;
+    let base = 36 + ENTRY_WIDTH * c;
     let mut at = base;
     let mut q: usize = 0;
     while q < c {
@@ -118,7 +123,7 @@ fn put_rows(
         let p = at - base + 1;
         let hi = high[r];
         let lo = low[r];
-        let d = 36 + 28 * q;
+        let d = 36 + ENTRY_WIDTH * q;
         at = put_one(a, pool, l, b, pool2, l2, r, h, p, hi, lo, place, d, at, out);
         q += 1;
     }
@@ -133,15 +138,15 @@ pub fn put_file(
     b: &[u8],
     pool2: &[u8],
     l2: Layout,
-    t: &[u16; 2048],
-    holders: &[u16; 2048],
-    high: &[u64; 2048],
-    low: &[u64; 2048],
-    place: &[u16; 2048],
+    t: &[u16; ROW_LIMIT],
+    holders: &[u16; ROW_LIMIT],
+    high: &[u64; ROW_LIMIT],
+    low: &[u64; ROW_LIMIT],
+    place: &[u16; ROW_LIMIT],
     c: usize,
     out: &mut [u8],
 ) -> usize
-    requires { ⌜ Fits (HoldBoth (now a) (now pool) l (now b) (now pool2) l2) (λ x. viewLength x (numberIn (now high) (now low)) (cell (now holders)) (now t) c) (length (now out)) × Fits (HoldBoth (now a) (now pool) l (now b) (now pool2) l2) (λ x. viewLength x (numberIn (now high) (now low)) (cell (now holders)) (now t) c) 1048576 × Viewed (l .count + l2 .count) (now t) (now holders) c × (2048 ≡ length (now t)) × (2048 ≡ length (now holders)) × (2048 ≡ length (now high)) × (2048 ≡ length (now low)) × (2048 ≡ length (now place)) ⌝ }
+    requires { ⌜ Fits (HoldBoth (now a) (now pool) l (now b) (now pool2) l2) (λ x. viewLength x (numberIn (now high) (now low)) (cell (now holders)) (now t) c) (length (now out)) × Fits (HoldBoth (now a) (now pool) l (now b) (now pool2) l2) (λ x. viewLength x (numberIn (now high) (now low)) (cell (now holders)) (now t) c) fileLimit × Viewed (l .count + l2 .count) (now t) (now holders) c × (rowLimit ≡ length (now t)) × (rowLimit ≡ length (now holders)) × (rowLimit ≡ length (now high)) × (rowLimit ≡ length (now low)) × (rowLimit ≡ length (now place)) ⌝ }
     ensures { λ r. ⌜ Puts (HoldBoth (now (a .entry)) (now (pool .entry)) l (now (b .entry)) (now (pool2 .entry)) l2) (λ x. viewLength x (numberIn (now (high .entry)) (now (low .entry))) (cell (now (holders .entry))) (now (t .entry)) c) (λ x. viewBytes (now (place .entry)) x (numberIn (now (high .entry)) (now (low .entry))) (cell (now (holders .entry))) (now (t .entry)) c) (now (out .entry)) r (now (out .exit)) ⌝ }
 {
     let end = put_rows(
@@ -159,6 +164,6 @@ pub fn put_file(
         c,
         out,
     );
-    put_front(c, end, out);
+    put_front(NEWEST, c, end, out);
     end
 }

@@ -3,6 +3,7 @@ ghost use mathlib.Core.Path.{_≡_};
 ghost use Prim.Native.Nat.{_+_, _≤_, _<_};
 ghost use lib.ListN.{length};
 ghost use lib.Seq.{sets};
+ghost use Rattle.number.specs.Limits.{fileLimit};
 ghost use Rattle.key.specs.Key.{keyAt, spaceAt};
 ghost use Rattle.key.specs.Pointer.{Spaced, Pointed};
 ghost use Rattle.normal.specs.Size.{spaceSize};
@@ -17,7 +18,7 @@ use writing::word::put_name;
 
 // The bytes of the namespace that the pool pointer v leads to, and of its zero byte. One without bytes is the default, which takes none.
 fn space_size(pool: &[u8], v: usize) -> usize
-    requires { ⌜ Spaced (now pool) v × (length (now pool) ≤ 1048576) ⌝ }
+    requires { ⌜ Spaced (now pool) v × (length (now pool) ≤ fileLimit) ⌝ }
     ensures { λ r. ⌜ r ≡ spaceSize (spaceAt (now (pool .entry)) v) ⌝ }
 {
     if v == 0 {
@@ -31,7 +32,7 @@ fn space_size(pool: &[u8], v: usize) -> usize
 
 // What the key of the pool pointers v and q takes.
 fn key_parts(pool: &[u8], v: usize, q: usize) -> Parts
-    requires { ⌜ Pointed (now pool) v q × (length (now pool) ≤ 1048576) ⌝ }
+    requires { ⌜ Pointed (now pool) v q × (length (now pool) ≤ fileLimit) ⌝ }
     ensures { λ r. ⌜ r ≡ partsOf (keyAt (now (pool .entry)) v q) ⌝ }
 {
     Parts {
@@ -65,7 +66,7 @@ pub fn row_parts(
 
 // That namespace and a zero byte; nothing for the default.
 fn put_space(pool: &[u8], v: usize, out: &mut [u8]) -> usize
-    requires { ⌜ Spaced (now pool) v × (length (now pool) ≤ 1048576) × (spaceSize (spaceAt (now pool) v) ≤ length (now out)) ⌝ }
+    requires { ⌜ Spaced (now pool) v × (length (now pool) ≤ fileLimit) × (spaceSize (spaceAt (now pool) v) ≤ length (now out)) ⌝ }
     ensures { λ r. ⌜ (r ≡ spaceSize (spaceAt (now (pool .entry)) v)) × (now (out .exit) ≡ sets (now (out .entry)) 0 (spaceBytes (spaceAt (now (pool .entry)) v))) ⌝ }
 {
     if v == 0 {
@@ -79,7 +80,7 @@ fn put_space(pool: &[u8], v: usize, out: &mut [u8]) -> usize
 
 // Name and namespace of the key of the pool pointers v and q.
 fn put_key(pool: &[u8], v: usize, q: usize, out: &mut [u8]) -> Parts
-    requires { ⌜ Pointed (now pool) v q × (length (now pool) ≤ 1048576) × (keySize (keyAt (now pool) v q) ≤ length (now out)) ⌝ }
+    requires { ⌜ Pointed (now pool) v q × (length (now pool) ≤ fileLimit) × (keySize (keyAt (now pool) v q) ≤ length (now out)) ⌝ }
     ensures { λ r. ⌜ (r ≡ partsOf (keyAt (now (pool .entry)) v q)) × (now (out .exit) ≡ sets (now (out .entry)) 0 (keyBytes (keyAt (now (pool .entry)) v q))) ⌝ }
 {
     let name = put_name(pool, q, out);

@@ -2,15 +2,17 @@
 ghost use mathlib.Core.Path.{_≡_};
 ghost use Prim.Native.Nat.{_+_, _≤_, _<_};
 ghost use lib.ListN.{length};
+ghost use Rattle.number.specs.Limits.{fileLimit, rowLimit};
 ghost use Rattle.reader.specs.Values.{descriptorIn};
 ghost use Rattle.normal.specs.Size.{ownSize};
 ghost use Rattle.normal.specs.Normal.{ownBytes};
 ghost use Rattle.writing.specs.Source.{renumber};
 ghost use Rattle.output.specs.Files.{Holds, HoldBoth, Given, Fits, Gives, Puts};
 ghost use Rattle.output.specs.View.{rowOwn, placeOf};
+use interfaces::own_size;
+use interfaces::put_own;
+use number::ROW_LIMIT;
 use reader::Layout;
-use writing::descriptor::own_size;
-use writing::descriptor::put_own;
 
 // What the descriptor of entry i takes.
 fn held_size(file: &[u8], pool: &[u8], l: Layout, i: usize) -> usize
@@ -55,11 +57,11 @@ fn put_held(
     l: Layout,
     i: usize,
     q: usize,
-    place: &[u16; 2048],
+    place: &[u16; ROW_LIMIT],
     shift: usize,
     out: &mut [u8],
 ) -> usize
-    requires { ⌜ Fits (Holds (now file) (now pool) l) (λ es. ownSize (descriptorIn es i)) (length (now out)) × (i < l .count) × (q ≤ 1048576) × (shift + l .count ≤ 2048) × (2048 ≡ length (now place)) ⌝ }
+    requires { ⌜ Fits (Holds (now file) (now pool) l) (λ es. ownSize (descriptorIn es i)) (length (now out)) × (i < l .count) × (q ≤ fileLimit) × (shift + l .count ≤ rowLimit) × (rowLimit ≡ length (now place)) ⌝ }
     ensures { λ r. ⌜ Puts (Holds (now (file .entry)) (now (pool .entry)) l) (λ es. ownSize (descriptorIn es i)) (λ es. ownBytes (renumber (now (place .entry)) shift) q (descriptorIn es i)) (now (out .entry)) r (now (out .exit)) ⌝ }
 {
     let at = reader::entry::descriptor_pointer(file, l, i);
@@ -79,10 +81,10 @@ pub fn put_row_own(
     l2: Layout,
     h: usize,
     q: usize,
-    place: &[u16; 2048],
+    place: &[u16; ROW_LIMIT],
     out: &mut [u8],
 ) -> usize
-    requires { ⌜ Fits (HoldBoth (now a) (now pool) l (now b) (now pool2) l2) (λ x. ownSize (rowOwn x h)) (length (now out)) × (h ≤ l .count + l2 .count) × (q ≤ 1048576) × (2048 ≡ length (now place)) ⌝ }
+    requires { ⌜ Fits (HoldBoth (now a) (now pool) l (now b) (now pool2) l2) (λ x. ownSize (rowOwn x h)) (length (now out)) × (h ≤ l .count + l2 .count) × (q ≤ fileLimit) × (rowLimit ≡ length (now place)) ⌝ }
     ensures { λ r. ⌜ Puts (HoldBoth (now (a .entry)) (now (pool .entry)) l (now (b .entry)) (now (pool2 .entry)) l2) (λ x. ownSize (rowOwn x h)) (λ x. ownBytes (placeOf (now (place .entry))) q (rowOwn x h)) (now (out .entry)) r (now (out .exit)) ⌝ }
 {
     if h == 0 {

@@ -3,6 +3,7 @@ ghost use mathlib.Core.Path.{_≡_};
 ghost use Prim.Native.Nat.{_+_, _≤_, _<_};
 ghost use lib.ListN.{length};
 ghost use lib.Seq.{sets};
+ghost use Rattle.number.specs.Limits.{entryWidth};
 ghost use Rattle.iids.specs.Numbers.{wide};
 ghost use Rattle.output.specs.Row.{pointerTo, rowBytes};
 use crate::Parts;
@@ -22,7 +23,7 @@ fn pointer(q: usize, size: usize) -> u32
 
 // The entry of an IID of these high and low eight bytes, whose name lies at q, its namespace after it, and then `own` bytes of its descriptor.
 pub fn put_row(high: u64, low: u64, q: usize, k: Parts, own: usize, out: &mut [u8])
-    requires { ⌜ (q + k .name + k .space < 4294967296) × (28 ≤ length (now out)) ⌝ }
+    requires { ⌜ (q + k .name + k .space < 4294967296) × (entryWidth ≤ length (now out)) ⌝ }
     ensures { λ _. ⌜ now (out .exit) ≡ sets (now (out .entry)) 0 (rowBytes (wide high low) q k own) ⌝ }
 {
     let size = k.space;

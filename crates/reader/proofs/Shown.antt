@@ -1,6 +1,6 @@
 -- What the bytes of a record that is shown say: its fields, and where it ends.
 -- Assumes nothing.
-use mathlib.Core.Path.{_≡_, sym, ap, _∙_}
+use mathlib.Core.Path.{_≡_, sym, ap, subst, _∙_}
 use mathlib.Core.List.{List}
 use mathlib.Core.Logic.{inl, inr}
 use Prim.Native.Nat.{ℕ, _+_, _-_, _%_, _≤_, _<_}
@@ -18,7 +18,11 @@ use Rattle.typelib.specs.Across.{parentIndex}
 use Rattle.rules.specs.Shows.{ShowsWord, ShowsName, ShowsType, ShowsParam, ShowsMethod, Stored, ShowsConstant, ShowsDescriptor}
 use Rattle.rules.specs.Rules.{Identifier}
 use Rattle.rules.proofs.Names.{is-identifier}
+use Rattle.rules.proofs.Types.{simple-class, interface-class, interface-is-class, array-class, sized-class}
+use Rattle.reader.specs.declared.record.Form.{Form}
+use Rattle.reader.specs.declared.record.Form.the-variants.{Simple, Interface, InterfaceIs, Array, Sized}
 use Rattle.reader.specs.Values.{argumentCount, constantName, constantType, constantValue}
+use Rattle.reader.specs.Form.{typeForm, classForm, formOf}
 use Rattle.reader.specs.Layout.{Stands, Ends, Tells, Rows, Spells, Names}
 
 -- ---- names
@@ -57,28 +61,60 @@ module _ (s : List ℕ) (p : ℕ) where
       go (array b x y t) e h = h .0 .inside
       go (sized b x y) e h = h .0 .inside
 
-  -- the tag tells how many bytes a type has; an array ends where its element does
-  pub type-ends : (r : ℕ) → (getD s p 0 % 32 ≤ 17 → r ≡ p + 1) → (getD s p 0 % 32 ≡ 18 → r ≡ p + 3) → (getD s p 0 % 32 ≡ 19 → r ≡ p + 2)
-      → (getD s p 0 % 32 ≡ 20 → Ends (ShowsType s (p + 3)) r) → (21 ≤ getD s p 0 % 32 → r ≡ p + 3) → Ends (ShowsType s p) r
-  type-ends r plain face iid list size = record { each = go }
+  -- its prefix tells its form
+  pub form-shown : (t : Ty ℕ) (e : ℕ) → ShowsType s p t e → formOf (getD s p 0) ≡ typeForm t
+  unfolding formOf classForm typeForm
+  form-shown (simple b) e h = rw (h .0 .value) (elim (simple-class (b % 32) (h .1)) [ inl k ↦ ap classForm k | inr k ↦ ap classForm k ])
+  form-shown (interface b i) e h = rw (h .0 .value) (ap classForm (interface-class (b % 32) (h .1)))
+  form-shown (interfaceIs b a) e h = rw (h .0 .value) (ap classForm (interface-is-class (b % 32) (h .1)))
+  form-shown (array b x y t) e h = rw (h .0 .value) (ap classForm (array-class (b % 32) (h .1)))
+  form-shown (sized b x y) e h = rw (h .0 .value) (ap classForm (sized-class (b % 32) (h .1)))
+
+  -- what holds of the form of each type that is shown holds of that which the prefix tells
+  pub by-form : (P : Form → Type 0) (f : Form) → formOf (getD s p 0) ≡ f → (t : Ty ℕ) (e : ℕ) → ShowsType s p t e → P (typeForm t) → P f
+  by-form P f z t e h k = subst P (sym (form-shown t e h) ∙ z) k
+
+  -- and the other way round
+  pub of-form : (P : Form → Type 0) (f : Form) → formOf (getD s p 0) ≡ f → (t : Ty ℕ) (e : ℕ) → ShowsType s p t e → P f → P (typeForm t)
+  of-form P f z t e h k = subst P (sym z ∙ form-shown t e h) k
+
+  -- where a type of this form ends: an array where its element does
+  abbrev EndsAs : ℕ → Form → Type 0
+  EndsAs r Simple = r ≡ p + 1
+  EndsAs r Interface = r ≡ p + 3
+  EndsAs r InterfaceIs = r ≡ p + 2
+  EndsAs r Array = Ends (ShowsType s (p + 3)) r
+  EndsAs r Sized = r ≡ p + 3
+
+  pub type-ends : (f : Form) → formOf (getD s p 0) ≡ f → (r : ℕ) → EndsAs r f → Ends (ShowsType s p) r
+  unfolding typeForm
+  type-ends f z r k = record { each = λ t e h. go t e h (of-form (EndsAs r) f z t e h k) }
     where
-      go : (t : Ty ℕ) (e : ℕ) → ShowsType s p t e → r ≡ e
-      go (simple b) e h = plain (omega (arith, h .0 .value, h .1)) ∙ sym (h .2)
-      go (interface b i) e h = face (omega (arith, h .0 .value, h .1)) ∙ sym (h .3)
-      go (interfaceIs b a) e h = iid (omega (arith, h .0 .value, h .1)) ∙ sym (h .3)
-      go (array b x y t) e h = list (omega (arith, h .0 .value, h .1)) .each t e (h .4)
-      go (sized b x y) e h = size (omega (arith, h .0 .value, h .1)) ∙ sym (h .5)
+      go : (t : Ty ℕ) (e : ℕ) → ShowsType s p t e → EndsAs r (typeForm t) → r ≡ e
+      go (simple b) e h k = k ∙ sym (h .2)
+      go (interface b i) e h k = k ∙ sym (h .3)
+      go (interfaceIs b a) e h k = k ∙ sym (h .3)
+      go (array b x y t) e h k = k .each t e (h .4)
+      go (sized b x y) e h k = k ∙ sym (h .4)
 
   -- the element of an array
-  pub element-stands : getD s p 0 % 32 ≡ 20 → Stands (ShowsType s p) → Stands (ShowsType s (p + 3))
-  element-stands l h = go (h .value) (h .end) (h .shown)
+  pub element-stands : formOf (getD s p 0) ≡ Array → Stands (ShowsType s p) → Stands (ShowsType s (p + 3))
+  unfolding typeForm
+  element-stands z h = by-form Element Array z (h .value) (h .end) (h .shown) (go (h .value) (h .end) (h .shown))
     where
-      go : (t : Ty ℕ) (e : ℕ) → ShowsType s p t e → Stands (ShowsType s (p + 3))
-      go (simple b) e h = absurd (omega (arith, h .0 .value, h .1))
-      go (interface b i) e h = absurd (omega (arith, h .0 .value, h .1))
-      go (interfaceIs b a) e h = absurd (omega (arith, h .0 .value, h .1))
+      Element : Form → Type 0
+      Element Simple = Unit {0}
+      Element Interface = Unit {0}
+      Element InterfaceIs = Unit {0}
+      Element Array = Stands (ShowsType s (p + 3))
+      Element Sized = Unit {0}
+
+      go : (t : Ty ℕ) (e : ℕ) → ShowsType s p t e → Element (typeForm t)
+      go (simple b) e h = tt
+      go (interface b i) e h = tt
+      go (interfaceIs b a) e h = tt
       go (array b x y t) e h = record { value = t; end = e; shown = h .4 }
-      go (sized b x y) e h = absurd (omega (arith, h .0 .value, h .1))
+      go (sized b x y) e h = tt
 
   -- ---- parameters
 

@@ -5,6 +5,7 @@ use mathlib.Core.Logic.{_⊎_}
 use mathlib.Core.List.{List, []}
 use Prim.Native.Nat.{ℕ, _+_, _-_, _*_, _≤_, _<_}
 use lib.ListN.{length, getD, drop}
+use Rattle.number.specs.Limits.{fileLimit, entryLimit, entryWidth}
 use Rattle.key.specs.Word.{Leads, wordAt}
 use Rattle.typelib.specs.Entry.{Entry, noEntry}
 use Rattle.rules.specs.Shows.{Run, ShowsEntry}
@@ -14,11 +15,11 @@ use Rattle.reader.specs.declared.Layout.{Layout}
 -- the file s, laid out as l says, has these entries, and they obey the rules
 pub record LaidOut (s : List ℕ) (l : Layout) (es : List (Entry ℕ)) : Type 0 where
   pub count : length es ≡ l .count
-  pub few : l .count ≤ 1024
-  pub small : length s ≤ 1048576
-  pub inside : l .directory + 28 * l .count ≤ l .pool
+  pub few : l .count ≤ entryLimit
+  pub small : length s ≤ fileLimit
+  pub inside : l .directory + entryWidth * l .count ≤ l .pool
   pub pool-inside : l .pool ≤ length s
-  pub shown : (k : ℕ) → k < l .count → ShowsEntry s (drop (l .pool) s) (l .directory + 28 * k) (getD es k noEntry)
+  pub shown : (k : ℕ) → k < l .count → ShowsEntry s (drop (l .pool) s) (l .directory + entryWidth * k) (getD es k noEntry)
   pub minor : ℕ
   pub ruled : EntriesRule minor (l .count) es
 

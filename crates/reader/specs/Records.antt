@@ -1,6 +1,7 @@
 -- How values stand in bytes, for the crates above.
 -- Assumes nothing.
-pub use Rattle.rules.specs.Shows.{Bytes, ShowsByte, ShowsField, Run, ShowsWord, ShowsName, ShowsType, ShowsParam, ShowsMethod, Stored, ShowsConstant, ShowsDescriptor, ShowsSpace, ShowsOwn, ShowsEntry, ShowsEntries, ShowsHeader, ShowsTypelib}
+pub use Rattle.types.specs.Prefix.{tagOf}
+pub use Rattle.rules.specs.Shows.{Bytes, ShowsByte, ShowsField, Run, ShowsWord, ShowsName, SimpleTag, InterfaceTag, InterfaceIsTag, ArrayTag, SizedTag, ShowsType, ShowsParam, ShowsMethod, Stored, ShowsConstant, ShowsDescriptor, ShowsSpace, ShowsOwn, ShowsEntry, ShowsEntries, ShowsHeader, ShowsTypelib}
 pub use Rattle.head.specs.Header.{magic}
 unfoldable pub use Rattle.head.specs.Annotation.{annotationLimit}
 pub use Rattle.head.specs.Shows.{ShowsText, PlainText, PlainNotes}

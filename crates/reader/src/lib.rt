@@ -12,6 +12,9 @@ pub use reading::Verdict;
 pub mod entry;
 pub mod record;
 
+// The newest minor version.
+pub const NEWEST: u8 = head::NEWEST;
+
 // Where the parts of an accepted file stand: its number of interfaces, and the offsets of directory and pool.
 pub struct Layout {
     pub count: usize,

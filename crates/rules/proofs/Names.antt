@@ -2,11 +2,11 @@
 -- Assumes nothing.
 use mathlib.Core.Path.{_≡_, refl, ap}
 use mathlib.Core.Bool.{Bool, true, false}
-use mathlib.Core.Logic.{inl, inr}
+use mathlib.Core.Logic.{_↔_, inl, inr}
 use mathlib.Core.List.{List, [], _∷_}
-use Prim.Native.Nat.{ℕ, _+_, _-_}
+use Prim.Native.Nat.{ℕ, zero, suc, _+_, _-_, _<_}
 use native.Mathlib.Omega.{arith}
-use lib.ListN.{length}
+use lib.ListN.{length, getD}
 use Rattle.number.specs.Choice.{_<?_, _=?_}
 use Rattle.number.specs.Number.{be}
 use Rattle.number.specs.Part.{part}
@@ -83,6 +83,27 @@ unfolding isIdentifier
 is-identifier w i =
     pass-false _ _ _ (not-eq (length w) 0 (omega arith))
     (pass-false _ _ _ (not-lt 255 (length w) (i .few)) (are-letters w (i .letters)))
+
+-- the test and the rule say the same
+pub identifier-exactly : (w : List ℕ) → (isIdentifier w ≡ true) ↔ Identifier w
+identifier-exactly w = (identifier-is w, is-identifier w)
+
+letter-byte : (b : ℕ) → Letter b → b < 256
+letter-byte b l = elim l [
+  | inl h ↦ omega arith
+  | inr (inl h) ↦ omega arith
+  | inr (inr (inl h)) ↦ omega arith
+  | inr (inr (inr h)) ↦ omega arith
+]
+
+letters-bytes : (w : List ℕ) → All Letter w → (i : ℕ) → getD w i 0 < 256
+letters-bytes [] a i = omega arith
+letters-bytes (b ∷ w) a zero = letter-byte b (a .0)
+letters-bytes (b ∷ w) a (suc i) = letters-bytes w (a .1) i
+
+-- an identifier is of bytes
+pub identifier-bytes : (w : List ℕ) → Identifier w → (i : ℕ) → getD w i 0 < 256
+identifier-bytes w h = letters-bytes w (h .letters)
 
 -- ---- words
 

@@ -20,7 +20,8 @@ use Rattle.types.specs.Types.{Ty, simple, interface, interfaceIs, array, sized,
 use Rattle.types.specs.declared.Class.{Class}
 use Rattle.types.specs.declared.Class.the-variants.{Reserved, Plain, Text, Interface, InterfaceIs, Array, Sized}
 use Rattle.types.proofs.View as view
-use Rattle.rules.specs.Shows.{ShowsByte, ShowsField, ShowsType}
+use Rattle.rules.specs.Shows.{ShowsByte, ShowsField, SimpleTag, InterfaceTag, InterfaceIsTag, ArrayTag, SizedTag, ShowsType}
+use Rattle.head.specs.Header.{newest}
 use Rattle.rules.specs.Rules.{PrefixRule, InDirectory, TypeRule, nesting}
 
 -- ---- classes
@@ -92,6 +93,23 @@ class-is minor tag Sized h =
     pass-false _ _ _ (not-le tag 17 (omega arith)) (pass-false _ _ _ (not-eq tag 18 (omega arith)) (
     pass-false _ _ _ (not-eq tag 19 (omega arith)) (pass-false _ _ _ (not-eq tag 20 (omega arith)) (
     pass-true _ _ _ (yes-le tag 22 (h .1)) refl))))))
+
+-- the classes of the tags of each kind of type
+module _ (tag : ℕ) where
+  pub simple-class : SimpleTag tag → (classOf newest tag ≡ Plain) ⊎ (classOf newest tag ≡ Text)
+  simple-class h = elim (decLe tag 15) [ yes l ↦ inl (class-is newest tag Plain (l, λ _ z. omega arith)) | no l ↦ inr (class-is newest tag Text (omega arith, h)) ]
+
+  pub interface-class : InterfaceTag tag → classOf newest tag ≡ Interface
+  interface-class h = class-is newest tag Interface h
+
+  pub interface-is-class : InterfaceIsTag tag → classOf newest tag ≡ InterfaceIs
+  interface-is-class h = class-is newest tag InterfaceIs h
+
+  pub array-class : ArrayTag tag → classOf newest tag ≡ Array
+  array-class h = class-is newest tag Array h
+
+  pub sized-class : SizedTag tag → classOf newest tag ≡ Sized
+  sized-class h = class-is newest tag Sized h
 
 -- ---- prefixes
 
@@ -185,7 +203,7 @@ TypeShown c s left p t e = ShowsType s p t e × TypeRule (c .minor) (c .count) t
 
 module _ (c : Context) (s : List ℕ) where
   rest-facts : (arrayAt : ℕ → ℕ → ℕ → Got (Ty ℕ)) (left p b : ℕ) → ShowsByte s p b → PrefixRule (c .minor) b
-      → (b % 32 ≡ 20 → Facts (TypeShown c s left p) (arrayAt p b (p + 1))) → (k : Class) → Says (c .minor) (b % 32) k
+      → (ArrayTag (b % 32) → Facts (TypeShown c s left p) (arrayAt p b (p + 1))) → (k : Class) → Says (c .minor) (b % 32) k
       → Facts (TypeShown c s left p) (readRest arrayAt c s k p b (p + 1))
   unfolding readRest
   rest-facts arrayAt left p b w r f Reserved h = f-bad _ _ _
@@ -198,10 +216,10 @@ module _ (c : Context) (s : List ℕ) where
   rest-facts arrayAt left p b w r f Array h = f h
   rest-facts arrayAt left p b w r f Sized h =
       f-byte _ _ _ _ _ (λ l. f-byte _ _ _ _ _ (λ m.
-      f-got _ _ _ ((w, h .0, h .1, byte-shows s _ refl l, byte-shows s _ (omega arith) m, omega arith), r, omega arith)))
+      f-got _ _ _ ((w, h, byte-shows s _ refl l, byte-shows s _ (omega arith) m, omega arith), r, omega arith)))
 
   with-facts : (arrayAt : ℕ → ℕ → ℕ → Got (Ty ℕ)) (left : ℕ)
-      → ((p b : ℕ) → ShowsByte s p b → PrefixRule (c .minor) b → b % 32 ≡ 20 → Facts (TypeShown c s left p) (arrayAt p b (p + 1)))
+      → ((p b : ℕ) → ShowsByte s p b → PrefixRule (c .minor) b → ArrayTag (b % 32) → Facts (TypeShown c s left p) (arrayAt p b (p + 1)))
       → (p : ℕ) → Facts (TypeShown c s left p) (typeWith arrayAt c s p)
   unfolding typeWith
   with-facts arrayAt left f p =
@@ -211,7 +229,7 @@ module _ (c : Context) (s : List ℕ) where
       let r = prefix-rule (c .minor) (getD s p 0) _ h a (lacks-none _ _ u) in
       rest-facts arrayAt left p (getD s p 0) w r (f p (getD s p 0) w r) _ h)))
 
-  array-facts : (left p b : ℕ) → ShowsByte s p b → PrefixRule (c .minor) b → b % 32 ≡ 20 → Facts (TypeShown c s left p) (readArray left c s p b (p + 1))
+  array-facts : (left p b : ℕ) → ShowsByte s p b → PrefixRule (c .minor) b → ArrayTag (b % 32) → Facts (TypeShown c s left p) (readArray left c s p b (p + 1))
   unfolding readArray
   array-facts zero p b w r h = f-bad _ _ _
   array-facts (suc left) p b w r h =
@@ -257,8 +275,8 @@ module _ (c : Context) (s : List ℕ) where
       shows-byte _ _ _ _ refl (h .2) (shows-byte _ _ _ _ (omega arith) (h .3) (
       pass-next _ _ (shows-with t left (p + 1 + 1 + 1) e (rw q (h .4)) (r .1) (omega arith)) refl)))
   shows-with (sized b x y) left p e h r n =
-      begun _ p b Sized (h .0) r (h .1, h .2) refl (inl (omega arith)) (
-      shows-byte _ _ _ _ refl (h .3) (shows-byte _ _ _ _ (omega arith) (h .4) (ap (got (sized b x y)) (omega arith))))
+      begun _ p b Sized (h .0) r (h .1) refl (inl (omega arith)) (
+      shows-byte _ _ _ _ refl (h .2) (shows-byte _ _ _ _ (omega arith) (h .3) (ap (got (sized b x y)) (omega arith))))
 
   pub shows-type : (left p : ℕ) {t : Ty ℕ} {e : ℕ} → ShowsType s p t e → TypeRule (c .minor) (c .count) t → nesting t ≤ left → readType left c s p ≡ got t e
   unfolding readType

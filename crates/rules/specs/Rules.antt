@@ -7,9 +7,11 @@ use mathlib.Core.List.{List, [], _∷_}
 use mathlib.Core.Option.{Option, none, some}
 use Prim.Native.Nat.{ℕ, zero, suc, _+_, _*_, _%_, _≤_, _<_}
 use lib.ListN.{length, getD}
+use Rattle.number.specs.Limits.{fileLimit, entryLimit, ownLimit, nameLimit, entryWidth}
 use Rattle.number.specs.Bits.{bit, bitsBelow}
 use Rattle.key.specs.Key.{Key, key}
 use Rattle.head.specs.declared.Header.{Header}
+use Rattle.head.specs.Header.{newest}
 use Rattle.head.specs.Shows.{PlainNotes}
 use Rattle.types.specs.Prefix.{pointerBit, uniqueBit, referenceBit, tagOf, uint32Tag, voidTag, iidTag, astringTag}
 use Rattle.types.specs.Types.{Ty, simple, interface, interfaceIs, array, sized, prefix}
@@ -35,7 +37,7 @@ Letter b = ((48 ≤ b) × (b ≤ 57)) ⊎ (((65 ≤ b) × (b ≤ 90)) ⊎ ((b �
 
 pub record Identifier (w : List ℕ) : Type 0 where
   pub some : 1 ≤ length w
-  pub few : length w ≤ 255
+  pub few : length w ≤ nameLimit
   pub letters : All Letter w
 
 -- ---- types
@@ -148,9 +150,9 @@ ParentRule n (some i) = InDirectory n i
 
 pub record DescriptorRules (minor n : ℕ) (up : Option ℕ) (ms : List (Method ℕ)) (ks : List Constant) (f : ℕ) : Type 0 where
   pub parent : ParentRule n up
-  pub fewMethods : length ms ≤ 1024
+  pub fewMethods : length ms ≤ ownLimit
   pub methods : All (MethodRule minor n) ms
-  pub fewConstants : length ks ≤ 1024
+  pub fewConstants : length ks ≤ ownLimit
   pub constants : All ConstantRule ks
   -- six reserved bits, with minor 0 also function
   pub reserved : bitsBelow functionBit f ≡ 0
@@ -218,15 +220,15 @@ pub record EntriesRule (minor n : ℕ) (es : List (Entry ℕ)) : Type 0 where
 -- the header of a file of `len` bytes
 pub record PositionRule (len : ℕ) (h : Header) : Type 0 where
   -- at most 1,048,576 bytes and 1,024 interfaces
-  pub short : len ≤ 1048576
-  pub few : h .count ≤ 1024
+  pub short : len ≤ fileLimit
+  pub few : h .count ≤ entryLimit
   -- minor is 0 or 1
-  pub known : h .minor ≤ 1
+  pub known : h .minor ≤ newest
   pub low : 33 ≤ h .pool
   pub inside : h .pool ≤ len
   -- with n = 0 the directory offset is 0
   pub absent : h .count ≡ 0 → h .directory ≡ 0
-  pub placed : (h .count ≡ 0 → ⊥) → (h .directory % 4 ≡ 0) × (33 ≤ h .directory) × (h .directory + 28 * h .count ≤ h .pool)
+  pub placed : (h .count ≡ 0 → ⊥) → (h .directory % 4 ≡ 0) × (33 ≤ h .directory) × (h .directory + entryWidth * h .count ≤ h .pool)
 
 -- of a file of `len` bytes
 abbrev pub TypelibRule : ℕ → Typelib → Type 0

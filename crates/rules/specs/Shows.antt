@@ -6,8 +6,9 @@ use mathlib.Core.Path.{_≡_}
 use mathlib.Core.Logic.{_⊎_}
 use mathlib.Core.List.{List, [], _∷_}
 use mathlib.Core.Option.{Option, none, some}
-use Prim.Native.Nat.{ℕ, _+_, _-_, _*_, _%_, _≤_, _<_}
+use Prim.Native.Nat.{ℕ, _+_, _-_, _*_, _≤_, _<_}
 use lib.ListN.{length, getD}
+use Rattle.number.specs.Limits.{entryWidth}
 use Rattle.number.specs.Number.{be}
 use Rattle.number.specs.Part.{part}
 use Rattle.key.specs.Key.{key}
@@ -15,6 +16,7 @@ use Rattle.head.specs.declared.Header.{Header}
 use Rattle.head.specs.Header.{magic}
 use Rattle.head.specs.Annotation.{annotationLimit}
 use Rattle.head.specs.Shows.{ShowsNotes}
+use Rattle.types.specs.Prefix.{tagOf}
 use Rattle.types.specs.Types.{Ty, simple, interface, interfaceIs, array, sized}
 use Rattle.method.specs.Parameter.{Param, param}
 use Rattle.method.specs.Method.{signature, Method, method}
@@ -61,12 +63,28 @@ pub record ShowsName (s : List ℕ) (p : ℕ) (w : List ℕ) : Type 0 where
 
 -- ---- types, parameters, methods
 
+-- the tags of each kind of type; the file's minor plays no part in the layout
+abbrev pub SimpleTag : ℕ → Type 0
+SimpleTag t = t ≤ 17
+
+abbrev pub InterfaceTag : ℕ → Type 0
+InterfaceTag t = t ≡ 18
+
+abbrev pub InterfaceIsTag : ℕ → Type 0
+InterfaceIsTag t = t ≡ 19
+
+abbrev pub ArrayTag : ℕ → Type 0
+ArrayTag t = t ≡ 20
+
+abbrev pub SizedTag : ℕ → Type 0
+SizedTag t = (21 ≤ t) × (t ≤ 22)
+
 abbrev pub ShowsType : List ℕ → ℕ → Ty ℕ → ℕ → Type 0
-ShowsType s p (simple b) e = ShowsByte s p b × (b % 32 ≤ 17) × (e ≡ p + 1)
-ShowsType s p (interface b i) e = ShowsByte s p b × (b % 32 ≡ 18) × ShowsField 2 s (p + 1) i × (e ≡ p + 3)
-ShowsType s p (interfaceIs b a) e = ShowsByte s p b × (b % 32 ≡ 19) × ShowsByte s (p + 1) a × (e ≡ p + 2)
-ShowsType s p (array b x y t) e = ShowsByte s p b × (b % 32 ≡ 20) × ShowsByte s (p + 1) x × ShowsByte s (p + 2) y × ShowsType s (p + 3) t e
-ShowsType s p (sized b x y) e = ShowsByte s p b × (21 ≤ b % 32) × (b % 32 ≤ 22) × ShowsByte s (p + 1) x × ShowsByte s (p + 2) y × (e ≡ p + 3)
+ShowsType s p (simple b) e = ShowsByte s p b × SimpleTag (tagOf b) × (e ≡ p + 1)
+ShowsType s p (interface b i) e = ShowsByte s p b × InterfaceTag (tagOf b) × ShowsField 2 s (p + 1) i × (e ≡ p + 3)
+ShowsType s p (interfaceIs b a) e = ShowsByte s p b × InterfaceIsTag (tagOf b) × ShowsByte s (p + 1) a × (e ≡ p + 2)
+ShowsType s p (array b x y t) e = ShowsByte s p b × ArrayTag (tagOf b) × ShowsByte s (p + 1) x × ShowsByte s (p + 2) y × ShowsType s (p + 3) t e
+ShowsType s p (sized b x y) e = ShowsByte s p b × SizedTag (tagOf b) × ShowsByte s (p + 1) x × ShowsByte s (p + 2) y × (e ≡ p + 3)
 
 abbrev pub ShowsParam : List ℕ → ℕ → Param ℕ → ℕ → Type 0
 ShowsParam s p (param f t) e = ShowsByte s p f × ShowsType s (p + 1) t e
@@ -113,7 +131,7 @@ ShowsEntry s pool p (entry (key v w) i d) =
 -- every entry of the directory at d
 pub record ShowsEntries (s pool : List ℕ) (d n : ℕ) (es : List (Entry ℕ)) : Type 0 where
   pub count : length es ≡ n
-  pub each : (k : ℕ) → k < n → ShowsEntry s pool (d + 28 * k) (getD es k noEntry)
+  pub each : (k : ℕ) → k < n → ShowsEntry s pool (d + entryWidth * k) (getD es k noEntry)
 
 -- ---- a file
 

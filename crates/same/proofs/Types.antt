@@ -3,16 +3,19 @@
 use mathlib.Core.Path.{_≡_, refl, sym, ap, _∙_}
 use mathlib.Core.Bool.{Bool}
 use mathlib.Core.List.{List}
-use Prim.Native.Nat.{ℕ, _+_, _-_, _%_, _≤_, _<_}
+use Prim.Native.Nat.{ℕ, _+_, _-_, _≤_, _<_}
 use native.Mathlib.Omega.{arith}
 use lib.ListN.{length, getD}
 use Rattle.number.specs.Choice.{if_then_else_}
 use Rattle.number.specs.Number.{be}
 use Rattle.reader.specs.Values.{Ty, simple, interface, interfaceIs, array, sized, prefix, Param, param, paramFlags}
+use Rattle.reader.specs.declared.record.Form.{Form}
+use Rattle.reader.specs.declared.record.Form.the-variants.{Simple, Interface, InterfaceIs, Array, Sized}
+use Rattle.reader.specs.Form.{typeForm, formOf}
 use Rattle.reader.specs.Layout.{Stands, Tells}
-use Rattle.reader.proofs.Shown.{type-in}
+use Rattle.reader.proofs.Shown.{type-in, by-form}
 use Rattle.meaning.specs.Meaning.{mapTy, mapParam}
-use Rattle.same.specs.Match.{Rowed, HasType, HasParam, Matched, alike, apart, Matches, Decides}
+use Rattle.same.specs.Match.{Rowed, HasType, HasParam, Ready, Matched, alike, apart, Matches, Decides}
 use Rattle.same.proofs.Decisions.{decides-as}
 use Rattle.same.proofs.Pairs.{leaf, moved, told-apart}
 
@@ -48,73 +51,41 @@ module _ (s : List ℕ) (a p : ℕ) where
   two-on : (y : ℕ) → getD s (p + 2) 0 ≡ y → y ≡ getD s (p + 1 + 1) 0
   two-on y h = let z : p + 1 + 1 ≡ p + 2 = omega arith in rw z (sym h)
 
-  pub seen-simple : getD s p 0 % 32 ≤ 17 → (t : Ty ℕ) (e : ℕ) → HasType s a p t e → SeenSimple t e
-  seen-simple l (simple b) e h = record { parts = λ i. simple (sym (h .shown .0 .value) i); ends = h .shown .2 }
-  seen-simple l (interface b r) e h = absurd (omega (arith, h .shown .0 .value, h .shown .1))
-  seen-simple l (interfaceIs b x) e h = absurd (omega (arith, h .shown .0 .value, h .shown .1))
-  seen-simple l (array b x y t) e h = absurd (omega (arith, h .shown .0 .value, h .shown .1))
-  seen-simple l (sized b x y) e h = absurd (omega (arith, h .shown .0 .value, h .shown .1))
+  abbrev Seen : Ty ℕ → ℕ → Form → Type 0
+  Seen t e Simple = SeenSimple t e
+  Seen t e Interface = SeenInterface t e
+  Seen t e InterfaceIs = SeenIid t e
+  Seen t e Array = SeenArray t e
+  Seen t e Sized = SeenSized t e
 
-  pub seen-interface : getD s p 0 % 32 ≡ 18 → (t : Ty ℕ) (e : ℕ) → HasType s a p t e → SeenInterface t e
-  seen-interface l (simple b) e h = absurd (omega (arith, h .shown .0 .value, h .shown .1))
-  seen-interface l (interface b r) e h =
-      let z = h .shown .2 .value in
-      record { parts = λ i. interface (sym (h .shown .0 .value) i) (sym z i); inside = h .shown .2 .inside; row = rw z (h .rows); ends = h .shown .3 }
-  seen-interface l (interfaceIs b x) e h = absurd (omega (arith, h .shown .0 .value, h .shown .1))
-  seen-interface l (array b x y t) e h = absurd (omega (arith, h .shown .0 .value, h .shown .1))
-  seen-interface l (sized b x y) e h = absurd (omega (arith, h .shown .0 .value, h .shown .1))
-
-  pub seen-iid : getD s p 0 % 32 ≡ 19 → (t : Ty ℕ) (e : ℕ) → HasType s a p t e → SeenIid t e
-  seen-iid l (simple b) e h = absurd (omega (arith, h .shown .0 .value, h .shown .1))
-  seen-iid l (interface b r) e h = absurd (omega (arith, h .shown .0 .value, h .shown .1))
-  seen-iid l (interfaceIs b x) e h =
-      record { parts = λ i. interfaceIs (sym (h .shown .0 .value) i) (sym (h .shown .2 .value) i); inside = h .shown .2 .inside; ends = h .shown .3 }
-  seen-iid l (array b x y t) e h = absurd (omega (arith, h .shown .0 .value, h .shown .1))
-  seen-iid l (sized b x y) e h = absurd (omega (arith, h .shown .0 .value, h .shown .1))
-
-  pub seen-array : getD s p 0 % 32 ≡ 20 → (t : Ty ℕ) (e : ℕ) → HasType s a p t e → SeenArray t e
-  seen-array l (simple b) e h = absurd (omega (arith, h .shown .0 .value, h .shown .1))
-  seen-array l (interface b r) e h = absurd (omega (arith, h .shown .0 .value, h .shown .1))
-  seen-array l (interfaceIs b x) e h = absurd (omega (arith, h .shown .0 .value, h .shown .1))
-  seen-array l (array b x y t) e h =
-      let z = two-on y (h .shown .3 .value) in
-      record {
-        element = t;
-        parts = λ i. array (sym (h .shown .0 .value) i) (sym (h .shown .2 .value) i) (z i) t;
-        inside = omega (arith, h .shown .3 .inside);
-        has = record { shown = h .shown .4; rows = h .rows };
-      }
-  seen-array l (sized b x y) e h = absurd (omega (arith, h .shown .0 .value, h .shown .1))
-
-  pub seen-sized : 21 ≤ getD s p 0 % 32 → (t : Ty ℕ) (e : ℕ) → HasType s a p t e → SeenSized t e
-  seen-sized l (simple b) e h = absurd (omega (arith, h .shown .0 .value, h .shown .1))
-  seen-sized l (interface b r) e h = absurd (omega (arith, h .shown .0 .value, h .shown .1))
-  seen-sized l (interfaceIs b x) e h = absurd (omega (arith, h .shown .0 .value, h .shown .1))
-  seen-sized l (array b x y t) e h = absurd (omega (arith, h .shown .0 .value, h .shown .1))
-  seen-sized l (sized b x y) e h =
-      let z = two-on y (h .shown .4 .value) in
-      record { parts = λ i. sized (sym (h .shown .0 .value) i) (sym (h .shown .3 .value) i) (z i); inside = omega (arith, h .shown .4 .inside); ends = h .shown .5 }
+  -- by the form that the prefix tells
+  seen : (f : Form) → formOf (getD s p 0) ≡ f → (t : Ty ℕ) (e : ℕ) → HasType s a p t e → Seen t e f
+  unfolding typeForm
+  seen f z t e h = by-form s p (Seen t e) f z t e (h .shown) (go t e h)
+    where
+      go : (t : Ty ℕ) (e : ℕ) → HasType s a p t e → Seen t e (typeForm t)
+      go (simple b) e h = record { parts = λ i. simple (sym (h .shown .0 .value) i); ends = h .shown .2 }
+      go (interface b r) e h =
+          let z = h .shown .2 .value in
+          record { parts = λ i. interface (sym (h .shown .0 .value) i) (sym z i); inside = h .shown .2 .inside; row = rw z (h .rows); ends = h .shown .3 }
+      go (interfaceIs b x) e h =
+          record { parts = λ i. interfaceIs (sym (h .shown .0 .value) i) (sym (h .shown .2 .value) i); inside = h .shown .2 .inside; ends = h .shown .3 }
+      go (array b x y t) e h =
+          let z = two-on y (h .shown .3 .value) in
+          record {
+            element = t;
+            parts = λ i. array (sym (h .shown .0 .value) i) (sym (h .shown .2 .value) i) (z i) t;
+            inside = omega (arith, h .shown .3 .inside);
+            has = record { shown = h .shown .4; rows = h .rows };
+          }
+      go (sized b x y) e h =
+          let z = two-on y (h .shown .3 .value) in
+          record { parts = λ i. sized (sym (h .shown .0 .value) i) (sym (h .shown .2 .value) i) (z i); inside = omega (arith, h .shown .3 .inside); ends = h .shown .4 }
 
   -- ---- where it stands
 
   pub type-here : Stands (HasType s a p) → p < length s
   type-here h = type-in s p (record { value = h .value; end = h .end; shown = h .shown .shown })
-
-  pub interface-here : getD s p 0 % 32 ≡ 18 → Stands (HasType s a p) → (p + 1 + 2 ≤ length s) × Rowed a (be 2 s (p + 1))
-  interface-here l h = let v = seen-interface l (h .value) (h .end) (h .shown) in (v .inside, v .row)
-
-  pub iid-here : getD s p 0 % 32 ≡ 19 → Stands (HasType s a p) → p + 1 < length s
-  iid-here l h = seen-iid l (h .value) (h .end) (h .shown) .inside
-
-  pub array-inside : getD s p 0 % 32 ≡ 20 → Stands (HasType s a p) → p + 1 + 1 < length s
-  array-inside l h = seen-array l (h .value) (h .end) (h .shown) .inside
-
-  -- its element
-  pub array-here : getD s p 0 % 32 ≡ 20 → Stands (HasType s a p) → Stands (HasType s a (p + 3))
-  array-here l h = let v = seen-array l (h .value) (h .end) (h .shown) in record { value = v .element; end = h .end; shown = v .has }
-
-  pub sized-here : 21 ≤ getD s p 0 % 32 → Stands (HasType s a p) → p + 1 + 1 < length s
-  sized-here l h = seen-sized l (h .value) (h .end) (h .shown) .inside
 
   prefix-tells : Tells (HasType s a p) prefix (getD s p 0)
   unfolding prefix
@@ -146,6 +117,40 @@ module _ (s : List ℕ) (a p : ℕ) where
     where
       go : (x : Param ℕ) (e : ℕ) → HasParam s a p x e → getD s p 0 ≡ paramFlags x
       go (param f t) e h = h .shown .0 .value
+
+-- ---- two types with one prefix: what stands after it stands in both pools
+
+module _ (s t : List ℕ) (b p q : ℕ) (r : Ready s t (HasType s 0) (HasType t b) p q) where
+  pub both-here : (p < length s) × (q < length t)
+  both-here = (type-here s 0 p (r .one), type-here t b q (r .two))
+
+  module _ (e : getD s p 0 ≡ getD t q 0) (f : Form) (l : formOf (getD s p 0) ≡ f) where
+    one : Seen s 0 p (r .one .value) (r .one .end) f
+    one = seen s 0 p f l (r .one .value) (r .one .end) (r .one .shown)
+
+    two : Seen t b q (r .two .value) (r .two .end) f
+    two = seen t b q f (ap formOf (sym e) ∙ l) (r .two .value) (r .two .end) (r .two .shown)
+
+  module _ (e : getD s p 0 ≡ getD t q 0) where
+    pub interface-both : formOf (getD s p 0) ≡ Interface → (p + 1 + 2 ≤ length s) × ((q + 1 + 2 ≤ length t) × (Rowed 0 (be 2 s (p + 1)) × Rowed b (be 2 t (q + 1))))
+    interface-both l = let u = one e Interface l in let v = two e Interface l in (u .inside, (v .inside, (u .row, v .row)))
+
+    pub iid-both : formOf (getD s p 0) ≡ InterfaceIs → (p + 1 < length s) × (q + 1 < length t)
+    iid-both l = (one e InterfaceIs l .inside, two e InterfaceIs l .inside)
+
+    pub array-both : formOf (getD s p 0) ≡ Array → (p + 1 + 1 < length s) × ((q + 1 + 1 < length t) × ((length s ≤ 1048576) × (length t ≤ 1048576)))
+    array-both l = (one e Array l .inside, (two e Array l .inside, (r .small, r .small-other)))
+
+    pub element-both : formOf (getD s p 0) ≡ Array → Ready s t (HasType s 0) (HasType t b) (p + 3) (q + 3)
+    element-both l = let u = one e Array l in let v = two e Array l in record {
+      one = record { value = u .element; end = r .one .end; shown = u .has };
+      two = record { value = v .element; end = r .two .end; shown = v .has };
+      small = r .small;
+      small-other = r .small-other;
+    }
+
+    pub sized-both : formOf (getD s p 0) ≡ Sized → (p + 1 + 1 < length s) × ((q + 1 + 1 < length t) × ((length s ≤ 1048576) × (length t ≤ 1048576)))
+    sized-both l = (one e Sized l .inside, (two e Sized l .inside, (r .small, r .small-other)))
 
 -- ---- equal with their references mapped
 
@@ -205,11 +210,11 @@ module _ (s t : List ℕ) (a b : ℕ) (g h : ℕ → ℕ) (p q : ℕ) where
   type-apart n = told-apart (HasType s a) (HasType t b) (mapTy g) (mapTy h) p q prefix (getD s p 0) (getD t q 0) (prefix-tells s a p) (prefix-tells t b q) (same-prefix g h) n
 
   module _ (e : getD s p 0 ≡ getD t q 0) where
-    pub simple-match : getD s p 0 % 32 ≤ 17 → Matches (HasType s a) (HasType t b) (mapTy g) (mapTy h) p q (p + 1)
+    pub simple-match : formOf (getD s p 0) ≡ Simple → Matches (HasType s a) (HasType t b) (mapTy g) (mapTy h) p q (p + 1)
     simple-match l = record {
       each = λ x i m y j n.
-          let u = seen-simple s a p l x i m in
-          let v = seen-simple t b q (omega arith) y j n in
+          let u = seen s a p Simple l x i m in
+          let v = seen t b q Simple (ap formOf (sym e) ∙ l) y j n in
           alike (record {
             fact = there g h (u .parts) (v .parts) (simples g h (getD s p 0) (getD t q 0) e);
             some = omega arith;
@@ -220,51 +225,51 @@ module _ (s t : List ℕ) (a b : ℕ) (g h : ℕ → ℕ) (p q : ℕ) where
     }
 
     module _ (r : ℕ) (w : Bool) where
-      pub interface-match : getD s p 0 % 32 ≡ 18 → Decides (g (be 2 s (p + 1)) ≡ h (be 2 t (q + 1))) w → r ≡ (if w then p + 3 else 0)
+      pub interface-match : formOf (getD s p 0) ≡ Interface → Decides (g (be 2 s (p + 1)) ≡ h (be 2 t (q + 1))) w → r ≡ (if w then p + 3 else 0)
           → Matches (HasType s a) (HasType t b) (mapTy g) (mapTy h) p q r
       interface-match l d z = record {
         each = λ x i m y j n.
-            let u = seen-interface s a p l x i m in
-            let v = seen-interface t b q (omega arith) y j n in
+            let u = seen s a p Interface l x i m in
+            let v = seen t b q Interface (ap formOf (sym e) ∙ l) y j n in
             leaf w 3 (decides-as (interfaces g h (getD s p 0) (getD t q 0) e (be 2 s (p + 1)) (be 2 t (q + 1)) d) (there g h (u .parts) (v .parts)) (back g h (u .parts) (v .parts)))
             (omega arith) (u .ends) (v .ends) z;
       }
 
-      pub iid-match : getD s p 0 % 32 ≡ 19 → Decides (getD s (p + 1) 0 ≡ getD t (q + 1) 0) w → r ≡ (if w then p + 2 else 0)
+      pub iid-match : formOf (getD s p 0) ≡ InterfaceIs → Decides (getD s (p + 1) 0 ≡ getD t (q + 1) 0) w → r ≡ (if w then p + 2 else 0)
           → Matches (HasType s a) (HasType t b) (mapTy g) (mapTy h) p q r
       iid-match l d z = record {
         each = λ x i m y j n.
-            let u = seen-iid s a p l x i m in
-            let v = seen-iid t b q (omega arith) y j n in
+            let u = seen s a p InterfaceIs l x i m in
+            let v = seen t b q InterfaceIs (ap formOf (sym e) ∙ l) y j n in
             leaf w 2 (decides-as (iids g h (getD s p 0) (getD t q 0) e (getD s (p + 1) 0) (getD t (q + 1) 0) d) (there g h (u .parts) (v .parts)) (back g h (u .parts) (v .parts)))
             (omega arith) (u .ends) (v .ends) z;
       }
 
-      pub sized-match : 21 ≤ getD s p 0 % 32 → Decides ((getD s (p + 1) 0 ≡ getD t (q + 1) 0) × (getD s (p + 1 + 1) 0 ≡ getD t (q + 1 + 1) 0)) w → r ≡ (if w then p + 3 else 0)
+      pub sized-match : formOf (getD s p 0) ≡ Sized → Decides ((getD s (p + 1) 0 ≡ getD t (q + 1) 0) × (getD s (p + 1 + 1) 0 ≡ getD t (q + 1 + 1) 0)) w → r ≡ (if w then p + 3 else 0)
           → Matches (HasType s a) (HasType t b) (mapTy g) (mapTy h) p q r
       sized-match l d z = record {
         each = λ x i m y j n.
-            let u = seen-sized s a p l x i m in
-            let v = seen-sized t b q (omega arith) y j n in
+            let u = seen s a p Sized l x i m in
+            let v = seen t b q Sized (ap formOf (sym e) ∙ l) y j n in
             leaf w 3 (decides-as (sizes g h (getD s p 0) (getD t q 0) e (getD s (p + 1) 0) (getD s (p + 1 + 1) 0) (getD t (q + 1) 0) (getD t (q + 1 + 1) 0) d) (there g h (u .parts) (v .parts)) (back g h (u .parts) (v .parts)))
             (omega arith) (u .ends) (v .ends) z;
       }
 
-    module _ (l : getD s p 0 % 32 ≡ 20) where
+    module _ (l : formOf (getD s p 0) ≡ Array) where
       array-back : {x y : Ty ℕ} {i j : ℕ} (u : SeenArray s a p x i) (v : SeenArray t b q y j) → mapTy g x ≡ mapTy h y
           → ((getD s (p + 1) 0 ≡ getD t (q + 1) 0) × (getD s (p + 1 + 1) 0 ≡ getD t (q + 1 + 1) 0)) × (mapTy g (u .element) ≡ mapTy h (v .element))
       array-back u v z =
           array-parts g h (getD s p 0) (getD t q 0) e (getD s (p + 1) 0) (getD s (p + 1 + 1) 0) (getD t (q + 1) 0) (getD t (q + 1 + 1) 0) (u .element) (v .element) (back g h (u .parts) (v .parts) z)
 
       pub array-apart : ((getD s (p + 1) 0 ≡ getD t (q + 1) 0) × (getD s (p + 1 + 1) 0 ≡ getD t (q + 1 + 1) 0) → ⊥) → Matches (HasType s a) (HasType t b) (mapTy g) (mapTy h) p q 0
-      array-apart f = record { each = λ x i m y j n. apart (λ z. f (array-back (seen-array s a p l x i m) (seen-array t b q (omega arith) y j n) z .0)) refl }
+      array-apart f = record { each = λ x i m y j n. apart (λ z. f (array-back (seen s a p Array l x i m) (seen t b q Array (ap formOf (sym e) ∙ l) y j n) z .0)) refl }
 
       pub array-match : (getD s (p + 1) 0 ≡ getD t (q + 1) 0) × (getD s (p + 1 + 1) 0 ≡ getD t (q + 1 + 1) 0) → (r : ℕ)
           → Matches (HasType s a) (HasType t b) (mapTy g) (mapTy h) (p + 3) (q + 3) r → Matches (HasType s a) (HasType t b) (mapTy g) (mapTy h) p q r
       array-match f r o = record {
         each = λ x i m y j n.
-            let u = seen-array s a p l x i m in
-            let v = seen-array t b q (omega arith) y j n in
+            let u = seen s a p Array l x i m in
+            let v = seen t b q Array (ap formOf (sym e) ∙ l) y j n in
             moved 3 (o .each (u .element) i (u .has) (v .element) j (v .has))
             (λ z. there g h (u .parts) (v .parts) (arrays g h (getD s p 0) (getD t q 0) e (getD s (p + 1) 0) (getD s (p + 1 + 1) 0) (getD t (q + 1) 0) (getD t (q + 1 + 1) 0) (u .element) (v .element) (f .0) (f .1) z))
             (λ z. array-back u v z .1);

@@ -6,6 +6,7 @@ use mathlib.Core.Bool.{Bool, true, false}
 use mathlib.Core.List.{List, map}
 use Prim.Native.Nat.{ℕ, _+_, _-_, _≤_}
 use lib.ListN.{length, getD}
+use Rattle.number.specs.Limits.{fileLimit, rowLimit}
 use Rattle.reader.specs.Values.{Ty, Param, Signature, signature, Method, methodName, Constant, constantName, Descriptor, parentOf, methodsOf, constantsOf, interfaceFlags}
 use Rattle.reader.specs.Records.{ShowsByte, ShowsField, Run, ShowsType, ShowsParam, ShowsMethod, ShowsConstant, ShowsDescriptor}
 use Rattle.reader.specs.Rules.{All, Identifier}
@@ -22,7 +23,7 @@ rowOf first a r = getD first (a + r - 1) 0
 -- the reference has a row in the table
 pub record Rowed (a r : ℕ) : Type 0 where
   pub from : 1 ≤ r
-  pub within : a + r ≤ 2048
+  pub within : a + r ≤ rowLimit
 
 -- ---- records at p of the pool s that end before e: their references have rows, their names are identifiers
 
@@ -74,8 +75,8 @@ pub record HasTail (s : List ℕ) (p : ℕ) (d : Descriptor ℕ) (e : ℕ) : Typ
 pub record Ready {X : Type 0} (s t : List ℕ) (P Q : ℕ → X → ℕ → Type 0) (p q : ℕ) : Type 0 where
   pub one : Stands (P p)
   pub two : Stands (Q q)
-  pub small : length s ≤ 1048576
-  pub small-other : length t ≤ 1048576
+  pub small : length s ≤ fileLimit
+  pub small-other : length t ≤ fileLimit
 
 -- ---- what is answered by a number: where the one record ends, if A; the other then has the same size
 

@@ -2,18 +2,21 @@
 // meaning have the same size, so both are walked at once. A number answered is where the record in `pool` ends, or 0 where the two
 // differ. The table `first` holds for each row the first row of the same key; the rows of the second file come after the n of the first.
 ghost use mathlib.Core.Path.{_≡_};
-ghost use Prim.Native.Nat.{_+_, _-_, _%_, _≤_, _<_};
+ghost use Prim.Native.Nat.{_+_, _-_, _≤_, _<_};
 ghost use lib.ListN.{length, getD};
+ghost use Rattle.number.specs.Limits.{fileLimit, rowLimit};
 ghost use Rattle.number.specs.Choice.{if_then_else_};
 ghost use Rattle.number.specs.Number.{be};
 ghost use Rattle.key.specs.Word.{Leads, wordAt};
 ghost use Rattle.reader.specs.Layout.{Rows};
 ghost use Rattle.same.specs.Same.{sameDescriptor};
 ghost use Rattle.same.specs.Match.{rowOf, Rowed, HasType, HasParam, HasSignature, HasMethod, HasConstant, HasDescriptor, HasTail, Ready, TypesMatch, ParamMatches, ParamsMatch, SignaturesMatch, MethodMatches, MethodsMatch, ConstantMatches, ConstantsMatch, Decides, Decided, Compares, SameTail, SameMembers, SameParents};
+use number::ROW_LIMIT;
+use reader::record::Form;
 
 // The references r of the first file and s of the second have the same key.
-fn same_row(first: &[u16; 2048], n: usize, r: usize, s: usize) -> bool
-    requires { ⌜ Rowed 0 r × (Rowed n s × (2048 ≡ length (now first))) ⌝ }
+fn same_row(first: &[u16; ROW_LIMIT], n: usize, r: usize, s: usize) -> bool
+    requires { ⌜ Rowed 0 r × (Rowed n s × (rowLimit ≡ length (now first))) ⌝ }
     ensures { λ x. ⌜ Decides (rowOf (now (first .entry)) 0 r ≡ rowOf (now (first .entry)) n s) x ⌝ }
 {
     first[r - 1] == first[n + s - 1]
@@ -25,10 +28,10 @@ fn same_reference(
     p: usize,
     other: &[u8],
     q: usize,
-    first: &[u16; 2048],
+    first: &[u16; ROW_LIMIT],
     n: usize,
 ) -> bool
-    requires { ⌜ (p + 2 ≤ length (now pool)) × ((q + 2 ≤ length (now other)) × (Rowed 0 (be 2 (now pool) p) × (Rowed n (be 2 (now other) q) × (2048 ≡ length (now first))))) ⌝ }
+    requires { ⌜ (p + 2 ≤ length (now pool)) × ((q + 2 ≤ length (now other)) × (Rowed 0 (be 2 (now pool) p) × (Rowed n (be 2 (now other) q) × (rowLimit ≡ length (now first))))) ⌝ }
     ensures { λ x. ⌜ Decides (rowOf (now (first .entry)) 0 (be 2 (now (pool .entry)) p) ≡ rowOf (now (first .entry)) n (be 2 (now (other .entry)) q)) x ⌝ }
 {
     let r = number::u16_at(pool, p) as usize;
@@ -38,7 +41,7 @@ fn same_reference(
 
 // The two bytes at p and at q.
 fn same_pair(pool: &[u8], p: usize, other: &[u8], q: usize) -> bool
-    requires { ⌜ (p + 1 < length (now pool)) × ((q + 1 < length (now other)) × ((length (now pool) ≤ 1048576) × (length (now other) ≤ 1048576))) ⌝ }
+    requires { ⌜ (p + 1 < length (now pool)) × ((q + 1 < length (now other)) × ((length (now pool) ≤ fileLimit) × (length (now other) ≤ fileLimit))) ⌝ }
     ensures { λ x. ⌜ Decides ((getD (now (pool .entry)) p 0 ≡ getD (now (other .entry)) q 0) × (getD (now (pool .entry)) (p + 1) 0 ≡ getD (now (other .entry)) (q + 1) 0)) x ⌝ }
 {
     if pool[p] != other[q] {
@@ -49,7 +52,7 @@ fn same_pair(pool: &[u8], p: usize, other: &[u8], q: usize) -> bool
 
 // The words that the pool pointers a and b lead to.
 fn same_names(pool: &[u8], a: usize, other: &[u8], b: usize) -> bool
-    requires { ⌜ Leads (now pool) a × (Leads (now other) b × ((length (now pool) ≤ 1048576) × (length (now other) ≤ 1048576))) ⌝ }
+    requires { ⌜ Leads (now pool) a × (Leads (now other) b × ((length (now pool) ≤ fileLimit) × (length (now other) ≤ fileLimit))) ⌝ }
     ensures { λ x. ⌜ Decides (wordAt (now (pool .entry)) (a - 1) ≡ wordAt (now (other .entry)) (b - 1)) x ⌝ }
 {
     let o = key::compare_words(pool, a - 1, other, b - 1);
@@ -70,50 +73,43 @@ fn end_where(same: bool, e: usize) -> usize
     0
 }
 
-// Types with one prefix, which is not that of an array.
-fn match_plain(
+// Types: prefixes, what stands after them, and the elements of arrays.
+fn match_type(
     pool: &[u8],
     p: usize,
     other: &[u8],
     q: usize,
-    first: &[u16; 2048],
+    first: &[u16; ROW_LIMIT],
     n: usize,
 ) -> usize
-    requires { ⌜ Ready (now pool) (now other) (HasType (now pool) 0) (HasType (now other) n) p q × ((2048 ≡ length (now first)) × ((getD (now pool) p 0 ≡ getD (now other) q 0) × (getD (now pool) p 0 % 32 ≡ 20 → ⊥))) ⌝ }
-    ensures { λ r. ⌜ TypesMatch (now (pool .entry)) (now (other .entry)) (now (first .entry)) n p q r ⌝ }
-{
-    match pool[p] % 32 {
-        0..=17 => p + 1,
-        18 => {
-            let same = same_reference(pool, p + 1, other, q + 1, first, n);
-            end_where(same, p + 3)
-        }
-        19 => {
-            let same = pool[p + 1] == other[q + 1];
-            end_where(same, p + 2)
-        }
-        _ => {
-            let same = same_pair(pool, p + 1, other, q + 1);
-            end_where(same, p + 3)
-        }
-    }
-}
-
-// Types. The element of an array is compared after the numbers before it.
-fn match_type(pool: &[u8], p: usize, other: &[u8], q: usize, first: &[u16; 2048], n: usize) -> usize
-    requires { ⌜ Ready (now pool) (now other) (HasType (now pool) 0) (HasType (now other) n) p q × (2048 ≡ length (now first)) ⌝ }
+    requires { ⌜ Ready (now pool) (now other) (HasType (now pool) 0) (HasType (now other) n) p q × (rowLimit ≡ length (now first)) ⌝ }
     ensures { λ r. ⌜ TypesMatch (now (pool .entry)) (now (other .entry)) (now (first .entry)) n p q r ⌝ }
 {
     if pool[p] != other[q] {
         return 0;
     }
-    if pool[p] % 32 != 20 {
-        return match_plain(pool, p, other, q, first, n);
+    let f = reader::record::form_of(pool[p]);
+    match f {
+        Form::Simple => p + 1,
+        Form::Interface => {
+            let same = same_reference(pool, p + 1, other, q + 1, first, n);
+            end_where(same, p + 3)
+        }
+        Form::InterfaceIs => {
+            let same = pool[p + 1] == other[q + 1];
+            end_where(same, p + 2)
+        }
+        Form::Array => {
+            if same_pair(pool, p + 1, other, q + 1) {
+                return match_type(pool, p + 3, other, q + 3, first, n);
+            }
+            0
+        }
+        Form::Sized => {
+            let same = same_pair(pool, p + 1, other, q + 1);
+            end_where(same, p + 3)
+        }
     }
-    if same_pair(pool, p + 1, other, q + 1) {
-        return match_type(pool, p + 3, other, q + 3, first, n);
-    }
-    0
 }
 
 // Parameters: flags, then the type.
@@ -122,10 +118,10 @@ fn match_param(
     p: usize,
     other: &[u8],
     q: usize,
-    first: &[u16; 2048],
+    first: &[u16; ROW_LIMIT],
     n: usize,
 ) -> usize
-    requires { ⌜ Ready (now pool) (now other) (HasParam (now pool) 0) (HasParam (now other) n) p q × (2048 ≡ length (now first)) ⌝ }
+    requires { ⌜ Ready (now pool) (now other) (HasParam (now pool) 0) (HasParam (now other) n) p q × (rowLimit ≡ length (now first)) ⌝ }
     ensures { λ r. ⌜ ParamMatches (now (pool .entry)) (now (other .entry)) (now (first .entry)) n p q r ⌝ }
 {
     if pool[p] != other[q] {
@@ -141,10 +137,10 @@ fn match_params(
     other: &[u8],
     q: usize,
     c: usize,
-    first: &[u16; 2048],
+    first: &[u16; ROW_LIMIT],
     n: usize,
 ) -> usize
-    requires { ⌜ Ready (now pool) (now other) (Rows (HasParam (now pool) 0) c) (Rows (HasParam (now other) n) c) p q × ((2048 ≡ length (now first)) × (1 ≤ p)) ⌝ }
+    requires { ⌜ Ready (now pool) (now other) (Rows (HasParam (now pool) 0) c) (Rows (HasParam (now other) n) c) p q × ((rowLimit ≡ length (now first)) × (1 ≤ p)) ⌝ }
     ensures { λ r. ⌜ ParamsMatch (now (pool .entry)) (now (other .entry)) (now (first .entry)) n c p q r ⌝ }
 {
     let mut k: usize = 0;
@@ -167,10 +163,10 @@ fn match_signature(
     other: &[u8],
     q: usize,
     c: usize,
-    first: &[u16; 2048],
+    first: &[u16; ROW_LIMIT],
     n: usize,
 ) -> usize
-    requires { ⌜ Ready (now pool) (now other) (HasSignature (now pool) 0 c) (HasSignature (now other) n c) p q × ((2048 ≡ length (now first)) × (1 ≤ p)) ⌝ }
+    requires { ⌜ Ready (now pool) (now other) (HasSignature (now pool) 0 c) (HasSignature (now other) n c) p q × ((rowLimit ≡ length (now first)) × (1 ≤ p)) ⌝ }
     ensures { λ r. ⌜ SignaturesMatch (now (pool .entry)) (now (other .entry)) (now (first .entry)) n c p q r ⌝ }
 {
     let mid = match_params(pool, p, other, q, c, first, n);
@@ -186,10 +182,10 @@ fn match_method(
     p: usize,
     other: &[u8],
     q: usize,
-    first: &[u16; 2048],
+    first: &[u16; ROW_LIMIT],
     n: usize,
 ) -> usize
-    requires { ⌜ Ready (now pool) (now other) (HasMethod (now pool) 0) (HasMethod (now other) n) p q × (2048 ≡ length (now first)) ⌝ }
+    requires { ⌜ Ready (now pool) (now other) (HasMethod (now pool) 0) (HasMethod (now other) n) p q × (rowLimit ≡ length (now first)) ⌝ }
     ensures { λ r. ⌜ MethodMatches (now (pool .entry)) (now (other .entry)) (now (first .entry)) n p q r ⌝ }
 {
     if reader::record::method_flags(pool, p) != reader::record::method_flags(other, q) {
@@ -214,10 +210,10 @@ fn match_methods(
     other: &[u8],
     q: usize,
     c: usize,
-    first: &[u16; 2048],
+    first: &[u16; ROW_LIMIT],
     n: usize,
 ) -> usize
-    requires { ⌜ Ready (now pool) (now other) (Rows (HasMethod (now pool) 0) c) (Rows (HasMethod (now other) n) c) p q × ((2048 ≡ length (now first)) × (1 ≤ p)) ⌝ }
+    requires { ⌜ Ready (now pool) (now other) (Rows (HasMethod (now pool) 0) c) (Rows (HasMethod (now other) n) c) p q × ((rowLimit ≡ length (now first)) × (1 ≤ p)) ⌝ }
     ensures { λ r. ⌜ MethodsMatch (now (pool .entry)) (now (other .entry)) (now (first .entry)) n c p q r ⌝ }
 {
     let mut k: usize = 0;
@@ -293,10 +289,10 @@ fn same_members(
     p: usize,
     other: &[u8],
     q: usize,
-    first: &[u16; 2048],
+    first: &[u16; ROW_LIMIT],
     n: usize,
 ) -> bool
-    requires { ⌜ Ready (now pool) (now other) (HasDescriptor (now pool) 0) (HasDescriptor (now other) n) p q × (2048 ≡ length (now first)) ⌝ }
+    requires { ⌜ Ready (now pool) (now other) (HasDescriptor (now pool) 0) (HasDescriptor (now other) n) p q × (rowLimit ≡ length (now first)) ⌝ }
     ensures { λ x. ⌜ Decided (HasDescriptor (now (pool .entry)) 0) (HasDescriptor (now (other .entry)) n) (SameMembers (rowOf (now (first .entry)) 0) (rowOf (now (first .entry)) n)) p q x ⌝ }
 {
     let c = reader::record::method_count(pool, p);
@@ -316,10 +312,10 @@ fn same_parents(
     p: usize,
     other: &[u8],
     q: usize,
-    first: &[u16; 2048],
+    first: &[u16; ROW_LIMIT],
     n: usize,
 ) -> bool
-    requires { ⌜ Ready (now pool) (now other) (HasDescriptor (now pool) 0) (HasDescriptor (now other) n) p q × (2048 ≡ length (now first)) ⌝ }
+    requires { ⌜ Ready (now pool) (now other) (HasDescriptor (now pool) 0) (HasDescriptor (now other) n) p q × (rowLimit ≡ length (now first)) ⌝ }
     ensures { λ x. ⌜ Decided (HasDescriptor (now (pool .entry)) 0) (HasDescriptor (now (other .entry)) n) (SameParents (rowOf (now (first .entry)) 0) (rowOf (now (first .entry)) n)) p q x ⌝ }
 {
     let r = reader::record::parent_index(pool, p);
@@ -339,10 +335,10 @@ pub fn match_descriptor(
     p: usize,
     other: &[u8],
     q: usize,
-    first: &[u16; 2048],
+    first: &[u16; ROW_LIMIT],
     n: usize,
 ) -> bool
-    requires { ⌜ Ready (now pool) (now other) (HasDescriptor (now pool) 0) (HasDescriptor (now other) n) p q × (2048 ≡ length (now first)) ⌝ }
+    requires { ⌜ Ready (now pool) (now other) (HasDescriptor (now pool) 0) (HasDescriptor (now other) n) p q × (rowLimit ≡ length (now first)) ⌝ }
     ensures { λ x. ⌜ Compares (HasDescriptor (now (pool .entry)) 0) (HasDescriptor (now (other .entry)) n) (sameDescriptor (rowOf (now (first .entry)) 0) (rowOf (now (first .entry)) n)) p q x ⌝ }
 {
     if same_parents(pool, p, other, q, first, n) {

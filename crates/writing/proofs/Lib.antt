@@ -8,5 +8,3 @@ pub mod Sizes
 pub mod Names
 pub mod Types
 pub mod Methods
-pub mod Descriptors
-pub mod Fits

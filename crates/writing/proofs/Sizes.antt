@@ -21,7 +21,7 @@ module _ (s : List ℕ) where
   type-end p (interface b i) e h = h .3
   type-end p (interfaceIs b a) e h = h .3
   type-end p (array b x y t) e h = omega (arith, type-end (p + 3) t e (h .4))
-  type-end p (sized b x y) e h = h .5
+  type-end p (sized b x y) e h = h .4
 
   pub param-end : (p : ℕ) (x : Param ℕ) (e : ℕ) → ShowsParam s p x e → e ≡ p + paramSize x
   unfolding paramSize

@@ -2,7 +2,7 @@
 -- Assumes nothing.
 use mathlib.Core.Path.{_≡_, ap, _∙_}
 use mathlib.Core.List.{List, [], _∷_, _++_}
-use Prim.Native.Nat.{ℕ, _+_, _-_, _%_, _≤_}
+use Prim.Native.Nat.{ℕ, _+_, _-_, _≤_}
 use native.Mathlib.Omega.{arith}
 use lib.ListN.{length, getD, length-append}
 use lib.Seq.{sets}
@@ -11,7 +11,11 @@ use Rattle.number.specs.Part.{part}
 use Rattle.number.proofs.Parts.{length-part}
 use Rattle.reader.specs.Values.{Ty, simple, interface, interfaceIs, array, sized, Param, param}
 use Rattle.reader.specs.Records.{ShowsType, ShowsParam}
+use Rattle.reader.specs.declared.record.Form.{Form}
+use Rattle.reader.specs.declared.record.Form.the-variants.{Simple, Interface, InterfaceIs, Array, Sized}
+use Rattle.reader.specs.Form.{typeForm, formOf}
 use Rattle.reader.specs.Layout.{Ends}
+use Rattle.reader.proofs.Shown.{by-form, of-form}
 use Rattle.meaning.specs.Refs.{TypeRefs, ParamRefs}
 use Rattle.normal.specs.BigEndian.{bytesOf}
 use Rattle.normal.specs.Size.{typeSize, paramSize}
@@ -37,75 +41,51 @@ module _ (s : List ℕ) (shift p n : ℕ) (h : Room (Known (ShowsType s) (TypeRe
       go (array b x y t) e k r = (omega (arith, k .0 .inside), omega arith)
       go (sized b x y) e k r = (omega (arith, k .0 .inside), omega arith)
 
-  pub interface-room : getD s p 0 % 32 ≡ 18 → (p + 3 ≤ length s) × (InTable shift (be 2 s (p + 1)) × (3 ≤ n))
-  unfolding typeSize
-  interface-room l = go (h .value) (h .end) (h .shown .shown) (h .shown .fact) (h .room)
+  -- and what its form says follows
+  abbrev RoomAs : Form → Type 0
+  RoomAs Simple = Unit {0}
+  RoomAs Interface = (p + 3 ≤ length s) × (InTable shift (be 2 s (p + 1)) × (3 ≤ n))
+  RoomAs InterfaceIs = (p + 2 ≤ length s) × (2 ≤ n)
+  RoomAs Array = ((p + 3 ≤ length s) × (3 ≤ n)) × Room (Known (ShowsType s) (TypeRefs (InTable shift)) (p + 3)) typeSize (n - 3)
+  RoomAs Sized = (p + 3 ≤ length s) × (3 ≤ n)
+
+  pub form-room : (f : Form) → formOf (getD s p 0) ≡ f → RoomAs f
+  unfolding typeSize typeForm
+  form-room f z = by-form s p RoomAs f z (h .value) (h .end) (h .shown .shown) (go (h .value) (h .end) (h .shown .shown) (h .shown .fact) (h .room))
     where
-      go : (t : Ty ℕ) (e : ℕ) → ShowsType s p t e → TypeRefs (InTable shift) t → typeSize t ≤ n → (p + 3 ≤ length s) × (InTable shift (be 2 s (p + 1)) × (3 ≤ n))
-      go (simple b) e k a r = absurd (omega (arith, k .0 .value, k .1))
+      go : (t : Ty ℕ) (e : ℕ) → ShowsType s p t e → TypeRefs (InTable shift) t → typeSize t ≤ n → RoomAs (typeForm t)
+      go (simple b) e k a r = tt
       go (interface b i) e k a r = (omega (arith, k .2 .inside), (rw (k .2 .value) a, omega arith))
-      go (interfaceIs b x) e k a r = absurd (omega (arith, k .0 .value, k .1))
-      go (array b x y t) e k a r = absurd (omega (arith, k .0 .value, k .1))
-      go (sized b x y) e k a r = absurd (omega (arith, k .0 .value, k .1))
-
-  pub iid-room : getD s p 0 % 32 ≡ 19 → (p + 2 ≤ length s) × (2 ≤ n)
-  unfolding typeSize
-  iid-room l = go (h .value) (h .end) (h .shown .shown) (h .room)
-    where
-      go : (t : Ty ℕ) (e : ℕ) → ShowsType s p t e → typeSize t ≤ n → (p + 2 ≤ length s) × (2 ≤ n)
-      go (simple b) e k r = absurd (omega (arith, k .0 .value, k .1))
-      go (interface b i) e k r = absurd (omega (arith, k .0 .value, k .1))
-      go (interfaceIs b x) e k r = (omega (arith, k .2 .inside), omega arith)
-      go (array b x y t) e k r = absurd (omega (arith, k .0 .value, k .1))
-      go (sized b x y) e k r = absurd (omega (arith, k .0 .value, k .1))
-
-  -- an array's two argument numbers, or those of a sized string
-  pub sized-room : 20 ≤ getD s p 0 % 32 → (p + 3 ≤ length s) × (3 ≤ n)
-  unfolding typeSize
-  sized-room l = go (h .value) (h .end) (h .shown .shown) (h .room)
-    where
-      go : (t : Ty ℕ) (e : ℕ) → ShowsType s p t e → typeSize t ≤ n → (p + 3 ≤ length s) × (3 ≤ n)
-      go (simple b) e k r = absurd (omega (arith, k .0 .value, k .1))
-      go (interface b i) e k r = absurd (omega (arith, k .0 .value, k .1))
-      go (interfaceIs b x) e k r = absurd (omega (arith, k .0 .value, k .1))
-      go (array b x y t) e k r = (omega (arith, k .3 .inside), omega arith)
-      go (sized b x y) e k r = (omega (arith, k .4 .inside), omega arith)
-
-  pub element-room : getD s p 0 % 32 ≡ 20 → Room (Known (ShowsType s) (TypeRefs (InTable shift)) (p + 3)) typeSize (n - 3)
-  unfolding typeSize
-  element-room l = go (h .value) (h .end) (h .shown .shown) (h .shown .fact) (h .room)
-    where
-      go : (t : Ty ℕ) (e : ℕ) → ShowsType s p t e → TypeRefs (InTable shift) t → typeSize t ≤ n → Room (Known (ShowsType s) (TypeRefs (InTable shift)) (p + 3)) typeSize (n - 3)
-      go (simple b) e k a r = absurd (omega (arith, k .0 .value, k .1))
-      go (interface b i) e k a r = absurd (omega (arith, k .0 .value, k .1))
-      go (interfaceIs b x) e k a r = absurd (omega (arith, k .0 .value, k .1))
-      go (array b x y t) e k a r = record { value = t; end = e; shown = record { shown = k .4; fact = a }; room = omega arith }
-      go (sized b x y) e k a r = absurd (omega (arith, k .0 .value, k .1))
+      go (interfaceIs b x) e k a r = (omega (arith, k .2 .inside), omega arith)
+      go (array b x y t) e k a r = ((omega (arith, k .3 .inside), omega arith), record { value = t; end = e; shown = record { shown = k .4; fact = a }; room = omega arith })
+      go (sized b x y) e k a r = (omega (arith, k .3 .inside), omega arith)
 
 module _ (s : List ℕ) (f : ℕ → ℕ) (shift p : ℕ) where
-  -- by its tag: the bytes as they are, an index renumbered, or three bytes and an element
-  pub type-wrote : (l : List ℕ) (r : ℕ) (l₁ : List ℕ)
-      → (getD s p 0 % 32 ≤ 17 → (r ≡ 1) × (l₁ ≡ sets l 0 (part s p (p + 1))))
-      → (getD s p 0 % 32 ≡ 18 → (r ≡ 3) × (l₁ ≡ sets l 0 (getD s p 0 ∷ bytesOf 2 (f (be 2 s (p + 1))))))
-      → (getD s p 0 % 32 ≡ 19 → (r ≡ 2) × (l₁ ≡ sets l 0 (part s p (p + 2))))
-      → (getD s p 0 % 32 ≡ 20 → Wrote (Known (ShowsType s) (TypeRefs (InTable shift)) (p + 3)) (λ (t : Ty ℕ). part s p (p + 3) ++ typeBytes f t) l r l₁)
-      → (21 ≤ getD s p 0 % 32 → (r ≡ 3) × (l₁ ≡ sets l 0 (part s p (p + 3))))
+  -- by its form: the bytes as they are, an index renumbered, or three bytes and an element
+  abbrev WroteAs : List ℕ → ℕ → List ℕ → Form → Type 0
+  WroteAs l r l₁ Simple = (r ≡ 1) × (l₁ ≡ sets l 0 (part s p (p + 1)))
+  WroteAs l r l₁ Interface = (r ≡ 3) × (l₁ ≡ sets l 0 (getD s p 0 ∷ bytesOf 2 (f (be 2 s (p + 1)))))
+  WroteAs l r l₁ InterfaceIs = (r ≡ 2) × (l₁ ≡ sets l 0 (part s p (p + 2)))
+  WroteAs l r l₁ Array = Wrote (Known (ShowsType s) (TypeRefs (InTable shift)) (p + 3)) (λ (t : Ty ℕ). part s p (p + 3) ++ typeBytes f t) l r l₁
+  WroteAs l r l₁ Sized = (r ≡ 3) × (l₁ ≡ sets l 0 (part s p (p + 3)))
+
+  pub form-wrote : (l : List ℕ) (r : ℕ) (l₁ : List ℕ) (c : Form) → formOf (getD s p 0) ≡ c → WroteAs l r l₁ c
       → Wrote (Known (ShowsType s) (TypeRefs (InTable shift)) p) (typeBytes f) l r l₁
-  unfolding typeBytes
-  type-wrote l r l₁ plain face iid list size = record { each = λ t e k. go t e (k .shown) (k .fact) }
+  unfolding typeBytes typeForm
+  form-wrote l r l₁ c z w = record { each = λ t e k. go t e (k .shown) (k .fact) (of-form s p (WroteAs l r l₁) c z t e (k .shown) w) }
     where
       by : (n : ℕ) (vs ws : List ℕ) → (r ≡ n) × (l₁ ≡ sets l 0 vs) → vs ≡ ws → n ≡ length ws → (r ≡ length ws) × (l₁ ≡ sets l 0 ws)
       by n vs ws a e m = (a .0 ∙ m, a .1 ∙ ap (sets l 0) e)
 
-      go : (t : Ty ℕ) (e : ℕ) → ShowsType s p t e → TypeRefs (InTable shift) t → (r ≡ length (typeBytes f t)) × (l₁ ≡ sets l 0 (typeBytes f t))
-      go (simple b) e k a = by 1 (part s p (p + 1)) (b ∷ []) (plain (omega (arith, k .0 .value, k .1))) (one-byte s p b (k .0)) (omega arith)
-      go (interface b i) e k a = by 3 (getD s p 0 ∷ bytesOf 2 (f (be 2 s (p + 1)))) (b ∷ bytesOf 2 (f i)) (face (omega (arith, k .0 .value, k .1))) (λ j. k .0 .value j ∷ bytesOf 2 (f (k .2 .value j))) (omega (arith, length-bytes 2 (f i)))
-      go (interfaceIs b x) e k a = by 2 (part s p (p + 2)) (b ∷ x ∷ []) (iid (omega (arith, k .0 .value, k .1))) (two-bytes s p b x (k .0) (k .2)) (omega arith)
-      go (array b x y t) e k a =
-          let z = list (omega (arith, k .0 .value, k .1)) .each t e (record { shown = k .4; fact = a }) in
+      go : (t : Ty ℕ) (e : ℕ) → ShowsType s p t e → TypeRefs (InTable shift) t → WroteAs l r l₁ (typeForm t) → (r ≡ length (typeBytes f t)) × (l₁ ≡ sets l 0 (typeBytes f t))
+      go (simple b) e k a w = by 1 (part s p (p + 1)) (b ∷ []) w (one-byte s p b (k .0)) (omega arith)
+      go (interface b i) e k a w = by 3 (getD s p 0 ∷ bytesOf 2 (f (be 2 s (p + 1)))) (b ∷ bytesOf 2 (f i)) w (λ j. k .0 .value j ∷ bytesOf 2 (f (k .2 .value j))) (omega (arith, length-bytes 2 (f i)))
+      go (interfaceIs b x) e k a w = by 2 (part s p (p + 2)) (b ∷ x ∷ []) w (two-bytes s p b x (k .0) (k .2)) (omega arith)
+      go (array b x y t) e k a w =
+          let z = w .each t e (record { shown = k .4; fact = a }) in
           let q : part s p (p + 3) ++ typeBytes f t ≡ b ∷ x ∷ y ∷ typeBytes f t = ap (λ (v : List ℕ). v ++ typeBytes f t) (three-bytes s p b x y (k .0) (k .2) (k .3)) in
           (z .0 ∙ ap length q, z .1 ∙ ap (sets l 0) q)
-      go (sized b x y) e k a = by 3 (part s p (p + 3)) (b ∷ x ∷ y ∷ []) (size (omega (arith, k .0 .value, k .1))) (three-bytes s p b x y (k .0) (k .3) (k .4)) (omega arith)
+      go (sized b x y) e k a w = by 3 (part s p (p + 3)) (b ∷ x ∷ y ∷ []) w (three-bytes s p b x y (k .0) (k .2) (k .3)) (omega arith)
 
   pub array-wrote : (l l₁ : List ℕ) (n r : ℕ) (ys : List ℕ) → p + 3 ≤ length s → (n ≡ 3) × (l₁ ≡ sets l 0 (part s p (p + 3)))
       → Wrote (Known (ShowsType s) (TypeRefs (InTable shift)) (p + 3)) (typeBytes f) (rest l₁ n) r ys

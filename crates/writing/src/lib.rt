@@ -1,7 +1,6 @@
-// Writes the records of a descriptor in normal form. A writer puts its record to the front of the part that it is lent, and answers how many
+// Writes fields, names, methods and constants in normal form. A writer puts its record to the front of the part that it is lent, and answers how many
 // bytes it has; it lends the part after each of the records inside on to their writers.
 pub mod constant;
-pub mod descriptor;
 pub mod field;
 pub mod method;
 pub mod param;

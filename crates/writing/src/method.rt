@@ -2,6 +2,7 @@
 ghost use mathlib.Core.Path.{_≡_};
 ghost use Prim.Native.Nat.{_+_, _*_, _≤_, _<_};
 ghost use lib.ListN.{length};
+ghost use Rattle.number.specs.Limits.{fileLimit, rowLimit};
 ghost use Rattle.reader.specs.Values.{methodName};
 ghost use Rattle.reader.specs.Records.{ShowsMethod};
 ghost use Rattle.reader.specs.Layout.{Stands, Tells, Rows};
@@ -15,17 +16,18 @@ use crate::param::put_param;
 use crate::param::put_params;
 use crate::word::name_size;
 use crate::word::put_name;
+use number::ROW_LIMIT;
 
 // The method at `at`, whose name is to lie at the pool pointer q: flags, name pointer, argument count, arguments, result.
 pub fn put_method(
     pool: &[u8],
     at: usize,
     q: usize,
-    place: &[u16; 2048],
+    place: &[u16; ROW_LIMIT],
     shift: usize,
     out: &mut [u8],
 ) -> usize
-    requires { ⌜ Room (Known (ShowsMethod (now pool)) (MethodFit shift) at) methodSize (length (now out)) × ((q < 4294967296) × ((length (now pool) ≤ 1048576) × (2048 ≡ length (now place)))) ⌝ }
+    requires { ⌜ Room (Known (ShowsMethod (now pool)) (MethodFit shift) at) methodSize (length (now out)) × ((q < 4294967296) × ((length (now pool) ≤ fileLimit) × (rowLimit ≡ length (now place)))) ⌝ }
     ensures { λ r. ⌜ Wrote (Known (ShowsMethod (now (pool .entry))) (MethodFit shift) at) (methodBytes (renumber (now (place .entry)) shift) q) (now (out .entry)) r (now (out .exit)) ⌝ }
 {
     copy(pool, at, 1, out);
@@ -38,7 +40,7 @@ pub fn put_method(
 
 // The bytes of the name of the method at `at`, and of its zero byte.
 fn method_name_size(pool: &[u8], at: usize) -> usize
-    requires { ⌜ Stands (Known (ShowsMethod (now pool)) (Named methodName) at) × (length (now pool) ≤ 1048576) ⌝ }
+    requires { ⌜ Stands (Known (ShowsMethod (now pool)) (Named methodName) at) × (length (now pool) ≤ fileLimit) ⌝ }
     ensures { λ r. ⌜ Tells (Known (ShowsMethod (now (pool .entry))) (Named methodName) at) methodNameSize r × (r ≤ 256) ⌝ }
 {
     name_size(pool, reader::record::method_name(pool, at))
@@ -50,11 +52,11 @@ pub fn put_methods(
     n: usize,
     at: usize,
     q: usize,
-    place: &[u16; 2048],
+    place: &[u16; ROW_LIMIT],
     shift: usize,
     out: &mut [u8],
 ) -> usize
-    requires { ⌜ Room (Rows (Known (ShowsMethod (now pool)) (MethodFit shift)) n at) (sum methodSize) (length (now out)) × ((q + 256 * n < 4294967296) × ((length (now pool) ≤ 1048576) × (2048 ≡ length (now place)))) ⌝ }
+    requires { ⌜ Room (Rows (Known (ShowsMethod (now pool)) (MethodFit shift)) n at) (sum methodSize) (length (now out)) × ((q + 256 * n < 4294967296) × ((length (now pool) ≤ fileLimit) × (rowLimit ≡ length (now place)))) ⌝ }
     ensures { λ r. ⌜ Wrote (Rows (Known (ShowsMethod (now (pool .entry))) (MethodFit shift)) n at) (methodsBytes (renumber (now (place .entry)) shift) q) (now (out .entry)) r (now (out .exit)) ⌝ }
 {
     let mut k: usize = 0;
@@ -71,7 +73,7 @@ pub fn put_methods(
 
 // The bytes of the names of n methods from `at` on.
 pub fn method_names_size(pool: &[u8], n: usize, at: usize) -> usize
-    requires { ⌜ Stands (Rows (Known (ShowsMethod (now pool)) (Named methodName)) n at) × ((n ≤ 65535) × (length (now pool) ≤ 1048576)) ⌝ }
+    requires { ⌜ Stands (Rows (Known (ShowsMethod (now pool)) (Named methodName)) n at) × ((n ≤ 65535) × (length (now pool) ≤ fileLimit)) ⌝ }
     ensures { λ r. ⌜ Tells (Rows (Known (ShowsMethod (now (pool .entry))) (Named methodName)) n at) (sum methodNameSize) r × (r ≤ 256 * n) ⌝ }
 {
     let mut k: usize = 0;
@@ -87,7 +89,7 @@ pub fn method_names_size(pool: &[u8], n: usize, at: usize) -> usize
 
 // The names of n methods from `at` on.
 pub fn put_method_names(pool: &[u8], n: usize, at: usize, out: &mut [u8]) -> usize
-    requires { ⌜ Room (Rows (Known (ShowsMethod (now pool)) (Named methodName)) n at) (sum methodNameSize) (length (now out)) × (length (now pool) ≤ 1048576) ⌝ }
+    requires { ⌜ Room (Rows (Known (ShowsMethod (now pool)) (Named methodName)) n at) (sum methodNameSize) (length (now out)) × (length (now pool) ≤ fileLimit) ⌝ }
     ensures { λ r. ⌜ Wrote (Rows (Known (ShowsMethod (now (pool .entry))) (Named methodName)) n at) (run methodNameBytes) (now (out .entry)) r (now (out .exit)) ⌝ }
 {
     let mut k: usize = 0;

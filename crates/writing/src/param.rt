@@ -4,6 +4,7 @@ ghost use mathlib.Core.List.{_∷_};
 ghost use Prim.Native.Nat.{_+_, _≤_};
 ghost use lib.ListN.{length, getD};
 ghost use lib.Seq.{sets};
+ghost use Rattle.number.specs.Limits.{fileLimit, rowLimit};
 ghost use Rattle.number.specs.Number.{be};
 ghost use Rattle.reader.specs.Records.{ShowsType, ShowsParam};
 ghost use Rattle.reader.specs.Layout.{Rows};
@@ -15,10 +16,18 @@ ghost use Rattle.writing.specs.Source.{Known, renumber, InTable};
 ghost use Rattle.writing.specs.Wrote.{Room, Wrote};
 use crate::field::copy;
 use crate::field::put_u16;
+use number::ROW_LIMIT;
+use reader::record::Form;
 
 // A prefix, and the index that the two bytes after it become.
-fn put_interface(pool: &[u8], at: usize, place: &[u16; 2048], shift: usize, out: &mut [u8]) -> usize
-    requires { ⌜ (at + 3 ≤ length (now pool)) × (InTable shift (be 2 (now pool) (at + 1)) × ((3 ≤ length (now out)) × (2048 ≡ length (now place)))) ⌝ }
+fn put_interface(
+    pool: &[u8],
+    at: usize,
+    place: &[u16; ROW_LIMIT],
+    shift: usize,
+    out: &mut [u8],
+) -> usize
+    requires { ⌜ (at + 3 ≤ length (now pool)) × (InTable shift (be 2 (now pool) (at + 1)) × ((3 ≤ length (now out)) × (rowLimit ≡ length (now place)))) ⌝ }
     ensures { λ r. ⌜ (r ≡ 3) × (now (out .exit) ≡ sets (now (out .entry)) 0 (getD (now (pool .entry)) at 0 ∷ bytesOf 2 (renumber (now (place .entry)) shift (be 2 (now (pool .entry)) (at + 1))))) ⌝ }
 {
     out[0] = pool[at];
@@ -29,25 +38,38 @@ fn put_interface(pool: &[u8], at: usize, place: &[u16; 2048], shift: usize, out:
 }
 
 // The type at `at`. An array is three bytes, and then its element.
-pub fn put_type(pool: &[u8], at: usize, place: &[u16; 2048], shift: usize, out: &mut [u8]) -> usize
-    requires { ⌜ Room (Known (ShowsType (now pool)) (TypeRefs (InTable shift)) at) typeSize (length (now out)) × ((length (now pool) ≤ 1048576) × (2048 ≡ length (now place))) ⌝ }
+pub fn put_type(
+    pool: &[u8],
+    at: usize,
+    place: &[u16; ROW_LIMIT],
+    shift: usize,
+    out: &mut [u8],
+) -> usize
+    requires { ⌜ Room (Known (ShowsType (now pool)) (TypeRefs (InTable shift)) at) typeSize (length (now out)) × ((length (now pool) ≤ fileLimit) × (rowLimit ≡ length (now place))) ⌝ }
     ensures { λ r. ⌜ Wrote (Known (ShowsType (now (pool .entry))) (TypeRefs (InTable shift)) at) (typeBytes (renumber (now (place .entry)) shift)) (now (out .entry)) r (now (out .exit)) ⌝ }
 {
-    match pool[at] % 32 {
-        0..=17 => copy(pool, at, 1, out),
-        18 => put_interface(pool, at, place, shift, out),
-        19 => copy(pool, at, 2, out),
-        20 => {
+    let f = reader::record::form_of(pool[at]);
+    match f {
+        Form::Simple => copy(pool, at, 1, out),
+        Form::Interface => put_interface(pool, at, place, shift, out),
+        Form::InterfaceIs => copy(pool, at, 2, out),
+        Form::Array => {
             let n = copy(pool, at, 3, out);
             n + put_type(pool, at + 3, place, shift, &mut out[n..])
         }
-        _ => copy(pool, at, 3, out),
+        Form::Sized => copy(pool, at, 3, out),
     }
 }
 
 // The parameter at `at`: flags, type.
-pub fn put_param(pool: &[u8], at: usize, place: &[u16; 2048], shift: usize, out: &mut [u8]) -> usize
-    requires { ⌜ Room (Known (ShowsParam (now pool)) (ParamRefs (InTable shift)) at) paramSize (length (now out)) × ((length (now pool) ≤ 1048576) × (2048 ≡ length (now place))) ⌝ }
+pub fn put_param(
+    pool: &[u8],
+    at: usize,
+    place: &[u16; ROW_LIMIT],
+    shift: usize,
+    out: &mut [u8],
+) -> usize
+    requires { ⌜ Room (Known (ShowsParam (now pool)) (ParamRefs (InTable shift)) at) paramSize (length (now out)) × ((length (now pool) ≤ fileLimit) × (rowLimit ≡ length (now place))) ⌝ }
     ensures { λ r. ⌜ Wrote (Known (ShowsParam (now (pool .entry))) (ParamRefs (InTable shift)) at) (paramBytes (renumber (now (place .entry)) shift)) (now (out .entry)) r (now (out .exit)) ⌝ }
 {
     let n = copy(pool, at, 1, out);
@@ -59,11 +81,11 @@ pub fn put_params(
     pool: &[u8],
     n: usize,
     at: usize,
-    place: &[u16; 2048],
+    place: &[u16; ROW_LIMIT],
     shift: usize,
     out: &mut [u8],
 ) -> usize
-    requires { ⌜ Room (Rows (Known (ShowsParam (now pool)) (ParamRefs (InTable shift))) n at) (sum paramSize) (length (now out)) × ((length (now pool) ≤ 1048576) × (2048 ≡ length (now place))) ⌝ }
+    requires { ⌜ Room (Rows (Known (ShowsParam (now pool)) (ParamRefs (InTable shift))) n at) (sum paramSize) (length (now out)) × ((length (now pool) ≤ fileLimit) × (rowLimit ≡ length (now place))) ⌝ }
     ensures { λ r. ⌜ Wrote (Rows (Known (ShowsParam (now (pool .entry))) (ParamRefs (InTable shift))) n at) (run (paramBytes (renumber (now (place .entry)) shift))) (now (out .entry)) r (now (out .exit)) ⌝ }
 {
     let mut k: usize = 0;

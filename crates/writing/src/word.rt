@@ -3,6 +3,7 @@ ghost use mathlib.Core.Path.{_≡_};
 ghost use Prim.Native.Nat.{_-_, _≤_, _<_};
 ghost use lib.ListN.{length};
 ghost use lib.Seq.{sets};
+ghost use Rattle.number.specs.Limits.{fileLimit};
 ghost use Rattle.key.specs.Word.{Leads, wordEnd, wordAt};
 ghost use Rattle.normal.specs.Size.{nameSize};
 ghost use Rattle.normal.specs.Record.{nameBytes};
@@ -10,7 +11,7 @@ use crate::field::copy;
 
 // Where the word at p ends: its zero byte.
 fn word_end(pool: &[u8], p: usize) -> usize
-    requires { ⌜ (wordEnd (now pool) p < length (now pool)) × (length (now pool) ≤ 1048576) ⌝ }
+    requires { ⌜ (wordEnd (now pool) p < length (now pool)) × (length (now pool) ≤ fileLimit) ⌝ }
     ensures { λ r. ⌜ r ≡ wordEnd (now (pool .entry)) p ⌝ }
 {
     let mut i = p;
@@ -22,7 +23,7 @@ fn word_end(pool: &[u8], p: usize) -> usize
 
 // The bytes of the name that the pool pointer q leads to, and of its zero byte.
 pub fn name_size(pool: &[u8], q: usize) -> usize
-    requires { ⌜ Leads (now pool) q × (length (now pool) ≤ 1048576) ⌝ }
+    requires { ⌜ Leads (now pool) q × (length (now pool) ≤ fileLimit) ⌝ }
     ensures { λ r. ⌜ r ≡ nameSize (wordAt (now (pool .entry)) (q - 1)) ⌝ }
 {
     let start = q - 1;
@@ -31,7 +32,7 @@ pub fn name_size(pool: &[u8], q: usize) -> usize
 
 // That name and a zero byte.
 pub fn put_name(pool: &[u8], q: usize, out: &mut [u8]) -> usize
-    requires { ⌜ Leads (now pool) q × ((length (now pool) ≤ 1048576) × (nameSize (wordAt (now pool) (q - 1)) ≤ length (now out))) ⌝ }
+    requires { ⌜ Leads (now pool) q × ((length (now pool) ≤ fileLimit) × (nameSize (wordAt (now pool) (q - 1)) ≤ length (now out))) ⌝ }
     ensures { λ r. ⌜ (r ≡ nameSize (wordAt (now (pool .entry)) (q - 1))) × (now (out .exit) ≡ sets (now (out .entry)) 0 (nameBytes (wordAt (now (pool .entry)) (q - 1)))) ⌝ }
 {
     let from = q - 1;

@@ -1,19 +1,31 @@
 -- What the crates above may know of a decoded file and of the check.
 -- Assumes nothing.
 use mathlib.Core.Path.{_≡_, refl, sym, ap, _∙_}
+use mathlib.Core.Bool.{true}
+use mathlib.Core.Logic.{_↔_}
 use mathlib.Core.List.{List}
-use Prim.Native.Nat.{ℕ}
+use Prim.Native.Nat.{ℕ, _<_}
 use native.Mathlib.Omega.{arith}
-use lib.ListN.{length}
+use lib.ListN.{length, getD}
 use Rattle.reading.specs.Got.{Got, got, bad}
 use Rattle.reading.specs.declared.Refusal.{Refusal}
+use Rattle.name.specs.Name.{isIdentifier}
 use Rattle.typelib.specs.Typelib.{Typelib, headerOf, readTypelib, verdictOf}
 use Rattle.reading.specs.declared.Verdict.{Verdict}
 use Rattle.reading.specs.declared.Verdict.the-variants.{Accepted, Refused}
 use Rattle.rules.specs.Shows.{Bytes, ShowsTypelib}
-use Rattle.rules.specs.Rules.{TypelibRule}
+use Rattle.rules.specs.Rules.{Identifier, TypelibRule}
+use Rattle.rules.proofs.Names as names
 use Rattle.rules.proofs.Whole as whole
 use Rattle.reader.specs.Reader.{decode, checkOf}
+
+-- ---- identifiers
+
+pub identifier-exactly : (w : List ℕ) → (isIdentifier w ≡ true) ↔ Identifier w
+identifier-exactly = names.identifier-exactly
+
+pub identifier-bytes : (w : List ℕ) → Identifier w → (i : ℕ) → getD w i 0 < 256
+identifier-bytes = names.identifier-bytes
 
 -- ---- the check and the decoded file
 

@@ -1,10 +1,12 @@
 -- `writing::param::put_type` meets its contract. The measure is the number of the pool's bytes from `at` on.
 -- Assumes nothing.
-use Rattle.number.proofs.Tools.{arith, needs, length, ℕ, _-_, _<_}
+use Rattle.number.proofs.Tools.{arith, needs, length, ℕ, _-_, _<_, sym, _∙_}
+use Rattle.normal.proofs.Lengths.{length-type}
+use Rattle.reader.specs.declared.record.Form.the-variants.{Simple, Interface, InterfaceIs, Array, Sized}
+use Rattle.reader.proofs.record.form_of.Reads as form-of-reads
+use Rattle.writing.specs.Source.{renumber}
 use Rattle.writing.proofs.Sources.{room-lent}
 use Rattle.writing.proofs.Types as laws
-use Rattle.normal.proofs.Lengths.{length-type}
-use Rattle.writing.specs.Source.{renumber}
 use Rattle.writing.proofs.Turns as turns
 use borrow.Fn.Kinds.{In}
 use borrow.Fn.PlainCycle.{Measures, is, falls, and}
@@ -28,41 +30,50 @@ put-type-below t =
 
 pub +put-type-spec : {M : Type 1} → statement M
 +put-type-spec = close μ-put-type λ t. put-type-lts.spec (
-  put-interface-reads.Asked,
-  put-interface-reads.Learnt,
+  form-of-reads.Asked,
+  form-of-reads.Learnt,
   copy-reads.Asked,
   copy-reads.Learnt,
+  put-interface-reads.Asked,
+  put-interface-reads.Learnt,
   put-type-below t,
   put-type.Post,
 )
     (put-type-at t)
     put-type.Post
     (λ c. omega (arith, laws.prefix-room _ _ _ _ (c .before .before .before .pre .1 .0)))
-    (λ c κs. let r = laws.interface-room _ _ _ _ (c .before .before .before .before .before .pre .1 .0) (omega arith) in (r .0, (r .1 .0, (r .1 .1, omega arith))))
-    (λ c κs. laws.iid-room _ _ _ _ (c .before .before .before .before .before .pre .1 .0) (omega arith))
-    (λ c κs. laws.sized-room _ _ _ _ (c .before .before .before .before .before .pre .1 .0) (omega arith))
-    (λ c. omega (arith, laws.sized-room _ _ _ _ (c .before .before .before .before .before .before .before .before .pre .1 .0) (omega arith)))
-    (λ c. omega (arith, laws.sized-room _ _ _ _ (c .before .before .before .before .before .before .before .before .pre .1 .0) (omega arith)))
-    (λ c. omega (arith, laws.sized-room _ _ _ _ (c .before .before .before .before .before .before .before .before .pre .1 .0) (omega arith)))
+    (λ c κs. search needs)
+    (λ c. search needs)
+    (λ c κs. laws.prefix-room _ _ _ _ (c .before .before .before .before .before .before .before .pre .1 .0))
+    (λ c. search needs)
+    (λ c κs. let r = laws.form-room _ _ _ _ (c .before .before .before .before .before .before .before .pre .1 .0) Interface (sym (c .before .before .before .form-of .ensures) ∙ c .before .enum-told2 .given .1) in (r .0, (r .1 .0, (r .1 .1, omega arith))))
+    (λ c. search needs)
+    (λ c κs. laws.form-room _ _ _ _ (c .before .before .before .before .before .before .before .pre .1 .0) InterfaceIs (sym (c .before .before .before .form-of .ensures) ∙ c .before .enum-told3 .given .1))
+    (λ c. search needs)
+    (λ c κs. laws.form-room _ _ _ _ (c .before .before .before .before .before .before .before .pre .1 .0) Array (sym (c .before .before .before .form-of .ensures) ∙ c .before .enum-told4 .given .1) .0)
+    (λ c. omega (arith, laws.form-room _ _ _ _ (c .before .before .before .before .before .before .before .before .before .before .pre .1 .0) Array (sym (c .before .before .before .before .before .before .form-of .ensures) ∙ c .before .before .before .before .enum-told4 .given .1) .0))
+    (λ c. omega (arith, laws.form-room _ _ _ _ (c .before .before .before .before .before .before .before .before .before .before .pre .1 .0) Array (sym (c .before .before .before .before .before .before .form-of .ensures) ∙ c .before .before .before .before .enum-told4 .given .1) .0))
+    (λ c. omega (arith, laws.form-room _ _ _ _ (c .before .before .before .before .before .before .before .before .before .before .pre .1 .0) Array (sym (c .before .before .before .before .before .before .form-of .ensures) ∙ c .before .before .before .before .enum-told4 .given .1) .0))
     (λ c. search needs)
     (λ c κs.
-    let a = c .before .before .before .before .before .before .before .before .before in
-    let r = laws.sized-room _ _ _ _ (a .pre .1 .0) (omega arith) in
-    (omega arith, (room-lent (c .before .before .before .copy2 .last .1 .1 .1 .0) (c .before .before .before .copy2 .result) (omega arith) (laws.element-room _ _ _ _ (a .pre .1 .0) (omega arith)), (omega arith, omega arith))))
-    (λ c. omega (arith, turns.wrote-most (c .before .before .put-type .ensures) (length-type (renumber (c .before .before .before .before .before .before .before .before .before .before .before .before .args .place .now) (c .before .before .before .before .before .before .before .before .before .before .before .before .args .shift))) (laws.element-room _ _ _ _ (c .before .before .before .before .before .before .before .before .before .before .before .before .pre .1 .0) (omega arith))))
-    (λ c κs. laws.prefix-room _ _ _ _ (c .before .before .before .before .before .before .pre .1 .0))
-    (λ c κs. laws.sized-room _ _ _ _ (c .before .before .before .before .before .before .pre .1 .0) (omega arith))
+    let r = laws.form-room _ _ _ _ (c .before .before .before .before .before .before .before .before .before .before .before .pre .1 .0) Array (sym (c .before .before .before .before .before .before .before .form-of .ensures) ∙ c .before .before .before .before .before .enum-told4 .given .1) in
+    (omega (arith, r .0), (room-lent (c .before .before .before .copy3 .last .1 .1 .1 .0) (c .before .before .before .copy3 .result) (omega arith) (r .1), (omega arith, omega arith))))
+    (λ c.
+    let a = c .before .before .before .before .before .before .before .before .before .before .before .before .before .before in
+    omega (arith, turns.wrote-most (c .before .before .put-type .ensures) (length-type (renumber (a .args .place .now) (a .args .shift))) (laws.form-room _ _ _ _ (c .before .before .before .before .before .before .before .before .before .before .before .before .before .before .pre .1 .0) Array (sym (c .before .before .before .before .before .before .before .before .before .before .form-of .ensures) ∙ c .before .before .before .before .before .before .before .before .enum-told4 .given .1) .1)))
     (λ c. search needs)
-    (λ c. laws.type-wrote _ _ _ _ _ _ _ (λ l. absurd (omega arith)) (λ l. c .before .before .put-interface .ensures) (λ l. absurd (omega arith)) (λ l. absurd (omega arith)) (λ l. absurd (omega arith)))
+    (λ c κs. laws.form-room _ _ _ _ (c .before .before .before .before .before .before .before .pre .1 .0) Sized (sym (c .before .before .before .form-of .ensures) ∙ c .before .enum-told5 .given .1))
     (λ c. search needs)
-    (λ c. laws.type-wrote _ _ _ _ _ _ _ (λ l. absurd (omega arith)) (λ l. absurd (omega arith)) (λ l. c .before .before .copy .ensures) (λ l. absurd (omega arith)) (λ l. absurd (omega arith)))
+    (λ c. laws.form-wrote _ _ _ _ _ _ _ Simple (sym (c .before .before .before .before .before .before .form-of .ensures) ∙ c .before .before .before .before .enum-told .given .1) (c .before .before .copy .ensures))
+    (λ c. search needs)
+    (λ c. laws.form-wrote _ _ _ _ _ _ _ Interface (sym (c .before .before .before .before .before .before .form-of .ensures) ∙ c .before .before .before .before .enum-told2 .given .1) (c .before .before .put-interface .ensures))
+    (λ c. search needs)
+    (λ c. laws.form-wrote _ _ _ _ _ _ _ InterfaceIs (sym (c .before .before .before .before .before .before .form-of .ensures) ∙ c .before .before .before .before .enum-told3 .given .1) (c .before .before .copy2 .ensures))
     (λ c. search needs)
     (λ c.
-    let r = laws.sized-room _ _ _ _ (c .before .before .before .before .before .before .before .before .before .before .before .before .pre .1 .0) (omega arith) in
-    laws.type-wrote _ _ _ _ _ _ _ (λ l. absurd (omega arith)) (λ l. absurd (omega arith)) (λ l. absurd (omega arith))
-    (λ l. laws.array-wrote _ _ _ _ (c .before .before .before .before .before .before .before .before .before .before .before .before .args .out .now) (c .before .before .before .before .before .before .copy2 .last .1 .1 .1 .0) (c .before .before .before .before .before .before .copy2 .result) (c .before .before .put-type .result) (c .before .before .put-type .last .1 .1 .1 .1 .0) (r .0) (c .before .before .before .before .before .before .copy2 .ensures) (c .before .before .put-type .ensures))
-    (λ l. absurd (omega arith)))
+    let a = c .before .before .before .before .before .before .before .before .before .before .before .before .before .before in
+    let r = laws.form-room _ _ _ _ (c .before .before .before .before .before .before .before .before .before .before .before .before .before .before .pre .1 .0) Array (sym (c .before .before .before .before .before .before .before .before .before .before .form-of .ensures) ∙ c .before .before .before .before .before .before .before .before .enum-told4 .given .1) in
+    laws.form-wrote _ _ _ _ _ _ _ Array (sym (c .before .before .before .before .before .before .before .before .before .before .form-of .ensures) ∙ c .before .before .before .before .before .before .before .before .enum-told4 .given .1)
+    (laws.array-wrote _ _ _ _ (a .args .out .now) (c .before .before .before .before .before .before .copy3 .last .1 .1 .1 .0) (c .before .before .before .before .before .before .copy3 .result) (c .before .before .put-type .result) (c .before .before .put-type .last .1 .1 .1 .1 .0) (r .0 .0) (c .before .before .before .before .before .before .copy3 .ensures) (c .before .before .put-type .ensures)))
     (λ c. search needs)
-    (λ c. laws.type-wrote _ _ _ _ _ _ _ (λ l. c .before .before .copy3 .ensures) (λ l. absurd (omega arith)) (λ l. absurd (omega arith)) (λ l. absurd (omega arith)) (λ l. absurd (omega arith)))
-    (λ c. search needs)
-    (λ c. laws.type-wrote _ _ _ _ _ _ _ (λ l. absurd (omega arith)) (λ l. absurd (omega arith)) (λ l. absurd (omega arith)) (λ l. absurd (omega arith)) (λ l. c .before .before .copy4 .ensures))
+    (λ c. laws.form-wrote _ _ _ _ _ _ _ Sized (sym (c .before .before .before .before .before .before .form-of .ensures) ∙ c .before .before .before .before .enum-told5 .given .1) (c .before .before .copy4 .ensures))

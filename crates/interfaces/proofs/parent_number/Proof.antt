@@ -1,10 +1,11 @@
--- `writing::descriptor::parent_number` meets its contract.
+-- `interfaces::parent_number` meets its contract.
 -- Assumes nothing.
 use mathlib.Core.Logic.{inl, inr}
 use Rattle.number.proofs.Tools.{arith, needs, refl, is-eq, no-eq}
-use Rattle.writing.specs.Source.{renumberParent, renumber}
-use Rattle.writing.proofs.descriptor.parent_number.Statement.{statement}
-use Rattle.writing.proofs.descriptor.parent_number.Tie as tie
+use Rattle.writing.specs.Source.{renumber}
+use Rattle.interfaces.specs.Source.{renumberParent}
+use Rattle.interfaces.proofs.parent_number.Statement.{statement}
+use Rattle.interfaces.proofs.parent_number.Tie as tie
 
 add-result : tie.Need-add-result
 add-result c = elim (c .before .pre .0) [ inl e ↦ absurd (omega arith) | inr t ↦ omega arith ]

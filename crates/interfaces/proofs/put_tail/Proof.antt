@@ -1,11 +1,11 @@
--- `writing::descriptor::put_tail` meets its contract.
+-- `interfaces::put_tail` meets its contract.
 -- Assumes nothing.
 use lib.ListN.{length-take, length-drop}
 use Rattle.number.proofs.Tools.{arith, refl, needs}
 use Rattle.writing.proofs.Sources.{room-lent}
-use Rattle.writing.proofs.Descriptors as laws
-use Rattle.writing.proofs.descriptor.put_tail.Statement.{statement}
-use Rattle.writing.proofs.descriptor.put_tail.Tie as tie
+use Rattle.interfaces.proofs.Descriptors as laws
+use Rattle.interfaces.proofs.put_tail.Statement.{statement}
+use Rattle.interfaces.proofs.put_tail.Tie as tie
 
 put-u16-requires : tie.Need-put-u16-requires
 put-u16-requires c κs = laws.constants-room _ _ _ (c .before .u16-at .ensures) _ (c .before .before .before .before .pre .0) .0

@@ -1,10 +1,10 @@
--- `writing::descriptor::names_size` meets its contract.
+-- `interfaces::names_size` meets its contract.
 -- Assumes nothing.
 use Rattle.number.proofs.Tools.{arith, needs}
 use Rattle.writing.proofs.Sources.{known-stands}
-use Rattle.writing.proofs.Descriptors as laws
-use Rattle.writing.proofs.descriptor.names_size.Statement.{statement}
-use Rattle.writing.proofs.descriptor.names_size.Tie as tie
+use Rattle.interfaces.proofs.Descriptors as laws
+use Rattle.interfaces.proofs.names_size.Statement.{statement}
+use Rattle.interfaces.proofs.names_size.Tie as tie
 
 add-u16-at : tie.Need-add-u16-at
 add-u16-at c = omega (arith, laws.front-in (known-stands (c .before .pre .0)))

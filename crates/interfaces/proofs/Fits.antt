@@ -10,7 +10,8 @@ use Rattle.meaning.proofs.Alls.{all-then}
 use Rattle.meaning.proofs.Refs.{refs-then}
 use Rattle.normal.specs.Size.{constantName}
 use Rattle.normal.proofs.Apart.{refs-in}
-use Rattle.writing.specs.Source.{Known, Named, NamedDescriptor, InTable, DescriptorFit}
+use Rattle.writing.specs.Source.{Known, Named, InTable}
+use Rattle.interfaces.specs.Source.{NamedDescriptor, DescriptorFit}
 
 method-named : (minor n : ℕ) (m : Method ℕ) → MethodRule minor n m → Named methodName m
 unfolding methodName

@@ -1,13 +1,13 @@
--- `writing::descriptor::put_descriptor` meets its contract.
+-- `interfaces::put_descriptor` meets its contract.
 -- Assumes nothing.
 use Rattle.number.proofs.Tools.{arith, refl, _+_, needs}
-use Rattle.writing.specs.Source.{DescriptorFit}
+use Rattle.interfaces.specs.Source.{DescriptorFit}
 use Rattle.writing.proofs.Lent.{back}
 use Rattle.writing.proofs.Turns as turns
 use Rattle.writing.proofs.Sources.{room-stands, known-stands, less-stands, room-lent}
-use Rattle.writing.proofs.Descriptors as laws
-use Rattle.writing.proofs.descriptor.put_descriptor.Statement.{statement}
-use Rattle.writing.proofs.descriptor.put_descriptor.Tie as tie
+use Rattle.interfaces.proofs.Descriptors as laws
+use Rattle.interfaces.proofs.put_descriptor.Statement.{statement}
+use Rattle.interfaces.proofs.put_descriptor.Tie as tie
 
 parent-index-requires : tie.Need-parent-index-requires
 parent-index-requires c κs = known-stands (room-stands (c .before .before .pre .0))

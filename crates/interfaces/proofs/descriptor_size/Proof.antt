@@ -1,9 +1,9 @@
--- `writing::descriptor::descriptor_size` meets its contract.
+-- `interfaces::descriptor_size` meets its contract.
 -- Assumes nothing.
 use Rattle.number.proofs.Tools.{arith, needs}
-use Rattle.writing.proofs.Descriptors as laws
-use Rattle.writing.proofs.descriptor.descriptor_size.Statement.{statement}
-use Rattle.writing.proofs.descriptor.descriptor_size.Tie as tie
+use Rattle.interfaces.proofs.Descriptors as laws
+use Rattle.interfaces.proofs.descriptor_size.Statement.{statement}
+use Rattle.interfaces.proofs.descriptor_size.Tie as tie
 
 u16-at-requires : tie.Need-u16-at-requires
 u16-at-requires c κs = laws.tail-in (c .tail-at .ensures) (c .before .before .pre .0)

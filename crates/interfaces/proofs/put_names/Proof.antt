@@ -1,14 +1,14 @@
--- `writing::descriptor::put_names` meets its contract.
+-- `interfaces::put_names` meets its contract.
 -- Assumes nothing.
 use Rattle.number.proofs.Tools.{arith, needs}
 use Rattle.normal.proofs.Lengths.{length-run, length-constant-name}
 use Rattle.normal.specs.Record.{constantNameBytes}
 use Rattle.normal.specs.Size.{constantNameSize}
 use Rattle.writing.proofs.Turns as turns
 use Rattle.writing.proofs.Sources.{room-stands, known-stands, room-lent}
-use Rattle.writing.proofs.Descriptors as laws
-use Rattle.writing.proofs.descriptor.put_names.Statement.{statement}
-use Rattle.writing.proofs.descriptor.put_names.Tie as tie
+use Rattle.interfaces.proofs.Descriptors as laws
+use Rattle.interfaces.proofs.put_names.Statement.{statement}
+use Rattle.interfaces.proofs.put_names.Tie as tie
 
 add-u16-at : tie.Need-add-u16-at
 add-u16-at c = omega (arith, laws.front-in (known-stands (room-stands (c .before .before .pre .0))))

@@ -1,12 +1,12 @@
--- `writing::descriptor::put_own` meets its contract.
+-- `interfaces::put_own` meets its contract.
 -- Assumes nothing.
 use Rattle.number.proofs.Tools.{arith, needs}
 use Rattle.normal.proofs.Lengths.{length-names}
 use Rattle.writing.proofs.Turns as turns
 use Rattle.writing.proofs.Sources.{room-stands, known-stands, room-lent}
-use Rattle.writing.proofs.Descriptors as laws
-use Rattle.writing.proofs.descriptor.put_own.Statement.{statement}
-use Rattle.writing.proofs.descriptor.put_own.Tie as tie
+use Rattle.interfaces.proofs.Descriptors as laws
+use Rattle.interfaces.proofs.put_own.Statement.{statement}
+use Rattle.interfaces.proofs.put_own.Tie as tie
 
 descriptor-size-requires : tie.Need-descriptor-size-requires
 descriptor-size-requires c κs = (known-stands (room-stands (c .before .before .pre .0)), omega arith)

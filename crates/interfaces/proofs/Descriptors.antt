@@ -22,12 +22,13 @@ use Rattle.normal.specs.Size.{sum, methodSize, methodNameSize, constantSize, co
 use Rattle.normal.specs.Record.{run, methodsBytes, methodNameBytes, constantsBytes, constantNameBytes, constantsFrom, parentNumber, descriptorBytes, namesBytes}
 use Rattle.normal.specs.Normal.{namesFrom, ownBytes}
 use Rattle.normal.proofs.Lengths.{length-bytes, length-run, length-methods, length-method-name, length-constants, length-descriptor}
-use Rattle.writing.specs.Source.{Known, Named, NamedDescriptor, MethodFit, DescriptorFit, InTable, renumber, renumberParent, Tail, tailOf, TailAt, ShowsTail, NamedTail, tailSize, tailBytes}
+use Rattle.writing.specs.Source.{Known, Named, MethodFit, InTable, renumber}
+use Rattle.interfaces.specs.Source.{NamedDescriptor, DescriptorFit, renumberParent, Tail, tailOf, TailAt, ShowsTail, NamedTail, tailSize, tailBytes}
 use Rattle.writing.specs.Wrote.{Room, Wrote}
 use Rattle.writing.proofs.Copies.{one-byte}
 use Rattle.writing.proofs.Lent.{rest, back, lent-after}
 use Rattle.writing.proofs.Sources.{rows-known}
 use Rattle.writing.proofs.Sizes as sizes
 
 -- ---- where the parts stand
 

@@ -1,9 +1,9 @@
--- `writing::descriptor::tail_at` meets its contract.
+-- `interfaces::tail_at` meets its contract.
 -- Assumes nothing.
 use Rattle.number.proofs.Tools.{arith, needs}
-use Rattle.writing.proofs.Descriptors as laws
-use Rattle.writing.proofs.descriptor.tail_at.Statement.{statement}
-use Rattle.writing.proofs.descriptor.tail_at.Tie as tie
+use Rattle.interfaces.proofs.Descriptors as laws
+use Rattle.interfaces.proofs.tail_at.Statement.{statement}
+use Rattle.interfaces.proofs.tail_at.Tie as tie
 
 add-methods-end : tie.Need-add-methods-end
 add-methods-end c = omega (arith, laws.front-in (c .before .before .pre .0))

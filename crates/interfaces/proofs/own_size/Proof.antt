@@ -1,10 +1,10 @@
--- `writing::descriptor::own_size` meets its contract.
+-- `interfaces::own_size` meets its contract.
 -- Assumes nothing.
 use Rattle.number.proofs.Tools.{arith, needs}
 use Rattle.writing.proofs.Sources.{known-stands}
-use Rattle.writing.proofs.Descriptors as laws
-use Rattle.writing.proofs.descriptor.own_size.Statement.{statement}
-use Rattle.writing.proofs.descriptor.own_size.Tie as tie
+use Rattle.interfaces.proofs.Descriptors as laws
+use Rattle.interfaces.proofs.own_size.Statement.{statement}
+use Rattle.interfaces.proofs.own_size.Tie as tie
 
 descriptor-size-requires : tie.Need-descriptor-size-requires
 descriptor-size-requires c κs = (known-stands (c .before .pre .0), omega arith)
