@@ -2,7 +2,7 @@
 -- Assumes nothing.
 use mathlib.Core.List.{List}
 use mathlib.Core.Option.{Option}
-use Prim.Native.Nat.{ℕ, _-_, _≤_, _<_}
+use Prim.Native.Nat.{ℕ, _+_, _-_, _≤_, _<_}
 use Rattle.number.specs.Limits.{fileLimit, entryLimit}
 use Rattle.number.specs.Choice.{if_then_else_, _≤?_}
 use Rattle.key.specs.Key.{Key}
