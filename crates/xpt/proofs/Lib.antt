@@ -1,3 +1,1 @@
-pub mod Signs
-pub mod Lengths
-pub mod InputLaws
+pub mod TidyLaws

@@ -1,3 +1,1 @@
-pub mod Bounds
-pub mod Input
-pub mod Text
+pub mod Turns

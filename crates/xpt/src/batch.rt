@@ -1,21 +1,13 @@
 // Commands on standard input, one a line, each answered with one line.
-use crate::run::Ran;
-use crate::run::Told;
+use feed::Feed;
 use kept::Kept;
+use runs::Ran;
+use runs::Told;
 ghost use mathlib.Core.Path.{_≡_};
-ghost use Prim.Native.Nat.{_-_, _≤_, _<_};
-ghost use lib.ListN.{length};
+ghost use Prim.Native.Nat.{_≤_, _<_};
 ghost use Rattle.kept.specs.Table.{Tidy};
-ghost use Rattle.xpt.specs.Input.{OneLine, FirstNewline, MovedDown, ReadBehind, Searched, Fed, Going};
-
-// The input that is in the buffer: from `from` to `end`, with no newline before `seen`. The rest of a line that was too long is passed over.
-struct Feed {
-    from: usize,
-    seen: usize,
-    end: usize,
-    is_passing: bool,
-    is_over: bool,
-}
+ghost use Rattle.feed.specs.Input.{OneLine, FirstNewline, Searched, Fed};
+ghost use Rattle.xpt.specs.Turns.{Going};
 
 // What goes from one turn to the next.
 struct Turn {
@@ -39,22 +31,22 @@ fn answer(
     if n == 0 {
         return Ran {
             kept,
-            told: crate::run::mistaken(crate::failures::say_blank()),
+            told: runs::mistaken(failures::say_blank()),
         };
     }
     if line[n - 1] == 13 {
         return Ran {
             kept,
-            told: crate::run::mistaken(crate::failures::say_carriage_return()),
+            told: runs::mistaken(failures::say_carriage_return()),
         };
     }
-    if commands::has_empty_word(line, b' ') {
+    if verbs::has_empty_word(line, b' ') {
         return Ran {
             kept,
-            told: crate::run::mistaken(crate::failures::say_spaces()),
+            told: runs::mistaken(failures::say_spaces()),
         };
     }
-    crate::run::run(line, b' ', kept, rows, store, out)
+    runs::run(line, b' ', kept, rows, store, out)
 }
 
 // Whether standard output still takes lines; it is said on standard error where it does not.
@@ -63,71 +55,9 @@ fn is_open(told: Told) -> bool {
         Told::Answer => true,
         Told::Mistake => true,
         Told::Closed => {
-            crate::failures::say_output_gone();
+            failures::say_output_gone();
             false
         }
-    }
-}
-
-// The place of the first newline, or `end`.
-fn newline_from(input: &[u8; 65536], from: usize, end: usize) -> usize
-    requires { ⌜ (from ≤ end) × (end ≤ 65536) ⌝ }
-    ensures { λ r. ⌜ FirstNewline (now (input .entry)) from end r ⌝ }
-{
-    let mut i = from;
-    while i < end {
-        if input[i] == b'\n' {
-            return i;
-        }
-        i += 1;
-    }
-    end
-}
-
-// What stands from `from` to `end` is moved to the front; the answer is its length.
-fn move_down(from: usize, end: usize, input: &mut [u8]) -> usize
-    requires { ⌜ (from ≤ end) × (end ≤ length (now input)) ⌝ }
-    ensures { λ r. ⌜ MovedDown (now (input .entry)) from end r (now (input .exit)) ⌝ }
-{
-    let mut i: usize = 0;
-    while from + i < end {
-        input[i] = input[from + i];
-        i += 1;
-    }
-    i
-}
-
-// It is said on standard error that standard input could not be read.
-fn tell_read(got: isize) {
-    if got < 0 {
-        crate::failures::say_input_gone();
-    }
-}
-
-// Standard input into the buffer from `at` on; how many bytes came. There is room for one, so that none means the end.
-fn read_at(at: usize, input: &mut [u8]) -> usize
-    requires { ⌜ at < length (now input) ⌝ }
-    ensures { λ r. ⌜ ReadBehind (now (input .entry)) at r (now (input .exit)) ⌝ }
-{
-    let part = &mut input[at..];
-    let got = libc::read(0, part);
-    tell_read(got);
-    io::count(got, part)
-}
-
-// More input behind what is in the buffer, which is not full.
-fn read_more(feed: Feed, input: &mut [u8; 65536]) -> Feed
-    requires { ⌜ Searched (now input) feed × (feed .end - feed .from < 65536) ⌝ }
-    ensures { λ r. ⌜ Fed (now (input .exit)) r ⌝ }
-{
-    let seen = move_down(feed.from, feed.end, input);
-    let n = read_at(seen, input);
-    Feed {
-        from: 0,
-        seen,
-        end: seen + n,
-        is_passing: feed.is_passing,
-        is_over: n == 0,
     }
 }
 
@@ -138,14 +68,14 @@ fn refill(feed: Feed, kept: Kept, input: &mut [u8; 65536]) -> Turn
 {
     if feed.end - feed.from < 65536 {
         return Turn {
-            feed: read_more(feed, input),
+            feed: feed::read_more(feed, input),
             kept,
             is_open: true,
         };
     }
     let mut told = Told::Answer;
     if !feed.is_passing {
-        told = crate::run::mistaken(crate::failures::say_line_too_long());
+        told = runs::mistaken(failures::say_line_too_long());
     }
     Turn {
         feed: Feed {
@@ -211,7 +141,7 @@ fn go_on(
     requires { ⌜ Fed (now input) feed × Tidy (now rows) kept ⌝ }
     ensures { λ r. ⌜ Going (now (input .exit)) (now (rows .exit)) r ⌝ }
 {
-    let stop = newline_from(input, feed.seen, feed.end);
+    let stop = feed::newline_from(input, feed.seen, feed.end);
     if stop < feed.end {
         return take_line(feed, stop, kept, input, rows, store, out);
     }

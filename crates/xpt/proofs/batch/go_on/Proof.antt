@@ -2,7 +2,7 @@
 -- Assumes nothing.
 use Rattle.number.proofs.Tools.{sym, subst}
 use Rattle.kept.specs.Table.{Tidy}
-use Rattle.xpt.proofs.InputLaws.{first-whole, searched-all}
+use Rattle.feed.proofs.InputLaws.{first-whole, searched-all}
 use Rattle.xpt.proofs.batch.go_on.Statement.{statement}
 use Rattle.xpt.proofs.batch.go_on.Tie as tie
 

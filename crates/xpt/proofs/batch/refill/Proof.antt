@@ -2,7 +2,7 @@
 -- Assumes nothing.
 use mathlib.Core.Bool.{true}
 use Rattle.number.proofs.Tools.{refl, arith}
-use Rattle.xpt.proofs.InputLaws.{fed-at}
+use Rattle.feed.proofs.InputLaws.{fed-at}
 use Rattle.xpt.proofs.batch.refill.Statement.{statement}
 use Rattle.xpt.proofs.batch.refill.Tie as tie
 

@@ -2,9 +2,9 @@
 -- Assumes nothing.
 use mathlib.Core.Bool.{false}
 use Rattle.number.proofs.Tools.{arith}
-use Rattle.xpt.specs.Input.{Going}
-use Rattle.xpt.proofs.InputLaws.{fed-at, searched-over}
-use Rattle.xpt.proofs.Lengths.{tidy-none}
+use Rattle.xpt.specs.Turns.{Going}
+use Rattle.feed.proofs.InputLaws.{fed-at, searched-over}
+use Rattle.xpt.proofs.TidyLaws.{tidy-none}
 use Rattle.xpt.proofs.batch.run.Statement.{statement}
 use Rattle.xpt.proofs.batch.run.Tie as tie
 

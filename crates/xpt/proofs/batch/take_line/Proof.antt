@@ -2,7 +2,7 @@
 -- Assumes nothing.
 use mathlib.Core.Bool.{false}
 use Rattle.number.proofs.Tools.{_+_, arith, needs}
-use Rattle.xpt.proofs.InputLaws.{fed-at, one-line}
+use Rattle.feed.proofs.InputLaws.{fed-at, one-line}
 use Rattle.xpt.proofs.batch.take_line.Statement.{statement}
 use Rattle.xpt.proofs.batch.take_line.Tie as tie
 

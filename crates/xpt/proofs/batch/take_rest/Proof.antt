@@ -1,7 +1,7 @@
 -- `xpt::batch::take_rest` meets its contract: what is left has no newline.
 -- Assumes nothing.
 use Rattle.number.proofs.Tools.{arith, needs}
-use Rattle.xpt.proofs.InputLaws.{one-line}
+use Rattle.feed.proofs.InputLaws.{one-line}
 use Rattle.xpt.proofs.batch.take_rest.Statement.{statement}
 use Rattle.xpt.proofs.batch.take_rest.Tie as tie
 
