@@ -1,7 +1,8 @@
-// The listing on standard output, buffer by buffer.
+// What standard output gets: the line that was made for an answer, or the listing, buffer by buffer.
 use lines::Cursor;
 use reader::Layout;
 use reading::Verdict;
+use sayings::Said;
 ghost use mathlib.Core.Path.{_≡_};
 ghost use mathlib.Core.List.{List};
 ghost use Prim.Native.Nat.{ℕ, _≤_};
@@ -10,6 +11,15 @@ ghost use Rattle.reader.specs.Reader.{decode};
 ghost use Rattle.printed.specs.Listing.{listingOf};
 ghost use Rattle.lines.specs.Cursor.{Printing};
 ghost use Rattle.listed.specs.Text.{shown};
+
+// The line that was made, on standard output.
+pub fn say(said: Said, line: &[u8; 128]) -> bool
+    requires { ⌜ said .length ≤ 128 ⌝ }
+{
+    let n = said.length;
+    let all: &[u8] = line;
+    io::write_all(1, &all[..n])
+}
 
 // The first line of a refused file, and the reason.
 fn say_refused(file: &[u8], name: &[u8], line: &[u8]) -> bool {

@@ -14,15 +14,6 @@ pub struct Output {
     pub is_saved: bool,
 }
 
-// The line that was made, on standard output.
-pub fn say(said: Said, line: &[u8; 128]) -> bool
-    requires { ⌜ said .length ≤ 128 ⌝ }
-{
-    let n = said.length;
-    let all: &[u8] = line;
-    io::write_all(1, &all[..n])
-}
-
 // The bytes to the file at `to`, then the line that was made for it.
 fn put(bytes: &[u8], to: &[u8], said: Said, line: &[u8; 128]) -> Output
     requires { ⌜ said .length ≤ 128 ⌝ }
@@ -35,7 +26,7 @@ fn put(bytes: &[u8], to: &[u8], said: Said, line: &[u8; 128]) -> Output
     }
     match saving::save(to, bytes) {
         Saved::Done => Output {
-            is_open: say(said, line),
+            is_open: listed::say(said, line),
             is_saved: true,
         },
         Saved::Failed(error) => Output {
@@ -56,7 +47,7 @@ pub fn normal(file: &[u8], name: &[u8], to: &[u8], out: &mut [u8; 1048576]) -> O
             put(&all[..n], to, said, &line)
         }
         Normalised::Refused(why) => {
-            let is_open = say(said, &line);
+            let is_open = listed::say(said, &line);
             reasons::say(name, why);
             Output {
                 is_open,
@@ -89,7 +80,7 @@ fn put_linked(done: Linked, first: &[u8], second: &[u8], to: &[u8], out: &[u8; 1
             put(&all[..n], to, said, &line)
         }
         Linked::Refused(refusal) => {
-            let is_open = say(said, &line);
+            let is_open = listed::say(said, &line);
             say_link_reason(first, second, refusal);
             Output {
                 is_open,

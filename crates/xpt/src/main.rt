@@ -1,6 +1,4 @@
 // The workbench's commands on files, one at a time or in a batch: what it is fed (crate `feed`) goes to the runs of commands (`runs`).
-mod batch;
-
 use feed::arguments::Gathered;
 
 // The words of one command, parted by zero bytes; or what stands for none.
