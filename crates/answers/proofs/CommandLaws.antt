@@ -18,10 +18,10 @@ use Rattle.reader.specs.Values.{Typelib}
 use Rattle.lookup.specs.declared.Kind.{Kind}
 use Rattle.lookup.specs.declared.Kind.the-variants.{Getter, Setter, Plain}
 use Rattle.lookup.specs.Question.{badIid, iidAnswer, askIid}
-use Rattle.lines.specs.Listing.{hyphen}
-use Rattle.answers.specs.declared.Said.{Said}
-use Rattle.answers.specs.Texts.{theIndex, theSlot, notDecimalMistake, tooLargeMistake, kindMistake}
-use Rattle.answers.specs.Sayings.{Saying, Says, mistaken}
+use Rattle.printed.specs.Listing.{hyphen}
+use Rattle.sayings.specs.declared.Said.{Said}
+use Rattle.sayings.specs.Texts.{theIndex, theSlot, notDecimalMistake, tooLargeMistake, kindMistake}
+use Rattle.sayings.specs.Sayings.{Saying, Says, mistaken}
 use Rattle.answers.specs.Commands.{getter, setter, plain, withIndex, withSlot, withKind, spaceOf}
 
 module _ {before after : List ℕ} {r : Said} (n : Number) (ask : ℕ → Saying) where

@@ -1,4 +1,1 @@
-pub mod SayingLaws
-pub mod Sign
 pub mod CommandLaws
-mod Examples

@@ -14,9 +14,9 @@ use Rattle.reader.specs.Reader.{decode, checkOf}
 use Rattle.lookup.specs.declared.Kind.{Kind}
 use Rattle.lookup.specs.declared.Kind.the-variants.{Getter, Setter, Plain}
 use Rattle.lookup.specs.Question.{askIid, askKey, askMethod, askSlot, askConstant}
-use Rattle.lines.specs.Listing.{hyphen}
-use Rattle.answers.specs.Texts.{theIndex, theSlot, iidMistake, notDecimalMistake, tooLargeMistake, kindMistake}
-use Rattle.answers.specs.Sayings.{Saying, mistaken, sayVerdict, sayInterface, sayMethod, sayConstant}
+use Rattle.printed.specs.Listing.{hyphen}
+use Rattle.sayings.specs.Texts.{theIndex, theSlot, iidMistake, notDecimalMistake, tooLargeMistake, kindMistake}
+use Rattle.sayings.specs.Sayings.{Saying, mistaken, sayVerdict, sayInterface, sayMethod, sayConstant}
 
 -- ---- words: each is what the command asks with, or a mistake
 

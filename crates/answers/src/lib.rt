@@ -1,39 +1,22 @@
-// The one line that the command-line program prints for each command, its newline included, at the front of a buffer.
-ghost use Rattle.answers.specs.Sayings.{Says, sayMethod, sayNormalised, sayLinked};
+// The line that answers each command about a file, at the front of a buffer.
+ghost use Rattle.sayings.specs.Sayings.{Says, sayMethod};
 ghost use Rattle.answers.specs.Commands.{checkSaying, iidSaying, keySaying, methodSaying, slotSaying, constantSaying, withSlot, withKind};
 ghost use Rattle.reader.specs.Reader.{decode};
 ghost use Rattle.lookup.specs.Question.{askMethod, askSlot};
 ghost use Rattle.words.specs.Numbers.{numberOf};
-use link::Linked;
-use link::Normalised;
 use lookup::Kind;
-use reading::Refusal;
 use reading::Verdict;
+use sayings::Said;
 use words::Hex;
 use words::Number;
-
-mod put;
-
-// Whether a command was answered, was refused, or had a mistake in its words.
-pub enum Why {
-    Answered,
-    Refused(Refusal),
-    Mistaken,
-}
-
-// What was made at the front of the line's buffer: its length, newline included, and why.
-pub struct Said {
-    pub length: usize,
-    pub why: Why,
-}
 
 // The check of a file.
 pub fn check(file: &[u8], line: &mut [u8; 128]) -> Said
     ensures { λ r. ⌜ Says (checkSaying (now (file .entry))) (now (line .entry)) r (now (line .exit)) ⌝ }
 {
     match reader::check(file) {
-        Verdict::Accepted(n) => put::numbered(b"accepted ", n as u64, line),
-        Verdict::Refused(why) => put::refused(why, line),
+        Verdict::Accepted(n) => sayings::numbered(b"accepted ", n as u64, line),
+        Verdict::Refused(why) => sayings::refused(why, line),
     }
 }
 
@@ -43,9 +26,12 @@ pub fn iid(file: &[u8], hex: &[u8], line: &mut [u8; 128]) -> Said
 {
     let mut bytes = [0u8; 16];
     match words::iid_bytes(hex, &mut bytes) {
-        Hex::Whole => put::interface(lookup::interface_by_iid(file, &bytes), line),
-        Hex::OtherLength => put::interface(lookup::interface_by_iid(file, &hex[0..0]), line),
-        Hex::NotHex => put::mistake(b"error the IID is not hexadecimal digits in pairs\n", line),
+        Hex::Whole => sayings::interface(lookup::interface_by_iid(file, &bytes), line),
+        Hex::OtherLength => sayings::interface(lookup::interface_by_iid(file, &hex[0..0]), line),
+        Hex::NotHex => sayings::mistake(
+            b"error the IID is not hexadecimal digits in pairs\n",
+            line,
+        ),
     }
 }
 
@@ -54,9 +40,9 @@ pub fn key(file: &[u8], space: &[u8], name: &[u8], line: &mut [u8; 128]) -> Said
     ensures { λ r. ⌜ Says (keySaying (now (file .entry)) (now (space .entry)) (now (name .entry))) (now (line .entry)) r (now (line .exit)) ⌝ }
 {
     if words::is_same(space, b"-") {
-        return put::interface(lookup::interface_by_key(file, &space[0..0], name), line);
+        return sayings::interface(lookup::interface_by_key(file, &space[0..0], name), line);
     }
-    put::interface(lookup::interface_by_key(file, space, name), line)
+    sayings::interface(lookup::interface_by_key(file, space, name), line)
 }
 
 // Method by index, name and kind, where the index is read.
@@ -64,21 +50,21 @@ fn of_kind(file: &[u8], index: u64, name: &[u8], kind: &[u8], line: &mut [u8; 12
     ensures { λ r. ⌜ Says (withKind (now (kind .entry)) (λ k. sayMethod (askMethod (decode (now (file .entry))) index (now (name .entry)) k))) (now (line .entry)) r (now (line .exit)) ⌝ }
 {
     if words::is_same(kind, b"getter") {
-        return put::method(
+        return sayings::method(
             lookup::method_by_name(file, index, name, Kind::Getter),
             line,
         );
     }
     if words::is_same(kind, b"setter") {
-        return put::method(
+        return sayings::method(
             lookup::method_by_name(file, index, name, Kind::Setter),
             line,
         );
     }
     if words::is_same(kind, b"plain") {
-        return put::method(lookup::method_by_name(file, index, name, Kind::Plain), line);
+        return sayings::method(lookup::method_by_name(file, index, name, Kind::Plain), line);
     }
-    put::mistake(b"error the kind is not getter, setter or plain\n", line)
+    sayings::mistake(b"error the kind is not getter, setter or plain\n", line)
 }
 
 // Method by index, name and kind: `getter`, `setter` or `plain`.
@@ -87,8 +73,8 @@ pub fn method(file: &[u8], index: &[u8], name: &[u8], kind: &[u8], line: &mut [u
 {
     match words::number_of(index) {
         Number::Is(i) => of_kind(file, i, name, kind, line),
-        Number::NotDecimal => put::index_not_decimal(line),
-        Number::TooLarge => put::index_too_large(line),
+        Number::NotDecimal => sayings::index_not_decimal(line),
+        Number::TooLarge => sayings::index_too_large(line),
     }
 }
 
@@ -97,9 +83,9 @@ fn in_slot(file: &[u8], index: u64, slot: &[u8], line: &mut [u8; 128]) -> Said
     ensures { λ r. ⌜ Says (withSlot (numberOf (now (slot .entry))) (λ k. sayMethod (askSlot (decode (now (file .entry))) index k))) (now (line .entry)) r (now (line .exit)) ⌝ }
 {
     match words::number_of(slot) {
-        Number::Is(k) => put::method(lookup::method_by_slot(file, index, k), line),
-        Number::NotDecimal => put::mistake(b"error the slot is not decimal\n", line),
-        Number::TooLarge => put::mistake(b"error the slot does not fit 64 bits\n", line),
+        Number::Is(k) => sayings::method(lookup::method_by_slot(file, index, k), line),
+        Number::NotDecimal => sayings::mistake(b"error the slot is not decimal\n", line),
+        Number::TooLarge => sayings::mistake(b"error the slot does not fit 64 bits\n", line),
     }
 }
 
@@ -109,8 +95,8 @@ pub fn slot(file: &[u8], index: &[u8], slot: &[u8], line: &mut [u8; 128]) -> Sai
 {
     match words::number_of(index) {
         Number::Is(i) => in_slot(file, i, slot, line),
-        Number::NotDecimal => put::index_not_decimal(line),
-        Number::TooLarge => put::index_too_large(line),
+        Number::NotDecimal => sayings::index_not_decimal(line),
+        Number::TooLarge => sayings::index_too_large(line),
     }
 }
 
@@ -119,28 +105,8 @@ pub fn constant(file: &[u8], index: &[u8], name: &[u8], line: &mut [u8; 128]) ->
     ensures { λ r. ⌜ Says (constantSaying (now (file .entry)) (now (index .entry)) (now (name .entry))) (now (line .entry)) r (now (line .exit)) ⌝ }
 {
     match words::number_of(index) {
-        Number::Is(i) => put::constant(lookup::constant_by_name(file, i, name), line),
-        Number::NotDecimal => put::index_not_decimal(line),
-        Number::TooLarge => put::index_too_large(line),
-    }
-}
-
-// What normalising a file answered.
-pub fn normalised(n: Normalised, line: &mut [u8; 128]) -> Said
-    ensures { λ r. ⌜ Says (sayNormalised n) (now (line .entry)) r (now (line .exit)) ⌝ }
-{
-    match n {
-        Normalised::Written(length) => put::numbered(b"written ", length as u64, line),
-        Normalised::Refused(why) => put::refused(why, line),
-    }
-}
-
-// What linking two files answered.
-pub fn linked(l: Linked, line: &mut [u8; 128]) -> Said
-    ensures { λ r. ⌜ Says (sayLinked l) (now (line .entry)) r (now (line .exit)) ⌝ }
-{
-    match l {
-        Linked::Written(length) => put::numbered(b"written ", length as u64, line),
-        Linked::Refused(x) => put::link_refused(x, line),
+        Number::Is(i) => sayings::constant(lookup::constant_by_name(file, i, name), line),
+        Number::NotDecimal => sayings::index_not_decimal(line),
+        Number::TooLarge => sayings::index_too_large(line),
     }
 }

@@ -2,13 +2,11 @@
 ghost use mathlib.Core.Path.{_≡_};
 ghost use Rattle.reader.specs.Reader.{decode, checkOf};
 ghost use Rattle.lookup.specs.Question.{askIid, askKey, askSlot, askConstant};
-ghost use Rattle.cabi.specs.Answer.{answered};
-ghost use Rattle.cabi.specs.Numbers.{written, interfaceNumbers, methodNumbers, methodWritten, constantNumbers};
+ghost use Rattle.numbers.specs.Answer.{answered};
+ghost use Rattle.numbers.specs.Numbers.{written, interfaceNumbers, methodNumbers, methodWritten, constantNumbers};
 use lookup::Kind;
-use reading::Verdict;
 
 mod links;
-mod put;
 
 // Into the first two places of `answer` the refusal's number and its place, or 0 and the number of interfaces
 // for an accepted file; nothing where there is less room.
@@ -16,21 +14,7 @@ mod put;
 pub extern "C" fn saniotka_check(file: &[u8], answer: &mut [u64])
     ensures { λ _. ⌜ now (answer .exit) ≡ answered (checkOf (now (file .entry))) (now (answer .entry)) ⌝ }
 {
-    if answer.len() < 2 {
-        return;
-    }
-    match reader::check(file) {
-        Verdict::Accepted(n) => {
-            answer[0] = 0;
-            answer[1] = n as u64;
-        }
-        Verdict::Refused(why) => {
-            let no = why.no as u64;
-            let place = why.place as u64;
-            answer[0] = no;
-            answer[1] = place;
-        }
-    }
+    numbers::put_verdict(reader::check(file), answer);
 }
 
 // The answers below stand in the first places of `answer`, which has room for five; nothing is written where there is less.
@@ -41,7 +25,7 @@ pub extern "C" fn saniotka_check(file: &[u8], answer: &mut [u64])
 pub extern "C" fn saniotka_iid(file: &[u8], iid: &[u8], answer: &mut [u64])
     ensures { λ _. ⌜ now (answer .exit) ≡ written (interfaceNumbers (askIid (decode (now (file .entry))) (now (iid .entry)))) (now (answer .entry)) ⌝ }
 {
-    crate::put::put_interface(lookup::interface_by_iid(file, iid), answer);
+    numbers::put_interface(lookup::interface_by_iid(file, iid), answer);
 }
 
 // Interface by key; an empty namespace asks for the default. Found: its index.
@@ -49,7 +33,7 @@ pub extern "C" fn saniotka_iid(file: &[u8], iid: &[u8], answer: &mut [u64])
 pub extern "C" fn saniotka_key(file: &[u8], space: &[u8], name: &[u8], answer: &mut [u64])
     ensures { λ _. ⌜ now (answer .exit) ≡ written (interfaceNumbers (askKey (decode (now (file .entry))) (now (space .entry)) (now (name .entry)))) (now (answer .entry)) ⌝ }
 {
-    crate::put::put_interface(lookup::interface_by_key(file, space, name), answer);
+    numbers::put_interface(lookup::interface_by_key(file, space, name), answer);
 }
 
 // Method by index, name and kind: 0 getter, 1 setter, 2 plain; nothing is written for another kind.
@@ -65,15 +49,15 @@ pub extern "C" fn saniotka_method(
     ensures { λ _. ⌜ now (answer .exit) ≡ methodWritten (decode (now (file .entry))) index (now (name .entry)) kind (now (answer .entry)) ⌝ }
 {
     match kind {
-        0 => crate::put::put_method(
+        0 => numbers::put_method(
             lookup::method_by_name(file, index, name, Kind::Getter),
             answer,
         ),
-        1 => crate::put::put_method(
+        1 => numbers::put_method(
             lookup::method_by_name(file, index, name, Kind::Setter),
             answer,
         ),
-        2 => crate::put::put_method(
+        2 => numbers::put_method(
             lookup::method_by_name(file, index, name, Kind::Plain),
             answer,
         ),
@@ -86,7 +70,7 @@ pub extern "C" fn saniotka_method(
 pub extern "C" fn saniotka_slot(file: &[u8], index: u64, slot: u64, answer: &mut [u64])
     ensures { λ _. ⌜ now (answer .exit) ≡ written (methodNumbers (askSlot (decode (now (file .entry))) index slot)) (now (answer .entry)) ⌝ }
 {
-    crate::put::put_method(lookup::method_by_slot(file, index, slot), answer);
+    numbers::put_method(lookup::method_by_slot(file, index, slot), answer);
 }
 
 // Constant by index and name. Found: its type byte and the bits of its value, as stored.
@@ -94,5 +78,5 @@ pub extern "C" fn saniotka_slot(file: &[u8], index: u64, slot: u64, answer: &mut
 pub extern "C" fn saniotka_constant(file: &[u8], index: u64, name: &[u8], answer: &mut [u64])
     ensures { λ _. ⌜ now (answer .exit) ≡ written (constantNumbers (askConstant (decode (now (file .entry))) index (now (name .entry)))) (now (answer .entry)) ⌝ }
 {
-    crate::put::put_constant(lookup::constant_by_name(file, index, name), answer);
+    numbers::put_constant(lookup::constant_by_name(file, index, name), answer);
 }

@@ -1,48 +1,13 @@
--- Closed examples, computed.
+-- A closed example, computed.
 -- Assumes nothing.
 use mathlib.Core.Path.{_≡_, refl}
-use mathlib.Core.Bool.{true, false}
-use mathlib.Core.List.{List, [], _∷_, map}
+use mathlib.Core.List.{List, [], _∷_}
 use Prim.Native.Nat.{ℕ}
-use Rattle.number.specs.Choice.{if_then_else_, _<?_, _=?_}
-use Rattle.key.specs.Word.{compareWords, isSame, sameWord}
+use Rattle.number.specs.Choice.{if_then_else_, _=?_}
 use Rattle.words.specs.Words.{startWith, wordsOf, wordIn}
 use Rattle.answers.specs.Commands.{slotSaying}
-use Rattle.commands.specs.declared.Question.the-variants.{Check, Iid, Key, Method, Slot, Constant}
-use Rattle.commands.specs.declared.Verb.the-variants as verb
-use Rattle.commands.specs.Verbs.{check, list, iid, key, method, slot, const, normal, link, memberOf, questionOf, verbOf, wordsIn}
-use Rattle.commands.specs.Lines.{hasEmpty, askedSaying}
-
-each : map verbOf (check ∷ list ∷ iid ∷ key ∷ method ∷ slot ∷ const ∷ normal ∷ link ∷ []) ≡ verb.Ask Check ∷ verb.List ∷ verb.Ask Iid ∷ verb.Ask Key ∷ verb.Ask Method ∷ verb.Ask Slot ∷ verb.Ask Constant ∷ verb.Normal ∷ verb.Link ∷ []
-unfolding verbOf questionOf memberOf sameWord isSame compareWords if_then_else_ _<?_
-each = refl
-
--- `checks`, `chec`, and no bytes
-others : map verbOf ((99 ∷ 104 ∷ 101 ∷ 99 ∷ 107 ∷ 115 ∷ []) ∷ (99 ∷ 104 ∷ 101 ∷ 99 ∷ []) ∷ [] ∷ []) ≡ verb.Unknown ∷ verb.Unknown ∷ verb.Unknown ∷ []
-unfolding verbOf questionOf memberOf sameWord isSame compareWords if_then_else_ _<?_
-others = refl
-
--- `1 2`
-full : hasEmpty (wordsOf 32 (49 ∷ 32 ∷ 50 ∷ [])) ≡ false
-unfolding hasEmpty wordsOf startWith if_then_else_ _=?_
-full = refl
-
--- `1 `, ` 1`, `1  2`, and no bytes
-empty-last : hasEmpty (wordsOf 32 (49 ∷ 32 ∷ [])) ≡ true
-unfolding hasEmpty wordsOf startWith if_then_else_ _=?_
-empty-last = refl
-
-empty-first : hasEmpty (wordsOf 32 (32 ∷ 49 ∷ [])) ≡ true
-unfolding hasEmpty wordsOf startWith if_then_else_ _=?_
-empty-first = refl
-
-empty-between : hasEmpty (wordsOf 32 (49 ∷ 32 ∷ 32 ∷ 50 ∷ [])) ≡ true
-unfolding hasEmpty wordsOf startWith if_then_else_ _=?_
-empty-between = refl
-
-no-bytes : hasEmpty (wordsOf 32 []) ≡ true
-unfolding hasEmpty wordsOf
-no-bytes = refl
+use Rattle.verbs.specs.declared.Question.the-variants.{Slot}
+use Rattle.commands.specs.Lines.{askedSaying}
 
 -- `slot f 3 12`
 asked : (s : List ℕ) → askedSaying Slot s (wordsOf 32 (115 ∷ 108 ∷ 111 ∷ 116 ∷ 32 ∷ 102 ∷ 32 ∷ 51 ∷ 32 ∷ 49 ∷ 50 ∷ [])) ≡ slotSaying s (51 ∷ []) (49 ∷ 50 ∷ [])

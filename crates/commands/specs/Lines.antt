@@ -1,19 +1,12 @@
 -- A command's line, by its words.
 -- Assumes nothing.
-use mathlib.Core.Bool.{Bool, true, false}
-use mathlib.Core.List.{List, [], _∷_}
+use mathlib.Core.List.{List}
 use Prim.Native.Nat.{ℕ}
 use Rattle.words.specs.Words.{wordIn}
-use Rattle.answers.specs.Sayings.{Saying}
+use Rattle.sayings.specs.Sayings.{Saying}
 use Rattle.answers.specs.Commands.{checkSaying, iidSaying, keySaying, methodSaying, slotSaying, constantSaying}
-use Rattle.commands.specs.declared.Question.{Question}
-use Rattle.commands.specs.declared.Question.the-variants.{Check, Iid, Key, Method, Slot, Constant}
-
--- one of the words has no bytes
-unfoldable pub hasEmpty : List (List ℕ) → Bool
-hasEmpty [] = false
-hasEmpty ([] ∷ ws) = true
-hasEmpty ((b ∷ w) ∷ ws) = hasEmpty ws
+use Rattle.verbs.specs.declared.Question.{Question}
+use Rattle.verbs.specs.declared.Question.the-variants.{Check, Iid, Key, Method, Slot, Constant}
 
 -- what is said of the file s, asked with the words of the line; the word at 0 is the command, the one at 1 the file's name
 unfoldable pub askedSaying : Question → List ℕ → List (List ℕ) → Saying

@@ -1,7 +1,3 @@
-pub mod WritingLaws
-pub mod WordLaws
-pub mod ValueLaws
-pub mod LineLaws
 pub mod OwnLaws
 pub mod SlotLaws
 pub mod PieceLaws
@@ -9,4 +5,3 @@ pub mod FillLaws
 pub mod BeginLaws
 pub mod PrintLaws
 pub mod BarLaws
-pub mod Examples

@@ -20,11 +20,11 @@ use Rattle.lookup.specs.Method.{slotOf}
 use Rattle.lookup.specs.Question.{slotAs}
 use Rattle.lines.specs.declared.Cursor.{Cursor}
 use Rattle.lines.specs.declared.Cursor.the-variants.{AtMethods, AtConstants}
-use Rattle.lines.specs.Listing.{entryLine, methodLine, constantLine, methodLines, constantLines, ownLines, entryLines}
-use Rattle.lines.specs.Writing.{Wrote, Small, NamedMethod, NamedConstant, WroteOf}
+use Rattle.printed.specs.Listing.{entryLine, methodLine, constantLine, methodLines, constantLines, ownLines, entryLines}
+use Rattle.printed.specs.Writing.{Wrote, Small, NamedMethod, NamedConstant, WroteOf}
 use Rattle.lookup.specs.Question.{slotNumber}
 use Rattle.lines.specs.Cursor.{EntriesLeft, ConstantsLeft, MethodsLeft, Left, PartWritten}
-use Rattle.lines.proofs.LineLaws.{laid-small}
+use Rattle.printed.proofs.LineLaws.{laid-small}
 use Rattle.lines.proofs.OwnLaws.{Resolved}
 
 -- ---- nothing written

@@ -21,8 +21,8 @@ use Rattle.lines.specs.declared.Cursor.the-variants.{Done, AtEntry, AtMe
 use Rattle.lines.specs.declared.Piece.{Piece}
 use Rattle.lines.specs.declared.Filled.{Filled}
 use Rattle.lines.specs.declared.Started.{Started}
-use Rattle.lines.specs.Listing.{methodLines, constantLines, entryLines}
-use Rattle.lines.specs.Writing.{Wrote, NamedMethod, NamedConstant}
+use Rattle.printed.specs.Listing.{methodLines, constantLines, entryLines}
+use Rattle.printed.specs.Writing.{Wrote, NamedMethod, NamedConstant}
 
 -- of n entries, the index `up` is that of the parent p, 0 being none
 abbrev pub ParentAt : ℕ → ℕ → Option ℕ → Type 0

@@ -1,5 +1,2 @@
-pub mod Listing
-pub mod Writing
 pub mod Cursor
-pub mod Marked
 pub mod Bars

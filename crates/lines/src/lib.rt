@@ -1,10 +1,7 @@
 // The listing of a typelib, made piece by piece into a lent buffer: it can be far longer than the file.
 pub mod bars;
 mod base;
-mod line;
 mod pieces;
-mod value;
-mod word;
 
 use lookup::Slot;
 use reader::Layout;
@@ -13,7 +10,7 @@ ghost use mathlib.Core.Path.{_≡_};
 ghost use Prim.Native.Nat.{_≤_};
 ghost use lib.ListN.{length, drop};
 ghost use Rattle.reader.specs.Reader.{decode};
-ghost use Rattle.lines.specs.Listing.{listingOf, printedOf};
+ghost use Rattle.printed.specs.Listing.{listingOf, printedOf};
 ghost use Rattle.lines.specs.Cursor.{Begun, isDone, Filling, onlyLine, Starting};
 
 // Where the methods of an entry, counted from 0, go on: how many are left, the place of the next in the pool, and its slot.

@@ -11,8 +11,8 @@ ghost use lib.ListN.{drop};
 ghost use Rattle.reader.specs.Values.{Entry, descriptorIn};
 ghost use Rattle.reader.specs.Layout.{LaidOut, Lies};
 ghost use Rattle.lines.specs.declared.Cursor.the-variants.{AtEntry, AtMethods, AtConstants};
-ghost use Rattle.lines.specs.Listing.{ownLines, entryLines};
-ghost use Rattle.lines.specs.Writing.{Room};
+ghost use Rattle.printed.specs.Listing.{ownLines, entryLines};
+ghost use Rattle.printed.specs.Writing.{Room};
 ghost use Rattle.lines.specs.Cursor.{Left, Begun, Moved, turns};
 
 // What follows the line of entry i.
@@ -46,7 +46,7 @@ fn entry_piece(file: &[u8], pool: &[u8], l: Layout, i: usize, out: &mut [u8], at
             cursor: Cursor::Done,
         };
     }
-    let next = crate::line::put_entry(file, pool, l, i, out, at);
+    let next = printed::line::put_entry(file, pool, l, i, out, at);
     Piece {
         at: next,
         cursor: below(file, pool, l, i),
@@ -80,7 +80,7 @@ fn method_piece(
             }),
         };
     }
-    let next = crate::line::put_method(pool, from, slot, out, at);
+    let next = printed::line::put_method(pool, from, slot, out, at);
     let end = reader::record::method_end(pool, from);
     let after = crate::base::next_slot(slot);
     Piece {
@@ -115,7 +115,7 @@ fn constant_piece(
             cursor: Cursor::AtEntry(entry + 1),
         };
     }
-    let next = crate::line::put_constant(pool, from, out, at);
+    let next = printed::line::put_constant(pool, from, out, at);
     let end = reader::record::constant_end(pool, from);
     Piece {
         at: next,

@@ -5,7 +5,7 @@ ghost use mathlib.Core.Path.{_≡_};
 ghost use mathlib.Core.List.{List};
 ghost use Prim.Native.Nat.{ℕ};
 ghost use lib.ListN.{length};
-ghost use Rattle.lines.specs.Listing.{printedOf};
+ghost use Rattle.printed.specs.Listing.{printedOf};
 ghost use Rattle.lines.specs.Cursor.{Printing};
 
 // Prints what is left at a cursor, a buffer at a time; it ends early where nothing can be written any more.

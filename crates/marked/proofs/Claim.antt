@@ -9,7 +9,7 @@ use Rattle.reading.specs.declared.Verdict.the-variants.{Accepted}
 use Rattle.reader.specs.Reader.{checkOf}
 use Rattle.reader.specs.Reader.Marked as reader
 use Rattle.lookup.proofs.Answers.{P14}
-use Rattle.lines.proofs.Examples.{prints3}
+use Rattle.printed.proofs.Examples.{prints3}
 use Rattle.link.proofs.Marked as links
 use Rattle.marked.specs.Marked.{checked, valued, listed, normalised, linked, resultOf, Case, at, table}
 

@@ -12,8 +12,8 @@ use Rattle.lookup.specs.declared.ConstantAnswer.{ConstantAnswer}
 use Rattle.lookup.specs.declared.ConstantAnswer.the-variants.{Found}
 use Rattle.lookup.specs.declared.Value.the-variants.{I16}
 use Rattle.lookup.specs.Question.{askConstant}
-use Rattle.lines.specs.Listing.{printedOf}
-use Rattle.lines.specs.Marked.{listed3}
+use Rattle.printed.specs.Listing.{printedOf}
+use Rattle.printed.specs.Marked.{listed3}
 use Rattle.link.specs.declared.LinkRefusal.{LinkRefusal}
 use Rattle.link.specs.declared.Which.the-variants.{Union}
 use Rattle.joining.specs.Outcome.{Outcome, refused, written}

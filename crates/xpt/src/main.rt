@@ -1,17 +1,5 @@
-// The workbench's commands on files, one at a time or in a batch. The answers are made by the crate `answers`; here are words,
-// files and standard output.
-mod arguments;
-mod batch;
-mod failures;
-mod files;
-mod help;
-mod listed;
-mod outputs;
-mod reasons;
-mod run;
-mod save;
-
-use arguments::Gathered;
+// The workbench's commands on files, one at a time or in a batch: what it is fed (crate `feed`) goes to the runs of commands (`runs`).
+use feed::arguments::Gathered;
 
 // The words of one command, parted by zero bytes; or what stands for none.
 fn start(
@@ -20,14 +8,14 @@ fn start(
     store: &mut [u8; 4210688],
     out: &mut [u8; 1048576],
 ) {
-    match arguments::gather(input) {
-        Gathered::Nothing => help::say_no_command(),
+    match feed::arguments::gather(input) {
+        Gathered::Nothing => failures::help::say_no_command(),
         Gathered::TooLong => failures::say_arguments_too_long(),
-        Gathered::Help => help::say_help(),
+        Gathered::Help => failures::help::say_help(),
         Gathered::Batch => batch::run(input, rows, store, out),
         Gathered::Words(n) => {
             let all: &[u8] = input;
-            run::single(&all[..n], rows, store, out);
+            runs::single(&all[..n], rows, store, out);
         }
     }
 }

@@ -2,8 +2,8 @@
 -- Assumes nothing.
 use Rattle.number.proofs.Tools.{sym, ap, _∙_, needs}
 use Rattle.answers.specs.Commands.{constantSaying}
-use Rattle.answers.specs.Sayings.{sayConstant}
-use Rattle.answers.proofs.SayingLaws.{says-as}
+use Rattle.sayings.specs.Sayings.{sayConstant}
+use Rattle.sayings.proofs.SayingLaws.{says-as}
 use Rattle.answers.proofs.CommandLaws.{index-is, index-not-decimal, index-too-large}
 use Rattle.answers.proofs.constant.Statement.{statement}
 use Rattle.answers.proofs.constant.Tie as tie

@@ -4,8 +4,8 @@ use Rattle.number.proofs.Tools.{sym, ap, _∙_, needs}
 use Rattle.reader.specs.Reader.{decode}
 use Rattle.lookup.specs.Question.{askIid}
 use Rattle.answers.specs.Commands.{withHex, iidSaying}
-use Rattle.answers.specs.Sayings.{sayInterface}
-use Rattle.answers.proofs.SayingLaws.{says-as}
+use Rattle.sayings.specs.Sayings.{sayInterface}
+use Rattle.sayings.proofs.SayingLaws.{says-as}
 use Rattle.answers.proofs.CommandLaws.{bytes-whole, bytes-sixteen, asked-other}
 use Rattle.answers.proofs.iid.Statement.{statement}
 use Rattle.answers.proofs.iid.Tie as tie

@@ -3,7 +3,7 @@
 use borrow.Author.Needs.{needs}
 use Rattle.lookup.specs.declared.ConstantAnswer.{ConstantAnswer}
 use Rattle.number.proofs.Tools.{ap, _∙_}
-use Rattle.cabi.specs.Numbers.{constantNumbers, written}
+use Rattle.numbers.specs.Numbers.{constantNumbers, written}
 use Rattle.cabi.proofs.saniotka_constant.Statement.{statement}
 use Rattle.cabi.proofs.saniotka_constant.Tie as tie
 

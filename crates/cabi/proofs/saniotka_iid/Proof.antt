@@ -3,7 +3,7 @@
 use borrow.Author.Needs.{needs}
 use Rattle.lookup.specs.declared.InterfaceAnswer.{InterfaceAnswer}
 use Rattle.number.proofs.Tools.{ap, _∙_}
-use Rattle.cabi.specs.Numbers.{interfaceNumbers, written}
+use Rattle.numbers.specs.Numbers.{interfaceNumbers, written}
 use Rattle.cabi.proofs.saniotka_iid.Statement.{statement}
 use Rattle.cabi.proofs.saniotka_iid.Tie as tie
 

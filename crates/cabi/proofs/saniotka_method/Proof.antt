@@ -3,7 +3,7 @@
 use borrow.Author.Needs.{needs}
 use Rattle.lookup.specs.declared.MethodAnswer.{MethodAnswer}
 use Rattle.number.proofs.Tools.{refl, ap, _∙_, arith, is-eq, no-eq}
-use Rattle.cabi.specs.Numbers.{methodNumbers, written, methodWritten}
+use Rattle.numbers.specs.Numbers.{methodNumbers, written, methodWritten}
 use Rattle.cabi.proofs.saniotka_method.Statement.{statement}
 use Rattle.cabi.proofs.saniotka_method.Tie as tie
 

@@ -3,7 +3,7 @@
 use borrow.Author.Needs.{needs}
 use Rattle.lookup.specs.declared.MethodAnswer.{MethodAnswer}
 use Rattle.number.proofs.Tools.{ap, _∙_}
-use Rattle.cabi.specs.Numbers.{methodNumbers, written}
+use Rattle.numbers.specs.Numbers.{methodNumbers, written}
 use Rattle.cabi.proofs.saniotka_slot.Statement.{statement}
 use Rattle.cabi.proofs.saniotka_slot.Tie as tie
 

@@ -1,8 +1,8 @@
 -- `lines::begin` meets its contract: too long, or listed.
 -- Assumes nothing.
 use Rattle.number.proofs.Tools.{sym, arith, needs}
-use Rattle.lines.specs.Listing.{tooLong}
-use Rattle.lines.proofs.WritingLaws.{wrote, wrote-as}
+use Rattle.printed.specs.Listing.{tooLong}
+use Rattle.printed.proofs.WritingLaws.{wrote, wrote-as}
 use Rattle.lines.proofs.BeginLaws.{printed-long, printed-listing, starts-only}
 use Rattle.lines.proofs.begin.Statement.{statement}
 use Rattle.lines.proofs.begin.Tie as tie

@@ -5,8 +5,8 @@ use Rattle.reading.specs.declared.Verdict.the-variants.{Accepted, Refused}
 use Rattle.text.specs.Line.{lineOf}
 use Rattle.reader.specs.Values.{entriesIn}
 use Rattle.reader.specs.Reader.Laws.{accepted-decodes}
-use Rattle.lines.specs.Listing.{entryLines}
-use Rattle.lines.proofs.WritingLaws.{wrote-as}
+use Rattle.printed.specs.Listing.{entryLines}
+use Rattle.printed.proofs.WritingLaws.{wrote-as}
 use Rattle.lines.proofs.BeginLaws.{listed-refused, listed-accepted, starts-only, entries-start, verdict-wrote}
 use Rattle.lines.proofs.start.Statement.{statement}
 use Rattle.lines.proofs.start.Tie as tie

@@ -3,7 +3,7 @@
 use mathlib.Core.List.{List}
 use lib.Seq.{length-take-le}
 use Rattle.number.proofs.Tools.{_≡_, ℕ, sym, _∙_, arith, length}
-use Rattle.lines.specs.Listing.{printedOf}
+use Rattle.printed.specs.Listing.{printedOf}
 use Rattle.lines.specs.Cursor.{turns, Printing}
 use Rattle.lines.proofs.FillLaws.{falls}
 use Rattle.lines.proofs.PrintLaws.{printing-next}

@@ -2,7 +2,7 @@
 -- Assumes nothing.
 use lib.Seq.{length-take-le}
 use Rattle.number.proofs.Tools.{sym, subst, arith, needs}
-use Rattle.xpt.specs.Bounds.{GatheredIn}
+use Rattle.feed.specs.Arguments.{GatheredIn}
 use Rattle.xpt.proofs.start.Statement.{statement}
 use Rattle.xpt.proofs.start.Tie as tie
 

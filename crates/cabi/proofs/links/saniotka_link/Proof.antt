@@ -3,8 +3,8 @@
 use borrow.Author.Needs.{needs}
 use Rattle.number.proofs.Tools.{ap, _∙_}
 use Rattle.link.specs.declared.Linked.{Linked}
-use Rattle.cabi.specs.Numbers.{written}
-use Rattle.cabi.specs.Links.{linkNumbers}
+use Rattle.numbers.specs.Numbers.{written}
+use Rattle.outcomes.specs.Numbers.{linkNumbers}
 use Rattle.cabi.proofs.links.saniotka_link.Statement.{statement}
 use Rattle.cabi.proofs.links.saniotka_link.Tie as tie
 

@@ -2,9 +2,9 @@
 -- Assumes nothing.
 use borrow.Author.Needs.{needs}
 use Rattle.number.proofs.Tools.{ap, _∙_}
-use Rattle.link.specs.declared.Normalised.{Normalised}
-use Rattle.cabi.specs.Numbers.{written}
-use Rattle.cabi.specs.Links.{normalNumbers}
+use Rattle.joining.specs.declared.Normalised.{Normalised}
+use Rattle.numbers.specs.Numbers.{written}
+use Rattle.outcomes.specs.Numbers.{normalNumbers}
 use Rattle.cabi.proofs.links.saniotka_normal.Statement.{statement}
 use Rattle.cabi.proofs.links.saniotka_normal.Tie as tie
 

@@ -3,7 +3,7 @@
 use Rattle.number.proofs.Tools.{ap, _-_, arith, length, drop, needs}
 use Rattle.reader.proofs.Shown.{descriptor-in}
 use Rattle.lines.specs.Cursor.{turns}
-use Rattle.lines.proofs.LineLaws.{laid-small}
+use Rattle.printed.proofs.LineLaws.{laid-small}
 use Rattle.lines.proofs.OwnLaws.{unresolved, own-of, own-stands, own-few, own-low, own-parent}
 use Rattle.lines.proofs.PieceLaws.{below-open, below-methods}
 use Rattle.lines.proofs.pieces.below.Statement.{statement}

@@ -4,7 +4,7 @@ use mathlib.Core.Logic.{inr}
 use Rattle.number.proofs.Tools.{_+_, arith, needs}
 use Rattle.lines.specs.declared.Cursor.the-variants.{AtEntry}
 use Rattle.lines.specs.Cursor.{turns}
-use Rattle.lines.proofs.LineLaws.{constant-shown}
+use Rattle.printed.proofs.LineLaws.{constant-shown}
 use Rattle.lines.proofs.PieceLaws.{part-none, pool-small, constants-done, constant-first, constants-next}
 use Rattle.lines.proofs.pieces.constant_piece.Statement.{statement}
 use Rattle.lines.proofs.pieces.constant_piece.Tie as tie

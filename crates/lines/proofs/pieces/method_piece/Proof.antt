@@ -4,7 +4,7 @@ use mathlib.Core.Logic.{inr}
 use Rattle.number.proofs.Tools.{_+_, arith, needs}
 use Rattle.lines.specs.declared.Cursor.the-variants.{AtConstants}
 use Rattle.lines.specs.Cursor.{turns}
-use Rattle.lines.proofs.LineLaws.{method-shown}
+use Rattle.printed.proofs.LineLaws.{method-shown}
 use Rattle.lines.proofs.PieceLaws.{part-none, pool-small, count-inside, methods-done, method-first, methods-next}
 use Rattle.lines.proofs.pieces.method_piece.Statement.{statement}
 use Rattle.lines.proofs.pieces.method_piece.Tie as tie

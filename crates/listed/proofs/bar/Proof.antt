@@ -1,0 +1,27 @@
+-- `listed::bar` meets its contract: in a batch, or not.
+-- Assumes nothing.
+use lib.Seq.{length-take-le}
+use Rattle.number.proofs.Tools.{sym, arith, needs, take}
+use Rattle.listed.proofs.BarLaws.{shown-bars, shown-plain}
+use Rattle.listed.proofs.bar.Statement.{statement}
+use Rattle.listed.proofs.bar.Tie as tie
+
+slice-aggregate-bar-newlines : tie.Need-slice-aggregate-bar-newlines
+slice-aggregate-bar-newlines c = sym (length-take-le (c .before .before .before .args .n) (c .before .before .before .args .buffer .now) (omega arith))
+
+returns : tie.Need-returns
+returns c = shown-bars _ (c .before .before .before .before .before .before .args .buffer .now) (c .before .before .bar-newlines .last .0) (c .before .before .before .before .before .before .args .n) (c .before .before .before .before .if1 .taken) (omega arith) (c .before .before .bar-newlines .ensures) (c .before .before .bar-newlines .kept .0)
+
+returns-2 : tie.Need-returns-2
+returns-2 c = shown-plain _ (take (c .before .before .args .n) (c .before .before .args .buffer .now)) (c .if1 .left)
+
+pub bar-spec : {M : Type 1} → statement M
+bar-spec =
+    tie.close
+    (tie.spec
+    (λ c. search needs)
+    slice-aggregate-bar-newlines
+    (λ c κs. search needs)
+    (λ c. search needs)
+    returns
+    returns-2)

@@ -1,0 +1,53 @@
+-- The lines that tell what normalising and linking answer.
+-- Assumes nothing.
+use mathlib.Core.List.{List, [], _∷_, _++_}
+use Prim.Native.Nat.{ℕ}
+use Rattle.decimal.specs.Digits.{digitsOf}
+use Rattle.text.specs.Line.{refused, space}
+use Rattle.link.specs.declared.Which.{Which}
+use Rattle.link.specs.declared.Which.the-variants.{First, Second, Union}
+use Rattle.joining.specs.declared.Normalised.{Normalised}
+use Rattle.joining.specs.declared.Normalised.the-variants as normalised
+use Rattle.link.specs.declared.Linked.{Linked}
+use Rattle.link.specs.declared.Linked.the-variants as linked
+use Rattle.sayings.specs.declared.Why.{Why}
+use Rattle.sayings.specs.declared.Why.the-variants.{Answered, Refused}
+use Rattle.sayings.specs.Texts.{numbered, placed, refusedLine}
+use Rattle.sayings.specs.Sayings.{Saying, saying}
+
+-- `written `, with its space
+abbrev pub written : List ℕ
+written = 119 ∷ 114 ∷ 105 ∷ 116 ∷ 116 ∷ 101 ∷ 110 ∷ 32 ∷ []
+
+-- `written LEN` or `refused NO PLACE`
+unfoldable pub normalisedText : Normalised → List ℕ
+normalisedText (normalised.Written n) = numbered written n
+normalisedText (normalised.Refused why) = refusedLine why
+
+-- 1 or 2 for a file's own refusal, 0 for the link's
+unfoldable pub whichNumber : Which → ℕ
+whichNumber First = 1
+whichNumber Second = 2
+whichNumber Union = 0
+
+-- `written LEN` or `refused WHICH NO PLACE`
+unfoldable pub linkedText : Linked → List ℕ
+linkedText (linked.Written n) = numbered written n
+linkedText (linked.Refused x) = (refused ++ digitsOf (whichNumber (x .which))) ++ placed space (x .why)
+
+-- ---- each is a refusal, or else an answer
+
+unfoldable pub normalisedWhy : Normalised → Why
+normalisedWhy (normalised.Written n) = Answered
+normalisedWhy (normalised.Refused x) = Refused x
+
+unfoldable pub linkedWhy : Linked → Why
+linkedWhy (linked.Written n) = Answered
+linkedWhy (linked.Refused x) = Refused (x .why)
+
+-- the commands normal and link
+unfoldable pub sayNormalised : Normalised → Saying
+sayNormalised a = saying (normalisedText a) (normalisedWhy a)
+
+unfoldable pub sayLinked : Linked → Saying
+sayLinked a = saying (linkedText a) (linkedWhy a)

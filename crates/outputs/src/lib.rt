@@ -1,0 +1,104 @@
+// Normal forms and links, written to files.
+use joining::Normalised;
+use link::LinkRefusal;
+use link::Linked;
+use link::Which;
+use saving::Saved;
+use sayings::Said;
+ghost use Prim.Native.Nat.{_≤_};
+ghost use Rattle.outputs.specs.Bounds.{WrittenIn};
+
+// Whether standard output still takes lines, and whether a file was written.
+pub struct Output {
+    pub is_open: bool,
+    pub is_saved: bool,
+}
+
+// The bytes to the file at `to`, then the line that was made for it.
+fn put(bytes: &[u8], to: &[u8], said: Said, line: &[u8; 128]) -> Output
+    requires { ⌜ said .length ≤ 128 ⌝ }
+{
+    if saving::is_device(to) {
+        return Output {
+            is_open: failures::say_no_device(to),
+            is_saved: false,
+        };
+    }
+    match saving::save(to, bytes) {
+        Saved::Done => Output {
+            is_open: listed::say(said, line),
+            is_saved: true,
+        },
+        Saved::Failed(error) => Output {
+            is_open: failures::say_unwritten(to, error),
+            is_saved: false,
+        },
+    }
+}
+
+// The normal form of the file of this name.
+pub fn normal(file: &[u8], name: &[u8], to: &[u8], out: &mut [u8; 1048576]) -> Output {
+    let mut line = [0u8; 128];
+    let done = link::normalise(file, out);
+    let said = outcomes::normalised(done, &mut line);
+    match done {
+        Normalised::Written(n) => {
+            let all: &[u8] = out;
+            put(&all[..n], to, said, &line)
+        }
+        Normalised::Refused(why) => {
+            let is_open = listed::say(said, &line);
+            reasons::say(name, why);
+            Output {
+                is_open,
+                is_saved: false,
+            }
+        }
+    }
+}
+
+// The reason, with the name of the file that was refused, or of both.
+fn say_link_reason(first: &[u8], second: &[u8], refusal: LinkRefusal) {
+    let why = refusal.why;
+    let which = refusal.which;
+    match which {
+        Which::First => reasons::say(first, why),
+        Which::Second => reasons::say(second, why),
+        Which::Union => reasons::say_of_union(first, second, why),
+    }
+}
+
+// The outcome of a link of the files of these names.
+fn put_linked(done: Linked, first: &[u8], second: &[u8], to: &[u8], out: &[u8; 1048576]) -> Output
+    requires { ⌜ WrittenIn 1048576 done ⌝ }
+{
+    let mut line = [0u8; 128];
+    let said = outcomes::linked(done, &mut line);
+    match done {
+        Linked::Written(n) => {
+            let all: &[u8] = out;
+            put(&all[..n], to, said, &line)
+        }
+        Linked::Refused(refusal) => {
+            let is_open = listed::say(said, &line);
+            say_link_reason(first, second, refusal);
+            Output {
+                is_open,
+                is_saved: false,
+            }
+        }
+    }
+}
+
+// The normal form of the union of the files of these names.
+pub fn link(
+    first_file: &[u8],
+    first: &[u8],
+    second_file: &[u8],
+    second: &[u8],
+    to: &[u8],
+    out: &mut [u8; 1048576],
+) -> Output {
+    let done = link::link(first_file, second_file, out);
+    put_linked(done, first, second, to, out)
+}

@@ -1,0 +1,5 @@
+pub mod WritingLaws
+pub mod WordLaws
+pub mod ValueLaws
+pub mod LineLaws
+pub mod Examples

@@ -1,0 +1,4 @@
+// The lines of the listing, each written whole from a place of a lent buffer on, and what stands in them.
+pub mod line;
+pub mod value;
+mod word;

@@ -1,0 +1,56 @@
+// The command of a line. Its words are parted by a separator, which is a space in a batch and a zero byte between arguments.
+use kept::Kept;
+use reads::Ran;
+use reads::Told;
+use verbs::Verb;
+ghost use Rattle.kept.specs.Table.{Tidy};
+
+// The command of a line.
+pub fn run(
+    line: &[u8],
+    separator: u8,
+    kept: Kept,
+    rows: &mut [usize; 256],
+    store: &mut [u8; 4210688],
+    out: &mut [u8; 1048576],
+) -> Ran
+    requires { ⌜ Tidy (now rows) kept ⌝ }
+    ensures { λ r. ⌜ Tidy (now (rows .exit)) (r .kept) ⌝ }
+{
+    let first = words::word(line, separator, 0);
+    let from = first.from;
+    let end = first.end;
+    let verb = verbs::verb_of(&line[from..end]);
+    if words::word_count(line, separator) != verbs::words_of(verb) {
+        return Ran {
+            kept,
+            told: reads::mistaken(failures::say_usage(verb)),
+        };
+    }
+    match verb {
+        Verb::Ask(_) => reads::read_file(verb, line, separator, kept, rows, store),
+        Verb::List => reads::read_file(verb, line, separator, kept, rows, store),
+        Verb::Normal => writes::write_normal(line, separator, kept, rows, store, out),
+        Verb::Link => writes::write_link(line, separator, kept, rows, store, out),
+        Verb::Unknown => Ran {
+            kept,
+            told: reads::mistaken(failures::say_usage(verb)),
+        },
+    }
+}
+
+// The command of the program's arguments.
+pub fn single(
+    line: &[u8],
+    rows: &mut [usize; 256],
+    store: &mut [u8; 4210688],
+    out: &mut [u8; 1048576],
+) {
+    let ran = run(line, 0, Kept { rows: 0, used: 0 }, rows, store, out);
+    let told = ran.told;
+    match told {
+        Told::Answer => {}
+        Told::Mistake => failures::help::say_hint(),
+        Told::Closed => failures::say_output_gone(),
+    }
+}

@@ -1,0 +1,3 @@
+pub mod SayingLaws
+pub mod SignLaws
+mod Examples

@@ -1,0 +1,49 @@
+-- `sayings::found` meets its contract. Three numbers of 64 bits have at most 60 digits, so the line fits.
+-- Assumes nothing.
+use mathlib.Core.List.{_++_}
+use Rattle.number.proofs.Tools.{refl, arith, needs}
+use Rattle.decimal.specs.Digits.{digitsOf}
+use Rattle.decimal.proofs.Laws.{length-u64}
+use Rattle.text.specs.Line.{space, newline}
+use Rattle.printed.proofs.WritingLaws.{wrote, wrote-label, wrote-then}
+use Rattle.sayings.specs.Texts.{found, slotPart, foundText}
+use Rattle.sayings.proofs.SayingLaws.{says}
+use Rattle.sayings.proofs.found.Statement.{statement}
+use Rattle.sayings.proofs.found.Tie as tie
+
+put-labelled-requires : tie.Need-put-labelled-requires
+put-labelled-requires c κs = omega (arith, length-u64 (c .before .before .args .m .owner) (omega arith))
+
+put-labelled-requires-2 : tie.Need-put-labelled-requires-2
+put-labelled-requires-2 c κs = omega (arith, c .before .before .put-labelled .kept .0, length-u64 (c .before .before .before .before .before .args .m .owner) (omega arith), length-u64 (c .before .before .before .before .before .args .m .position) (omega arith))
+
+put-slot-requires : tie.Need-put-slot-requires
+put-slot-requires c κs = omega (arith, length-u64 (c .before .before .before .before .before .before .before .args .m .owner) (omega arith), length-u64 (c .before .before .before .before .before .before .before .args .m .position) (omega arith))
+
+put-bytes-requires : tie.Need-put-bytes-requires
+put-bytes-requires c κs = omega (arith, length-u64 (c .before .before .before .before .before .before .before .before .before .before .args .m .owner) (omega arith), length-u64 (c .before .before .before .before .before .before .before .before .before .before .args .m .position) (omega arith))
+
+returns : tie.Need-returns
+unfolding foundText
+returns c =
+    let m = c .before .before .before .before .before .before .before .before .before .before .before .args .m in
+    let l = c .before .before .before .before .before .before .before .before .before .before .before .args .line .now in
+    let owner = found ++ digitsOf (m .owner) in
+    let position = space ++ digitsOf (m .position) in
+    let one = wrote-label l found (digitsOf (m .owner)) 0 (c .before .before .before .before .before .before .before .before .put-labelled .ensures) in
+    let two = wrote-then l owner position 0 one (wrote-label _ space (digitsOf (m .position)) _ (c .before .before .before .before .before .put-labelled2 .ensures)) in
+    let three = wrote-then l (owner ++ position) (slotPart (m .slot)) 0 two (c .before .before .before .put-slot .ensures .0) in
+    says _ _ (wrote-then l ((owner ++ position) ++ slotPart (m .slot)) newline 0 three (wrote _ newline _ (c .put-bytes .ensures))) refl (omega (arith, length-u64 (m .owner) (omega arith), length-u64 (m .position) (omega arith)))
+
+pub found-spec : {M : Type 1} → statement M
+found-spec =
+    tie.close
+    (tie.spec
+    (λ c. search needs)
+    put-labelled-requires
+    (λ c. search needs)
+    put-labelled-requires-2
+    put-slot-requires
+    (λ c. search needs)
+    put-bytes-requires
+    returns)

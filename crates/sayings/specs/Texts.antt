@@ -1,0 +1,130 @@
+-- The lines that the commands print, as ASCII codes, each with its newline.
+-- Assumes nothing.
+use mathlib.Core.List.{List, [], _∷_, _++_}
+use Prim.Native.Nat.{ℕ}
+use Rattle.decimal.specs.Digits.{digitsOf}
+use Rattle.reading.specs.declared.Refusal.{Refusal}
+use Rattle.reading.specs.declared.Verdict.the-variants.{Refused}
+use Rattle.text.specs.Line.{lineOf, space, newline}
+use Rattle.lookup.specs.declared.Slot.{Slot}
+use Rattle.lookup.specs.declared.Slot.the-variants as slot
+use Rattle.lookup.specs.declared.FoundMethod.{FoundMethod}
+use Rattle.lookup.specs.declared.Value.{Value}
+use Rattle.lookup.specs.declared.Value.the-variants.{I16, I32, U16, U32}
+use Rattle.lookup.specs.declared.InterfaceAnswer.{InterfaceAnswer}
+use Rattle.lookup.specs.declared.InterfaceAnswer.the-variants as interface
+use Rattle.lookup.specs.declared.MethodAnswer.{MethodAnswer}
+use Rattle.lookup.specs.declared.MethodAnswer.the-variants as method
+use Rattle.lookup.specs.declared.ConstantAnswer.{ConstantAnswer}
+use Rattle.lookup.specs.declared.ConstantAnswer.the-variants as constant
+use Rattle.printed.specs.Listing.{mark, valueText}
+
+-- ---- words of answers
+
+-- `found `, with its space
+abbrev pub found : List ℕ
+found = 102 ∷ 111 ∷ 117 ∷ 110 ∷ 100 ∷ 32 ∷ []
+
+-- `none`
+abbrev pub nothing : List ℕ
+nothing = 110 ∷ 111 ∷ 110 ∷ 101 ∷ []
+
+-- `undetermined `, with its space
+abbrev pub undetermined : List ℕ
+undetermined = 117 ∷ 110 ∷ 100 ∷ 101 ∷ 116 ∷ 101 ∷ 114 ∷ 109 ∷ 105 ∷ 110 ∷ 101 ∷ 100 ∷ 32 ∷ []
+
+-- ` slot `, with its spaces
+abbrev pub inSlot : List ℕ
+inSlot = 32 ∷ 115 ∷ 108 ∷ 111 ∷ 116 ∷ 32 ∷ []
+
+-- ---- answers
+
+-- a word, a number and the newline
+abbrev pub numbered : List ℕ → ℕ → List ℕ
+numbered word n = (word ++ digitsOf n) ++ newline
+
+-- a word, a refusal's number, its place and the newline
+abbrev pub placed : List ℕ → Refusal → List ℕ
+placed word why = ((word ++ digitsOf (why .no)) ++ (space ++ digitsOf (why .place))) ++ newline
+
+-- `none`, with its newline
+abbrev pub noneLine : List ℕ
+noneLine = nothing ++ newline
+
+-- `refused NO PLACE`
+abbrev pub refusedLine : Refusal → List ℕ
+refusedLine why = lineOf (Refused why)
+
+-- `found INDEX`, `none` or `refused NO PLACE`
+unfoldable pub interfaceText : InterfaceAnswer → List ℕ
+interfaceText (interface.Found i) = numbered found i
+interfaceText interface.None = noneLine
+interfaceText (interface.Refused why) = refusedLine why
+
+-- ` slot N` or ` slot ? ANCESTOR`
+unfoldable pub slotPart : Slot → List ℕ
+slotPart (slot.Known n) = inSlot ++ digitsOf n
+slotPart (slot.Undetermined r) = (inSlot ++ (mark ++ space)) ++ digitsOf r
+
+-- `found OWNER POSITION` and the slot
+unfoldable pub foundText : FoundMethod → List ℕ
+foundText m = (((found ++ digitsOf (m .owner)) ++ (space ++ digitsOf (m .position))) ++ slotPart (m .slot)) ++ newline
+
+-- that, `none`, `undetermined INDEX` or `refused NO PLACE`
+unfoldable pub methodText : MethodAnswer → List ℕ
+methodText (method.Found m) = foundText m
+methodText method.None = noneLine
+methodText (method.Undetermined i) = numbered undetermined i
+methodText (method.Refused why) = refusedLine why
+
+-- `i16 `, `i32 `, `u16 ` or `u32 `, with its space
+unfoldable pub kindText : Value → List ℕ
+kindText (I16 z) = 105 ∷ 49 ∷ 54 ∷ 32 ∷ []
+kindText (I32 z) = 105 ∷ 51 ∷ 50 ∷ 32 ∷ []
+kindText (U16 n) = 117 ∷ 49 ∷ 54 ∷ 32 ∷ []
+kindText (U32 n) = 117 ∷ 51 ∷ 50 ∷ 32 ∷ []
+
+-- `found KIND VALUE`, `none`, `undetermined INDEX` or `refused NO PLACE`
+unfoldable pub constantText : ConstantAnswer → List ℕ
+constantText (constant.Found v) = ((found ++ kindText v) ++ valueText v) ++ newline
+constantText constant.None = noneLine
+constantText (constant.Undetermined i) = numbered undetermined i
+constantText (constant.Refused why) = refusedLine why
+
+-- ---- mistakes
+
+-- `error `, with its space
+abbrev pub error : List ℕ
+error = 101 ∷ 114 ∷ 114 ∷ 111 ∷ 114 ∷ 32 ∷ []
+
+-- `the index`
+abbrev pub theIndex : List ℕ
+theIndex = 116 ∷ 104 ∷ 101 ∷ 32 ∷ 105 ∷ 110 ∷ 100 ∷ 101 ∷ 120 ∷ []
+
+-- `the slot`
+abbrev pub theSlot : List ℕ
+theSlot = 116 ∷ 104 ∷ 101 ∷ 32 ∷ 115 ∷ 108 ∷ 111 ∷ 116 ∷ []
+
+-- ` is not decimal`, with its space
+abbrev pub notDecimal : List ℕ
+notDecimal = 32 ∷ 105 ∷ 115 ∷ 32 ∷ 110 ∷ 111 ∷ 116 ∷ 32 ∷ 100 ∷ 101 ∷ 99 ∷ 105 ∷ 109 ∷ 97 ∷ 108 ∷ []
+
+-- ` does not fit 64 bits`, with its space
+abbrev pub tooLarge : List ℕ
+tooLarge = 32 ∷ 100 ∷ 111 ∷ 101 ∷ 115 ∷ 32 ∷ 110 ∷ 111 ∷ 116 ∷ 32 ∷ 102 ∷ 105 ∷ 116 ∷ 32 ∷ 54 ∷ 52 ∷ 32 ∷ 98 ∷ 105 ∷ 116 ∷ 115 ∷ []
+
+-- `error the IID is not hexadecimal digits in pairs`
+abbrev pub iidMistake : List ℕ
+iidMistake = error ++ (116 ∷ 104 ∷ 101 ∷ 32 ∷ 73 ∷ 73 ∷ 68 ∷ 32 ∷ 105 ∷ 115 ∷ 32 ∷ 110 ∷ 111 ∷ 116 ∷ 32 ∷ 104 ∷ 101 ∷ 120 ∷ 97 ∷ 100 ∷ 101 ∷ 99 ∷ 105 ∷ 109 ∷ 97 ∷ 108 ∷ 32 ∷ 100 ∷ 105 ∷ 103 ∷ 105 ∷ 116 ∷ 115 ∷ 32 ∷ 105 ∷ 110 ∷ 32 ∷ 112 ∷ 97 ∷ 105 ∷ 114 ∷ 115 ∷ newline)
+
+-- `error the index is not decimal`, and the same of the slot
+abbrev pub notDecimalMistake : List ℕ → List ℕ
+notDecimalMistake what = error ++ (what ++ (notDecimal ++ newline))
+
+-- `error the index does not fit 64 bits`, and the same of the slot
+abbrev pub tooLargeMistake : List ℕ → List ℕ
+tooLargeMistake what = error ++ (what ++ (tooLarge ++ newline))
+
+-- `error the kind is not getter, setter or plain`
+abbrev pub kindMistake : List ℕ
+kindMistake = error ++ (116 ∷ 104 ∷ 101 ∷ 32 ∷ 107 ∷ 105 ∷ 110 ∷ 100 ∷ 32 ∷ 105 ∷ 115 ∷ 32 ∷ 110 ∷ 111 ∷ 116 ∷ 32 ∷ 103 ∷ 101 ∷ 116 ∷ 116 ∷ 101 ∷ 114 ∷ 44 ∷ 32 ∷ 115 ∷ 101 ∷ 116 ∷ 116 ∷ 101 ∷ 114 ∷ 32 ∷ 111 ∷ 114 ∷ 32 ∷ 112 ∷ 108 ∷ 97 ∷ 105 ∷ 110 ∷ newline)

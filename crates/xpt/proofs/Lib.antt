@@ -1,3 +1,0 @@
-pub mod Signs
-pub mod Lengths
-pub mod InputLaws
