@@ -8,6 +8,7 @@ ghost use Prim.Native.Nat.{_≤_, _<_};
 ghost use Rattle.kept.specs.Table.{Tidy};
 ghost use Rattle.feed.specs.Input.{OneLine, FirstNewline, Searched, Fed};
 ghost use Rattle.batch.specs.Turns.{Going};
+use number::FILE_LIMIT;
 
 // What goes from one turn to the next.
 struct Turn {
@@ -22,7 +23,7 @@ fn answer(
     kept: Kept,
     rows: &mut [usize; 256],
     store: &mut [u8; 4210688],
-    out: &mut [u8; 1048576],
+    out: &mut [u8; FILE_LIMIT],
 ) -> Ran
     requires { ⌜ OneLine (now line) × Tidy (now rows) kept ⌝ }
     ensures { λ r. ⌜ Tidy (now (rows .exit)) (r .kept) ⌝ }
@@ -98,7 +99,7 @@ fn take_line(
     input: &[u8; 65536],
     rows: &mut [usize; 256],
     store: &mut [u8; 4210688],
-    out: &mut [u8; 1048576],
+    out: &mut [u8; FILE_LIMIT],
 ) -> Turn
     requires { ⌜ FirstNewline (now input) (feed .from) (feed .end) stop × ((stop < feed .end) × ((feed .end ≤ 65536) × Tidy (now rows) kept)) ⌝ }
     ensures { λ r. ⌜ Going (now (input .entry)) (now (rows .exit)) r ⌝ }
@@ -136,7 +137,7 @@ fn go_on(
     input: &mut [u8; 65536],
     rows: &mut [usize; 256],
     store: &mut [u8; 4210688],
-    out: &mut [u8; 1048576],
+    out: &mut [u8; FILE_LIMIT],
 ) -> Turn
     requires { ⌜ Fed (now input) feed × Tidy (now rows) kept ⌝ }
     ensures { λ r. ⌜ Going (now (input .exit)) (now (rows .exit)) r ⌝ }
@@ -155,7 +156,7 @@ fn take_rest(
     input: &[u8; 65536],
     rows: &mut [usize; 256],
     store: &mut [u8; 4210688],
-    out: &mut [u8; 1048576],
+    out: &mut [u8; FILE_LIMIT],
 )
     requires { ⌜ Searched (now input) feed × Tidy (now rows) kept ⌝ }
 {
@@ -179,7 +180,7 @@ pub fn run(
     input: &mut [u8; 65536],
     rows: &mut [usize; 256],
     store: &mut [u8; 4210688],
-    out: &mut [u8; 1048576],
+    out: &mut [u8; FILE_LIMIT],
 ) {
     let mut now = Turn {
         feed: Feed {

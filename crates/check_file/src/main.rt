@@ -5,6 +5,10 @@ ghost use lib.ListN.{length};
 ghost use lib.Seq.{sets};
 ghost use Rattle.reader.specs.Reader.{checkOf};
 ghost use Rattle.text.specs.Line.{lineOf};
+use number::FILE_LIMIT;
+
+// One byte more than the largest typelib has, so that a longer input is refused for its length.
+const ROOM: usize = FILE_LIMIT + 1;
 
 // The line of the file's verdict, made at the front of `line`; the answer is its length.
 fn answer(file: &[u8], line: &mut [u8; 64]) -> usize
@@ -20,8 +24,7 @@ fn report(file: &[u8], line: &mut [u8; 64]) {
     io::write_all(1, &all[..n]);
 }
 
-// Room for one byte more than the largest typelib, so that a longer input is refused for its length.
-fn run(buf: &mut [u8; 1048577]) {
+fn run(buf: &mut [u8; ROOM]) {
     let n = io::read_full(0, buf);
     let all: &[u8] = buf;
     let mut line = [0u8; 64];
@@ -29,6 +32,6 @@ fn run(buf: &mut [u8; 1048577]) {
 }
 
 fn main() {
-    let mut buf = [0u8; 1048577];
+    let mut buf = [0u8; ROOM];
     run(&mut buf);
 }

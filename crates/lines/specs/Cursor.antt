@@ -7,6 +7,7 @@ use mathlib.Core.List.{List, [], _++_}
 use mathlib.Core.Option.{Option}
 use Prim.Native.Nat.{ℕ, _+_, _-_, _*_, _≤_, _<_}
 use lib.ListN.{length, drop}
+use Rattle.number.specs.Limits.{ownLimit}
 use Rattle.reader.specs.declared.Layout.{Layout}
 use Rattle.reader.specs.Values.{Method, Constant, Entry, parentIndex}
 use Rattle.reader.specs.Records.{Run, ShowsField}
@@ -22,7 +23,7 @@ use Rattle.lines.specs.declared.Piece.{Piece}
 use Rattle.lines.specs.declared.Filled.{Filled}
 use Rattle.lines.specs.declared.Started.{Started}
 use Rattle.printed.specs.Listing.{methodLines, constantLines, entryLines}
-use Rattle.printed.specs.Writing.{Wrote, NamedMethod, NamedConstant}
+use Rattle.printed.specs.Writing.{lineRoom, Wrote, NamedMethod, NamedConstant}
 
 -- of n entries, the index `up` is that of the parent p, 0 being none
 abbrev pub ParentAt : ℕ → ℕ → Option ℕ → Type 0
@@ -41,7 +42,7 @@ pub record EntriesLeft (s : List ℕ) (l : Layout) (i : ℕ) (text : List ℕ) :
 pub record ConstantsLeft (s : List ℕ) (l : Layout) (i k p : ℕ) (text : List ℕ) : Type 0 where
   pub constants : List Constant
   pub count : k ≡ length constants
-  pub few : k ≤ 1024
+  pub few : k ≤ ownLimit
   pub end : ℕ
   pub run : Run (NamedConstant (drop (l .pool) s)) p constants end
   pub rest : List ℕ
@@ -52,7 +53,7 @@ pub record ConstantsLeft (s : List ℕ) (l : Layout) (i k p : ℕ) (text : List 
 pub record MethodsLeft (s : List ℕ) (l : Layout) (i k p : ℕ) (slot : Slot) (text : List ℕ) : Type 0 where
   pub methods : List (Method ℕ)
   pub count : k ≡ length methods
-  pub few : k ≤ 1024
+  pub few : k ≤ ownLimit
   pub end : ℕ
   pub run : Run (NamedMethod (drop (l .pool) s)) p methods end
   pub above : Chain ℕ
@@ -110,7 +111,7 @@ Onward n c d = (isDone c ≡ true) ⊎ (turns n d < turns n c)
 pub record Moved (s : List ℕ) (l : Layout) (c : Cursor) (before : List ℕ) (at : ℕ) (r : Piece) (after : List ℕ) : Type 0 where
   pub each : (text : List ℕ) → Left s l c text → PartWritten s l before at (r .at) after (r .cursor) text
   pub onward : Onward (l .count) c (r .cursor)
-  pub room : r .at ≤ at + 1024
+  pub room : r .at ≤ at + lineRoom
 
 -- a buffer was filled
 pub record Filling (s : List ℕ) (l : Layout) (c : Cursor) (before : List ℕ) (r : Filled) (after : List ℕ) : Type 0 where

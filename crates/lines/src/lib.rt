@@ -9,9 +9,11 @@ use reader::Verdict;
 ghost use mathlib.Core.Path.{_≡_};
 ghost use Prim.Native.Nat.{_≤_};
 ghost use lib.ListN.{length, drop};
+ghost use Rattle.printed.specs.Writing.{lineRoom};
 ghost use Rattle.reader.specs.Reader.{decode};
 ghost use Rattle.printed.specs.Listing.{listingOf, printedOf};
 ghost use Rattle.lines.specs.Cursor.{Begun, isDone, Filling, onlyLine, Starting};
+use printed::LINE_ROOM;
 
 // Where the methods of an entry, counted from 0, go on: how many are left, the place of the next in the pool, and its slot.
 pub struct MethodsAt {
@@ -69,12 +71,12 @@ pub fn is_done(c: Cursor) -> bool
 
 // Pieces while there is room for one.
 fn fill_from(file: &[u8], pool: &[u8], l: Layout, first: Cursor, out: &mut [u8]) -> Filled
-    requires { ⌜ Begun (now file) l first × ((now pool ≡ drop (l .pool) (now file)) × (1024 ≤ length (now out))) ⌝ }
+    requires { ⌜ Begun (now file) l first × ((now pool ≡ drop (l .pool) (now file)) × (lineRoom ≤ length (now out))) ⌝ }
     ensures { λ r. ⌜ Filling (now (file .entry)) l first (now (out .entry)) r (now (out .exit)) ⌝ }
 {
     let mut c = first;
     let mut at: usize = 0;
-    while 1024 <= out.len() - at {
+    while LINE_ROOM <= out.len() - at {
         if is_done(c) {
             return Filled {
                 length: at,
@@ -93,7 +95,7 @@ fn fill_from(file: &[u8], pool: &[u8], l: Layout, first: Cursor, out: &mut [u8])
 
 // The next lines of the listing, as many as are sure to fit.
 pub fn fill(file: &[u8], l: Layout, c: Cursor, out: &mut [u8]) -> Filled
-    requires { ⌜ Begun (now file) l c × (1024 ≤ length (now out)) ⌝ }
+    requires { ⌜ Begun (now file) l c × (lineRoom ≤ length (now out)) ⌝ }
     ensures { λ r. ⌜ Filling (now (file .entry)) l c (now (out .entry)) r (now (out .exit)) ⌝ }
 {
     let at = l.pool;

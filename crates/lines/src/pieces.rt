@@ -12,7 +12,7 @@ ghost use Rattle.reader.specs.Values.{Entry, descriptorIn};
 ghost use Rattle.reader.specs.Layout.{LaidOut, Lies};
 ghost use Rattle.lines.specs.declared.Cursor.the-variants.{AtEntry, AtMethods, AtConstants};
 ghost use Rattle.printed.specs.Listing.{ownLines, entryLines};
-ghost use Rattle.printed.specs.Writing.{Room};
+ghost use Rattle.printed.specs.Writing.{lineRoom, Room};
 ghost use Rattle.lines.specs.Cursor.{Left, Begun, Moved, turns};
 
 // What follows the line of entry i.
@@ -37,7 +37,7 @@ fn below(file: &[u8], pool: &[u8], l: Layout, i: usize) -> Cursor
 
 // The line of entry i, if there is one.
 fn entry_piece(file: &[u8], pool: &[u8], l: Layout, i: usize, out: &mut [u8], at: usize) -> Piece
-    requires { ⌜ Begun (now file) l (AtEntry i) × ((now pool ≡ drop (l .pool) (now file)) × Room (now out) at 1024) ⌝ }
+    requires { ⌜ Begun (now file) l (AtEntry i) × ((now pool ≡ drop (l .pool) (now file)) × Room (now out) at lineRoom) ⌝ }
     ensures { λ r. ⌜ Moved (now (file .entry)) l (AtEntry i) (now (out .entry)) at r (now (out .exit)) ⌝ }
 {
     if i == l.count {
@@ -62,7 +62,7 @@ fn method_piece(
     out: &mut [u8],
     at: usize,
 ) -> Piece
-    requires { ⌜ Begun (now file) l (AtMethods m) × ((now pool ≡ drop (l .pool) (now file)) × Room (now out) at 1024) ⌝ }
+    requires { ⌜ Begun (now file) l (AtMethods m) × ((now pool ≡ drop (l .pool) (now file)) × Room (now out) at lineRoom) ⌝ }
     ensures { λ r. ⌜ Moved (now (file .entry)) l (AtMethods m) (now (out .entry)) at r (now (out .exit)) ⌝ }
 {
     let entry = m.entry;
@@ -103,7 +103,7 @@ fn constant_piece(
     out: &mut [u8],
     at: usize,
 ) -> Piece
-    requires { ⌜ Begun (now file) l (AtConstants k) × ((now pool ≡ drop (l .pool) (now file)) × Room (now out) at 1024) ⌝ }
+    requires { ⌜ Begun (now file) l (AtConstants k) × ((now pool ≡ drop (l .pool) (now file)) × Room (now out) at lineRoom) ⌝ }
     ensures { λ r. ⌜ Moved (now (file .entry)) l (AtConstants k) (now (out .entry)) at r (now (out .exit)) ⌝ }
 {
     let entry = k.entry;
@@ -129,7 +129,7 @@ fn constant_piece(
 
 // What is to be printed next, at most one line of it.
 pub fn put_piece(file: &[u8], pool: &[u8], l: Layout, c: Cursor, out: &mut [u8], at: usize) -> Piece
-    requires { ⌜ Begun (now file) l c × ((now pool ≡ drop (l .pool) (now file)) × Room (now out) at 1024) ⌝ }
+    requires { ⌜ Begun (now file) l c × ((now pool ≡ drop (l .pool) (now file)) × Room (now out) at lineRoom) ⌝ }
     ensures { λ r. ⌜ Moved (now (file .entry)) l c (now (out .entry)) at r (now (out .exit)) ⌝ }
 {
     match c {

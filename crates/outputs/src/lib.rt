@@ -6,7 +6,9 @@ use link::Which;
 use saving::Saved;
 use sayings::Said;
 ghost use Prim.Native.Nat.{_≤_};
+ghost use Rattle.number.specs.Limits.{fileLimit};
 ghost use Rattle.outputs.specs.Bounds.{WrittenIn};
+use number::FILE_LIMIT;
 
 // Whether standard output still takes lines, and whether a file was written.
 pub struct Output {
@@ -37,7 +39,7 @@ fn put(bytes: &[u8], to: &[u8], said: Said, line: &[u8; 128]) -> Output
 }
 
 // The normal form of the file of this name.
-pub fn normal(file: &[u8], name: &[u8], to: &[u8], out: &mut [u8; 1048576]) -> Output {
+pub fn normal(file: &[u8], name: &[u8], to: &[u8], out: &mut [u8; FILE_LIMIT]) -> Output {
     let mut line = [0u8; 128];
     let done = link::normalise(file, out);
     let said = outcomes::normalised(done, &mut line);
@@ -69,8 +71,14 @@ fn say_link_reason(first: &[u8], second: &[u8], refusal: LinkRefusal) {
 }
 
 // The outcome of a link of the files of these names.
-fn put_linked(done: Linked, first: &[u8], second: &[u8], to: &[u8], out: &[u8; 1048576]) -> Output
-    requires { ⌜ WrittenIn 1048576 done ⌝ }
+fn put_linked(
+    done: Linked,
+    first: &[u8],
+    second: &[u8],
+    to: &[u8],
+    out: &[u8; FILE_LIMIT],
+) -> Output
+    requires { ⌜ WrittenIn fileLimit done ⌝ }
 {
     let mut line = [0u8; 128];
     let said = outcomes::linked(done, &mut line);
@@ -97,7 +105,7 @@ pub fn link(
     second_file: &[u8],
     second: &[u8],
     to: &[u8],
-    out: &mut [u8; 1048576],
+    out: &mut [u8; FILE_LIMIT],
 ) -> Output {
     let done = link::link(first_file, second_file, out);
     put_linked(done, first, second, to, out)

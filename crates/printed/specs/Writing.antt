@@ -5,6 +5,7 @@ use mathlib.Core.List.{List}
 use Prim.Native.Nat.{ℕ, _+_, _≤_}
 use lib.ListN.{length}
 use lib.Seq.{sets}
+use Rattle.number.specs.Limits.{fileLimit}
 use Rattle.reader.specs.Values.{Method, methodName, Constant, constantName}
 use Rattle.reader.specs.Records.{ShowsMethod, ShowsConstant}
 use Rattle.reader.specs.Rules.{Identifier}
@@ -18,9 +19,13 @@ pub record Wrote (before : List ℕ) (at : ℕ) (bytes : List ℕ) (r : ℕ) (af
 abbrev pub Room : List ℕ → ℕ → ℕ → Type 0
 Room out at n = at + n ≤ length out
 
+-- room that any line of the listing fits in
+abbrev pub lineRoom : ℕ
+lineRoom = 1024
+
 -- no file is longer than this, nor its pool
 abbrev pub Small : List ℕ → Type 0
-Small pool = length pool ≤ 1048576
+Small pool = length pool ≤ fileLimit
 
 -- ---- records that are shown, with a name that is an identifier
 

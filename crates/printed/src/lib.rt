@@ -2,3 +2,6 @@
 pub mod line;
 pub mod value;
 mod word;
+
+// Room that any line fits in.
+pub const LINE_ROOM: usize = 1024;

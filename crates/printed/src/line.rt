@@ -14,7 +14,7 @@ ghost use Rattle.reader.specs.Values.{Entry, Descriptor, noEntry};
 ghost use Rattle.reader.specs.Records.{ShowsOwn};
 ghost use Rattle.reader.specs.Layout.{LaidOut, Lies, Stands};
 ghost use Rattle.printed.specs.Listing.{entryWord, parentText, slotText, entryLine, methodLine, constantLine};
-ghost use Rattle.printed.specs.Writing.{Wrote, WroteOf, Room, Small, NamedMethod, NamedConstant};
+ghost use Rattle.printed.specs.Writing.{lineRoom, Wrote, WroteOf, Room, Small, NamedMethod, NamedConstant};
 
 // The index i, and the IID at `place` of the file.
 fn put_front(file: &[u8], place: usize, i: usize, out: &mut [u8], at: usize) -> usize
@@ -41,8 +41,8 @@ fn put_parent(pool: &[u8], d: usize, out: &mut [u8], at: usize) -> usize
 
 // The line of entry i, counted from 0.
 pub fn put_entry(file: &[u8], pool: &[u8], l: Layout, i: usize, out: &mut [u8], at: usize) -> usize
-    requires { ⌜ Lies (now file) l × ((i < l .count) × ((now pool ≡ drop (l .pool) (now file)) × Room (now out) at 1024)) ⌝ }
-    ensures { λ r. ⌜ ((es : List (Entry ℕ)) → LaidOut (now (file .entry)) l es → Wrote (now (out .entry)) at (entryLine (i + 1) (getD es i noEntry)) r (now (out .exit))) × (r ≤ at + 1024) ⌝ }
+    requires { ⌜ Lies (now file) l × ((i < l .count) × ((now pool ≡ drop (l .pool) (now file)) × Room (now out) at lineRoom)) ⌝ }
+    ensures { λ r. ⌜ ((es : List (Entry ℕ)) → LaidOut (now (file .entry)) l es → Wrote (now (out .entry)) at (entryLine (i + 1) (getD es i noEntry)) r (now (out .exit))) × (r ≤ at + lineRoom) ⌝ }
 {
     let place = reader::entry::iid_place(file, l, i);
     let v = reader::entry::space_pointer(file, l, i);
@@ -66,8 +66,8 @@ fn put_slot(slot: Slot, out: &mut [u8], at: usize) -> usize
 
 // The line of the method at `from`, which has this slot.
 pub fn put_method(pool: &[u8], from: usize, slot: Slot, out: &mut [u8], at: usize) -> usize
-    requires { ⌜ Stands (NamedMethod (now pool) from) × (Small (now pool) × Room (now out) at 1024) ⌝ }
-    ensures { λ r. ⌜ WroteOf (NamedMethod (now (pool .entry)) from) (methodLine slot) (now (out .entry)) at r (now (out .exit)) × (r ≤ at + 1024) ⌝ }
+    requires { ⌜ Stands (NamedMethod (now pool) from) × (Small (now pool) × Room (now out) at lineRoom) ⌝ }
+    ensures { λ r. ⌜ WroteOf (NamedMethod (now (pool .entry)) from) (methodLine slot) (now (out .entry)) at r (now (out .exit)) × (r ≤ at + lineRoom) ⌝ }
 {
     let q = reader::record::method_name(pool, from);
     let count = reader::record::argument_count(pool, from);
@@ -80,8 +80,8 @@ pub fn put_method(pool: &[u8], from: usize, slot: Slot, out: &mut [u8], at: usiz
 
 // The line of the constant at `from`.
 pub fn put_constant(pool: &[u8], from: usize, out: &mut [u8], at: usize) -> usize
-    requires { ⌜ Stands (NamedConstant (now pool) from) × (Small (now pool) × Room (now out) at 1024) ⌝ }
-    ensures { λ r. ⌜ WroteOf (NamedConstant (now (pool .entry)) from) constantLine (now (out .entry)) at r (now (out .exit)) × (r ≤ at + 1024) ⌝ }
+    requires { ⌜ Stands (NamedConstant (now pool) from) × (Small (now pool) × Room (now out) at lineRoom) ⌝ }
+    ensures { λ r. ⌜ WroteOf (NamedConstant (now (pool .entry)) from) constantLine (now (out .entry)) at r (now (out .exit)) × (r ≤ at + lineRoom) ⌝ }
 {
     let q = reader::record::constant_name(pool, from);
     let first = text::put_bytes(out, at, b"C ");

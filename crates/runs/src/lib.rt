@@ -4,6 +4,7 @@ use reads::Ran;
 use reads::Told;
 use verbs::Verb;
 ghost use Rattle.kept.specs.Table.{Tidy};
+use number::FILE_LIMIT;
 
 // The command of a line.
 pub fn run(
@@ -12,7 +13,7 @@ pub fn run(
     kept: Kept,
     rows: &mut [usize; 256],
     store: &mut [u8; 4210688],
-    out: &mut [u8; 1048576],
+    out: &mut [u8; FILE_LIMIT],
 ) -> Ran
     requires { ⌜ Tidy (now rows) kept ⌝ }
     ensures { λ r. ⌜ Tidy (now (rows .exit)) (r .kept) ⌝ }
@@ -44,7 +45,7 @@ pub fn single(
     line: &[u8],
     rows: &mut [usize; 256],
     store: &mut [u8; 4210688],
-    out: &mut [u8; 1048576],
+    out: &mut [u8; FILE_LIMIT],
 ) {
     let ran = run(line, 0, Kept { rows: 0, used: 0 }, rows, store, out);
     let told = ran.told;

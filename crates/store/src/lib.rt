@@ -3,9 +3,14 @@ use kept::Kept;
 use words::Span;
 ghost use Prim.Native.Nat.{_+_, _≤_};
 ghost use lib.ListN.{length};
+ghost use Rattle.number.specs.Limits.{fileLimit};
 ghost use Rattle.libc.specs.Io.{Ended};
 ghost use Rattle.kept.specs.Table.{Tidy};
 ghost use Rattle.store.specs.Bounds.{LoadedIn, Answered};
+use number::FILE_LIMIT;
+
+// One byte more than the largest typelib has, so that a longer file is told from it.
+const MOST: usize = FILE_LIMIT + 1;
 
 // Where a file's bytes stand in the store, or errno's number.
 pub enum Loaded {
@@ -33,12 +38,12 @@ fn read_some(fd: i32, from: usize, most: usize, store: &mut [u8]) -> Loaded
     Loaded::At(Span { from, end })
 }
 
-// The file's bytes into the store from `from` on, at most one byte more than the largest typelib has, so that a longer file is told from it.
+// The file's bytes into the store from `from` on, at most that many.
 fn read_from(fd: i32, from: usize, store: &mut [u8; 4210688]) -> Loaded
-    requires { ⌜ from + 1048577 ≤ 4210688 ⌝ }
-    ensures { λ r. ⌜ LoadedIn from (from + 1048577) r ⌝ }
+    requires { ⌜ from + (fileLimit + 1) ≤ 4210688 ⌝ }
+    ensures { λ r. ⌜ LoadedIn from (from + (fileLimit + 1)) r ⌝ }
 {
-    let most = from + 1048577;
+    let most = from + MOST;
     let mut end = from;
     while end < most {
         let got = read_some(fd, end, most, store);

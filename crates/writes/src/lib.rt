@@ -6,6 +6,7 @@ use store::Loaded;
 use words::Span;
 ghost use Prim.Native.Nat.{_≤_};
 ghost use Rattle.kept.specs.Table.{Tidy};
+use number::FILE_LIMIT;
 
 // After an output to the file that the word k names: what was written is read anew.
 fn put_done(
@@ -31,7 +32,7 @@ fn put_done(
 }
 
 // The normal form of the file to where the line says.
-fn put_normal(line: &[u8], separator: u8, file: &[u8], out: &mut [u8; 1048576]) -> Output {
+fn put_normal(line: &[u8], separator: u8, file: &[u8], out: &mut [u8; FILE_LIMIT]) -> Output {
     let word = words::word(line, separator, 1);
     let target = words::word(line, separator, 2);
     let a = word.from;
@@ -48,7 +49,7 @@ pub fn write_normal(
     kept: Kept,
     rows: &mut [usize; 256],
     store: &mut [u8; 4210688],
-    out: &mut [u8; 1048576],
+    out: &mut [u8; FILE_LIMIT],
 ) -> Ran
     requires { ⌜ Tidy (now rows) kept ⌝ }
     ensures { λ r. ⌜ Tidy (now (rows .exit)) (r .kept) ⌝ }
@@ -78,7 +79,7 @@ fn put_union(
     separator: u8,
     first: &[u8],
     second: &[u8],
-    out: &mut [u8; 1048576],
+    out: &mut [u8; FILE_LIMIT],
 ) -> Output {
     let one = words::word(line, separator, 1);
     let two = words::word(line, separator, 2);
@@ -101,7 +102,7 @@ fn write_union(
     kept: Kept,
     rows: &mut [usize; 256],
     store: &[u8; 4210688],
-    out: &mut [u8; 1048576],
+    out: &mut [u8; FILE_LIMIT],
 ) -> Ran
     requires { ⌜ Tidy (now rows) kept × (((first .from ≤ first .end) × (first .end ≤ 4210688)) × ((second .from ≤ second .end) × (second .end ≤ 4210688))) ⌝ }
     ensures { λ r. ⌜ Tidy (now (rows .exit)) (r .kept) ⌝ }
@@ -123,7 +124,7 @@ fn link_second(
     kept: Kept,
     rows: &mut [usize; 256],
     store: &mut [u8; 4210688],
-    out: &mut [u8; 1048576],
+    out: &mut [u8; FILE_LIMIT],
 ) -> Ran
     requires { ⌜ Tidy (now rows) kept × ((first .from ≤ first .end) × (first .end ≤ 4210688)) ⌝ }
     ensures { λ r. ⌜ Tidy (now (rows .exit)) (r .kept) ⌝ }
@@ -148,7 +149,7 @@ pub fn write_link(
     kept: Kept,
     rows: &mut [usize; 256],
     store: &mut [u8; 4210688],
-    out: &mut [u8; 1048576],
+    out: &mut [u8; FILE_LIMIT],
 ) -> Ran
     requires { ⌜ Tidy (now rows) kept ⌝ }
     ensures { λ r. ⌜ Tidy (now (rows .exit)) (r .kept) ⌝ }
