@@ -24,6 +24,9 @@ use number::ROW_LIMIT;
 use reader::Layout;
 use reader::NEWEST;
 
+// What stands for every length over the limit.
+const TOO_LONG: usize = FILE_LIMIT + 1;
+
 // The length of the file of the first c rows of t, of which `holders` tells whose descriptors they have.
 // One over 1,048,576 for any length over it: it stops there.
 pub fn total_size(
@@ -48,7 +51,7 @@ pub fn total_size(
         let k = row_parts(a, pool, l, b, pool2, l2, r);
         size += ENTRY_WIDTH + k.name + k.space + own;
         if FILE_LIMIT < size {
-            return FILE_LIMIT + 1;
+            return TOO_LONG;
         }
         q += 1;
     }
