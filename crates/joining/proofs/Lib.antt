@@ -1,4 +1,2 @@
-pub mod Held
-pub mod Meets
-pub mod Knows
+pub mod Stops
 pub mod Writes

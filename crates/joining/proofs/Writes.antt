@@ -27,14 +27,15 @@ use Rattle.bridge.specs.Written.{Matched, heldIn, countedOf, rowEntry, rowEntri
 use Rattle.bridge.proofs.Spans.{span-ext}
 use Rattle.bridge.proofs.Bytes.{union-length, union-bytes}
 use Rattle.bridge.proofs.Links.{link-25, link-26, link-joined}
-use Rattle.output.specs.Files.{Pair, HoldBoth, Given, Fits, Gives, Puts}
+use Rattle.rows.specs.Files.{Pair, HoldBoth, Given, Fits, Gives, Puts}
 use Rattle.output.specs.View.{rowKey, rowOwn, entryOf, viewEntry, viewEntries, Viewed, placeOf, capped, viewLength, viewBytes}
 use Rattle.joining.specs.declared.Normalised.{Normalised}
 use Rattle.joining.specs.declared.Normalised.the-variants.{Written, Refused}
 use Rattle.joining.specs.Outcome.{Outcome, refused, written, refusal, encoded, inRoom, after, normalisedAs}
-use Rattle.joining.specs.Stages.{Known, linkPair, unionIn, Joins, Arranged}
-use Rattle.joining.proofs.Held.{count-first, count-second, matched}
-use Rattle.joining.proofs.Knows.{resolved-most}
+use Rattle.stages.specs.Stages.{Known, linkPair, Arranged}
+use Rattle.joining.specs.Joins.{unionIn, Joins}
+use Rattle.stages.proofs.Held.{count-first, count-second, matched}
+use Rattle.stages.proofs.Knows.{resolved-most}
 
 -- ---- lengths
 

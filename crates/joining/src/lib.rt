@@ -1,8 +1,7 @@
 // The union of two accepted files: its refusals 21 to 27, and its normal form into a buffer.
 use reading::Refusal;
 
-mod descriptors;
-pub mod stages;
+pub mod union;
 
 // The length of the normal form that was written, or a refusal.
 pub enum Normalised {

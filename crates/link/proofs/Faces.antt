@@ -21,7 +21,7 @@ use Rattle.facts.specs.Link.{stopped, joined}
 use Rattle.facts.proofs.Algebra.{with-empty}
 use Rattle.normal.specs.Size.{normalLength}
 use Rattle.normal.specs.Normal.{normalForm}
-use Rattle.output.specs.Files.{Pair, HoldBoth, Given}
+use Rattle.rows.specs.Files.{Pair, HoldBoth, Given}
 use Rattle.link.specs.declared.Which.the-variants.{First, Second, Union}
 use Rattle.link.specs.declared.LinkRefusal.{LinkRefusal}
 use Rattle.joining.specs.declared.Normalised.{Normalised}
@@ -29,7 +29,8 @@ use Rattle.joining.specs.declared.Normalised.the-variants as normalised
 use Rattle.link.specs.declared.Linked.the-variants as linked
 use Rattle.joining.specs.Outcome.{Outcome, refused, written, refusal, encoded, inRoom, after, normalisedAs}
 use Rattle.link.specs.Outcome.{refusalOf, normalOf, normaliseIn, normaliseAnswer, normaliseBuffer, linkOf, linkIn, linkedAs, linkAnswer, linkBuffer}
-use Rattle.joining.specs.Stages.{linkPair, unionIn, Joins}
+use Rattle.stages.specs.Stages.{linkPair}
+use Rattle.joining.specs.Joins.{unionIn, Joins}
 use Rattle.link.specs.Demand.{asLink}
 use Rattle.link.proofs.Files.{decoded-valid}
 

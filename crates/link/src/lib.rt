@@ -38,7 +38,7 @@ fn normalise_accepted(file: &[u8], out: &mut [u8]) -> Normalised
         directory: 0,
         pool: 0,
     };
-    joining::stages::join_files(file, l, &file[0..0], none, out)
+    joining::union::join_files(file, l, &file[0..0], none, out)
 }
 
 // The normal form of a file into `out`.
@@ -58,7 +58,7 @@ fn link_accepted(first: &[u8], second: &[u8], out: &mut [u8]) -> Linked
 {
     let l = reader::layout_of(first);
     let l2 = reader::layout_of(second);
-    match joining::stages::join_files(first, l, second, l2, out) {
+    match joining::union::join_files(first, l, second, l2, out) {
         Normalised::Written(n) => Linked::Written(n),
         Normalised::Refused(why) => Linked::Refused(LinkRefusal {
             which: Which::Union,

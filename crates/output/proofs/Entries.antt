@@ -18,7 +18,7 @@ use Rattle.normal.proofs.Lengths.{sum-entries}
 use Rattle.iids.specs.Cells.{cell}
 use Rattle.bridge.specs.Span.{span}
 use Rattle.bridge.proofs.Spans.{length-span}
-use Rattle.output.specs.Files.{Pair}
+use Rattle.rows.specs.Files.{Pair}
 use Rattle.output.specs.View.{rowKey, rowOwn, entryOf, viewEntry, viewEntries, capped, viewLength}
 use Rattle.output.specs.Row.{keySize, keyBytes, partsOf, pointerTo, rowBytes}
 

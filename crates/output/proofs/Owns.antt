@@ -21,7 +21,7 @@ use Rattle.writing.specs.Source.{Known}
 use Rattle.interfaces.specs.Source.{NamedDescriptor, DescriptorFit}
 use Rattle.writing.specs.Wrote.{Room, Wrote}
 use Rattle.interfaces.proofs.Fits.{fit-shown}
-use Rattle.output.specs.Files.{Holds}
+use Rattle.rows.specs.Files.{Holds}
 
 -- the pool of a file is no longer than a file may be
 pub pool-short : (s pool : List ℕ) (l : Layout) (es : List (Entry ℕ)) → Holds s pool l es → length pool ≤ 1048576

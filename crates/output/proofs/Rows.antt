@@ -28,7 +28,7 @@ use Rattle.bridge.proofs.Rows.{row-first, row-second, key-first, key-second, re
 use Rattle.bridge.proofs.Pairs.{held-none, held-some}
 use Rattle.writing.specs.Source.{renumber}
 use Rattle.output.specs.declared.Parts.{Parts}
-use Rattle.output.specs.Files.{Holds, Pair, HoldBoth, Gives, Puts}
+use Rattle.rows.specs.Files.{Holds, Pair, HoldBoth, Gives, Puts}
 use Rattle.output.specs.View.{rowKey, rowOwn, placeOf}
 use Rattle.output.specs.Row.{keySize, keyBytes, partsOf}
 use Rattle.output.proofs.Owns as owns

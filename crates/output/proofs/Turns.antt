@@ -18,7 +18,7 @@ use Rattle.iids.specs.Cells.{cell}
 use Rattle.iids.specs.Numbers.{wide, numberIn}
 use Rattle.writing.proofs.Lent.{rest, back, lent}
 use Rattle.output.specs.declared.Parts.{Parts}
-use Rattle.output.specs.Files.{Pair, Fits, Gives}
+use Rattle.rows.specs.Files.{Pair, Fits, Gives}
 use Rattle.output.specs.View.{rowKey, rowOwn, entryOf, viewEntry, viewEntries, Viewed, placeOf, capped, viewLength, viewBytes}
 use Rattle.output.specs.Front.{directoryAt, frontHeader, frontBytes}
 use Rattle.output.specs.Row.{keySize, keyBytes, partsOf, rowBytes}

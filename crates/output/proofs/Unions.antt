@@ -20,7 +20,7 @@ use Rattle.bridge.proofs.Spans.{span-ext}
 use Rattle.bridge.proofs.Rows.{told}
 use Rattle.bridge.proofs.Pairs.{holder-most}
 use Rattle.bridge.proofs.Bytes.{union-length, union-bytes}
-use Rattle.output.specs.Files.{Pair}
+use Rattle.rows.specs.Files.{Pair}
 use Rattle.output.specs.View.{rowKey, rowOwn, entryOf, viewEntry, viewEntries, Viewed, placeOf, viewLength, viewBytes}
 
 abbrev pub two : List (Entry ℕ) → List (Entry ℕ) → Pair

@@ -1,4 +1,3 @@
-pub mod Files
 pub mod View
 pub mod Front
 pub mod Row

@@ -13,7 +13,7 @@ use Rattle.rows.specs.Rows.{keyOfRow}
 use Rattle.iids.specs.Cells.{cell}
 use Rattle.bridge.specs.Span.{span}
 use Rattle.bridge.specs.Written.{heldIn, countedOf}
-use Rattle.output.specs.Files.{Pair}
+use Rattle.rows.specs.Files.{Pair}
 
 unfoldable pub rowKey : Pair → ℕ → Key
 rowKey x r = keyOfRow (x .first) (x .second) r

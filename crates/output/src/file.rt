@@ -9,7 +9,7 @@ ghost use Rattle.normal.specs.Size.{entrySize};
 ghost use Rattle.normal.specs.Normal.{entryPool, entryBytes, directoryBytes, poolBytes};
 ghost use Rattle.iids.specs.Cells.{cell};
 ghost use Rattle.iids.specs.Numbers.{wide, numberIn};
-ghost use Rattle.output.specs.Files.{Pair, HoldBoth, Given, Fits, Gives, Puts};
+ghost use Rattle.rows.specs.Files.{Pair, HoldBoth, Given, Fits, Gives, Puts};
 ghost use Rattle.output.specs.View.{entryOf, viewEntries, Viewed, placeOf, capped, viewLength, viewBytes};
 use crate::front::put_front;
 use crate::index;

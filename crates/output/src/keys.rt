@@ -8,7 +8,7 @@ ghost use Rattle.key.specs.Key.{keyAt, spaceAt};
 ghost use Rattle.key.specs.Pointer.{Spaced, Pointed};
 ghost use Rattle.normal.specs.Size.{spaceSize};
 ghost use Rattle.normal.specs.Normal.{spaceBytes};
-ghost use Rattle.output.specs.Files.{HoldBoth, Given, Fits, Gives, Puts};
+ghost use Rattle.rows.specs.Files.{HoldBoth, Given, Fits, Gives, Puts};
 ghost use Rattle.output.specs.View.{rowKey};
 ghost use Rattle.output.specs.Row.{keySize, keyBytes, partsOf};
 use crate::Parts;

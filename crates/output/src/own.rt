@@ -7,7 +7,7 @@ ghost use Rattle.reader.specs.Values.{descriptorIn};
 ghost use Rattle.normal.specs.Size.{ownSize};
 ghost use Rattle.normal.specs.Normal.{ownBytes};
 ghost use Rattle.writing.specs.Source.{renumber};
-ghost use Rattle.output.specs.Files.{Holds, HoldBoth, Given, Fits, Gives, Puts};
+ghost use Rattle.rows.specs.Files.{Holds, HoldBoth, Given, Fits, Gives, Puts};
 ghost use Rattle.output.specs.View.{rowOwn, placeOf};
 use interfaces::own_size;
 use interfaces::put_own;

@@ -1,7 +1,7 @@
 -- `output::file::put_rows` meets its contract.
 -- Assumes nothing.
 use Rattle.number.proofs.Tools.{_-_, arith}
-use Rattle.output.specs.Files.{HoldBoth}
+use Rattle.rows.specs.Files.{HoldBoth}
 use Rattle.output.proofs.Turns as laws
 use Rattle.output.proofs.Rows as rows
 use Rattle.output.proofs.file.put_rows.Statement.{statement}

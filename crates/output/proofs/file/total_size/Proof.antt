@@ -2,7 +2,7 @@
 -- Assumes nothing.
 use Rattle.number.proofs.Tools.{_-_, arith}
 use Rattle.iids.specs.Cells.{cell}
-use Rattle.output.specs.Files.{HoldBoth}
+use Rattle.rows.specs.Files.{HoldBoth}
 use Rattle.output.proofs.Turns as laws
 use Rattle.output.proofs.Rows as rows
 use Rattle.output.proofs.file.total_size.Statement.{statement}
