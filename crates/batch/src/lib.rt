@@ -1,12 +1,11 @@
 // Commands on standard input, one a line, each answered with one line.
 use feed::Feed;
 use kept::Kept;
-use reads::Ran;
 use reads::Told;
 ghost use mathlib.Core.Path.{_≡_};
 ghost use Prim.Native.Nat.{_≤_, _<_};
 ghost use Rattle.kept.specs.Table.{Tidy};
-ghost use Rattle.feed.specs.Input.{OneLine, FirstNewline, Searched, Fed};
+ghost use Rattle.feed.specs.Input.{FirstNewline, Searched, Fed};
 ghost use Rattle.batch.specs.Turns.{Going};
 use number::FILE_LIMIT;
 
@@ -15,51 +14,6 @@ struct Turn {
     feed: Feed,
     kept: Kept,
     is_open: bool,
-}
-
-// The answer to one line.
-fn answer(
-    line: &[u8],
-    kept: Kept,
-    rows: &mut [usize; 256],
-    store: &mut [u8; 4210688],
-    out: &mut [u8; FILE_LIMIT],
-) -> Ran
-    requires { ⌜ OneLine (now line) × Tidy (now rows) kept ⌝ }
-    ensures { λ r. ⌜ Tidy (now (rows .exit)) (r .kept) ⌝ }
-{
-    let n = line.len();
-    if n == 0 {
-        return Ran {
-            kept,
-            told: reads::mistaken(failures::say_blank()),
-        };
-    }
-    if line[n - 1] == 13 {
-        return Ran {
-            kept,
-            told: reads::mistaken(failures::say_carriage_return()),
-        };
-    }
-    if verbs::has_empty_word(line, b' ') {
-        return Ran {
-            kept,
-            told: reads::mistaken(failures::say_spaces()),
-        };
-    }
-    runs::run(line, b' ', kept, rows, store, out)
-}
-
-// Whether standard output still takes lines; it is said on standard error where it does not.
-fn is_open(told: Told) -> bool {
-    match told {
-        Told::Answer => true,
-        Told::Mistake => true,
-        Told::Closed => {
-            failures::say_output_gone();
-            false
-        }
-    }
 }
 
 // No newline is in the buffer: more is read. A line that fills the buffer is too long; the rest of it is passed over.
@@ -87,7 +41,7 @@ fn refill(feed: Feed, kept: Kept, input: &mut [u8; 65536]) -> Turn
             is_over: false,
         },
         kept,
-        is_open: is_open(told),
+        is_open: runs::is_open(told),
     }
 }
 
@@ -120,13 +74,13 @@ fn take_line(
     }
     let from = feed.from;
     let all: &[u8] = input;
-    let ran = answer(&all[from..stop], kept, rows, store, out);
+    let ran = runs::answer(&all[from..stop], kept, rows, store, out);
     let told = ran.told;
     let kept = ran.kept;
     Turn {
         feed: next,
         kept,
-        is_open: is_open(told),
+        is_open: runs::is_open(told),
     }
 }
 
@@ -169,9 +123,9 @@ fn take_rest(
         return;
     }
     let all: &[u8] = input;
-    let ran = answer(&all[from..end], kept, rows, store, out);
+    let ran = runs::answer(&all[from..end], kept, rows, store, out);
     let told = ran.told;
-    is_open(told);
+    runs::is_open(told);
 }
 
 // All lines of standard input. A loop that is proved has to end, and nothing says that the input does: the turns are counted

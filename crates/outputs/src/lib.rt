@@ -39,7 +39,7 @@ fn put(bytes: &[u8], to: &[u8], said: Said, line: &[u8; 128]) -> Output
 }
 
 // The normal form of the file of this name.
-pub fn normal(file: &[u8], name: &[u8], to: &[u8], out: &mut [u8; FILE_LIMIT]) -> Output {
+fn normal(file: &[u8], name: &[u8], to: &[u8], out: &mut [u8; FILE_LIMIT]) -> Output {
     let mut line = [0u8; 128];
     let done = link::normalise(file, out);
     let said = outcomes::normalised(done, &mut line);
@@ -99,7 +99,7 @@ fn put_linked(
 }
 
 // The normal form of the union of the files of these names.
-pub fn link(
+fn link(
     first_file: &[u8],
     first: &[u8],
     second_file: &[u8],
@@ -109,4 +109,35 @@ pub fn link(
 ) -> Output {
     let done = link::link(first_file, second_file, out);
     put_linked(done, first, second, to, out)
+}
+
+// The normal form of the file to where the line says.
+pub fn put_normal(line: &[u8], separator: u8, file: &[u8], out: &mut [u8; FILE_LIMIT]) -> Output {
+    let word = words::word(line, separator, 1);
+    let target = words::word(line, separator, 2);
+    let a = word.from;
+    let b = word.end;
+    let c = target.from;
+    let d = target.end;
+    normal(file, &line[a..b], &line[c..d], out)
+}
+
+// The normal form of the union of two files to where the line says.
+pub fn put_union(
+    line: &[u8],
+    separator: u8,
+    first: &[u8],
+    second: &[u8],
+    out: &mut [u8; FILE_LIMIT],
+) -> Output {
+    let one = words::word(line, separator, 1);
+    let two = words::word(line, separator, 2);
+    let target = words::word(line, separator, 3);
+    let a = one.from;
+    let b = one.end;
+    let c = two.from;
+    let d = two.end;
+    let e = target.from;
+    let f = target.end;
+    link(first, &line[a..b], second, &line[c..d], &line[e..f], out)
 }

@@ -4,6 +4,7 @@ use reads::Ran;
 use reads::Told;
 use verbs::Verb;
 ghost use Rattle.kept.specs.Table.{Tidy};
+ghost use Rattle.feed.specs.Input.{OneLine};
 use number::FILE_LIMIT;
 
 // The command of a line.
@@ -37,6 +38,51 @@ pub fn run(
             kept,
             told: reads::mistaken(failures::say_usage(verb)),
         },
+    }
+}
+
+// The answer to one line of a batch.
+pub fn answer(
+    line: &[u8],
+    kept: Kept,
+    rows: &mut [usize; 256],
+    store: &mut [u8; 4210688],
+    out: &mut [u8; FILE_LIMIT],
+) -> Ran
+    requires { ⌜ OneLine (now line) × Tidy (now rows) kept ⌝ }
+    ensures { λ r. ⌜ Tidy (now (rows .exit)) (r .kept) ⌝ }
+{
+    let n = line.len();
+    if n == 0 {
+        return Ran {
+            kept,
+            told: reads::mistaken(failures::say_blank()),
+        };
+    }
+    if line[n - 1] == 13 {
+        return Ran {
+            kept,
+            told: reads::mistaken(failures::say_carriage_return()),
+        };
+    }
+    if verbs::has_empty_word(line, b' ') {
+        return Ran {
+            kept,
+            told: reads::mistaken(failures::say_spaces()),
+        };
+    }
+    run(line, b' ', kept, rows, store, out)
+}
+
+// Whether standard output still takes lines; it is said on standard error where it does not.
+pub fn is_open(told: Told) -> bool {
+    match told {
+        Told::Answer => true,
+        Told::Mistake => true,
+        Told::Closed => {
+            failures::say_output_gone();
+            false
+        }
     }
 }
 

@@ -31,17 +31,6 @@ fn put_done(
     Ran { kept, told }
 }
 
-// The normal form of the file to where the line says.
-fn put_normal(line: &[u8], separator: u8, file: &[u8], out: &mut [u8; FILE_LIMIT]) -> Output {
-    let word = words::word(line, separator, 1);
-    let target = words::word(line, separator, 2);
-    let a = word.from;
-    let b = word.end;
-    let c = target.from;
-    let d = target.end;
-    outputs::normal(file, &line[a..b], &line[c..d], out)
-}
-
 // The command `normal`.
 pub fn write_normal(
     line: &[u8],
@@ -67,30 +56,10 @@ pub fn write_normal(
             let from = span.from;
             let end = span.end;
             let all: &[u8] = store;
-            let put = put_normal(line, separator, &all[from..end], out);
+            let put = outputs::put_normal(line, separator, &all[from..end], out);
             put_done(put, line, separator, 2, kept, rows, store)
         }
     }
-}
-
-// The normal form of the union of two files to where the line says.
-fn put_union(
-    line: &[u8],
-    separator: u8,
-    first: &[u8],
-    second: &[u8],
-    out: &mut [u8; FILE_LIMIT],
-) -> Output {
-    let one = words::word(line, separator, 1);
-    let two = words::word(line, separator, 2);
-    let target = words::word(line, separator, 3);
-    let a = one.from;
-    let b = one.end;
-    let c = two.from;
-    let d = two.end;
-    let e = target.from;
-    let f = target.end;
-    outputs::link(first, &line[a..b], second, &line[c..d], &line[e..f], out)
 }
 
 // Both files are in the store.
@@ -112,7 +81,7 @@ fn write_union(
     let k = second.from;
     let l = second.end;
     let all: &[u8] = store;
-    let put = put_union(line, separator, &all[i..j], &all[k..l], out);
+    let put = outputs::put_union(line, separator, &all[i..j], &all[k..l], out);
     put_done(put, line, separator, 3, kept, rows, store)
 }
 
