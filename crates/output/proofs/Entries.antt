@@ -20,7 +20,7 @@ use Rattle.bridge.specs.Span.{span}
 use Rattle.bridge.proofs.Spans.{length-span}
 use Rattle.rows.specs.Files.{Pair}
 use Rattle.output.specs.View.{rowKey, rowOwn, entryOf, viewEntry, viewEntries, capped, viewLength}
-use Rattle.output.specs.Row.{keySize, keyBytes, partsOf, pointerTo, rowBytes}
+use Rattle.entries.specs.Row.{keySize, keyBytes, partsOf, pointerTo, rowBytes}
 
 -- ---- one entry
 

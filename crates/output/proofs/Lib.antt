@@ -1,6 +1,4 @@
 pub mod Areas
-pub mod Fields
-pub mod Words
 pub mod Owns
 pub mod Rows
 pub mod Entries

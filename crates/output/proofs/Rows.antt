@@ -27,10 +27,10 @@ use Rattle.bridge.specs.Written.{heldIn, countedOf}
 use Rattle.bridge.proofs.Rows.{row-first, row-second, key-first, key-second, reference-first, reference-second}
 use Rattle.bridge.proofs.Pairs.{held-none, held-some}
 use Rattle.writing.specs.Source.{renumber}
-use Rattle.output.specs.declared.Parts.{Parts}
+use Rattle.entries.specs.declared.Parts.{Parts}
 use Rattle.rows.specs.Files.{Holds, Pair, HoldBoth, Gives, Puts}
 use Rattle.output.specs.View.{rowKey, rowOwn, placeOf}
-use Rattle.output.specs.Row.{keySize, keyBytes, partsOf}
+use Rattle.entries.specs.Row.{keySize, keyBytes, partsOf}
 use Rattle.output.proofs.Owns as owns
 
 -- ---- an entry of one file, by its pool pointers

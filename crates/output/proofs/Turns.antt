@@ -17,14 +17,14 @@ use Rattle.normal.proofs.Minors.{minor-newest}
 use Rattle.iids.specs.Cells.{cell}
 use Rattle.iids.specs.Numbers.{wide, numberIn}
 use Rattle.writing.proofs.Lent.{rest, back, lent}
-use Rattle.output.specs.declared.Parts.{Parts}
+use Rattle.entries.specs.declared.Parts.{Parts}
 use Rattle.rows.specs.Files.{Pair, Fits, Gives}
 use Rattle.output.specs.View.{rowKey, rowOwn, entryOf, viewEntry, viewEntries, Viewed, placeOf, capped, viewLength, viewBytes}
-use Rattle.output.specs.Front.{directoryAt, frontHeader, frontBytes}
-use Rattle.output.specs.Row.{keySize, keyBytes, partsOf, rowBytes}
+use Rattle.entries.specs.Front.{directoryAt, frontHeader, frontBytes}
+use Rattle.entries.specs.Row.{keySize, keyBytes, partsOf, rowBytes}
 use Rattle.output.proofs.Areas.{sets-comm, both-more}
-use Rattle.output.proofs.Fields.{length-front}
-use Rattle.output.proofs.Words.{parts-size, length-key}
+use Rattle.entries.proofs.Fields.{length-front}
+use Rattle.entries.proofs.Words.{parts-size, length-key}
 use Rattle.output.proofs.Entries.{row-size, row-pool, row-bytes, directory-more, pool-more, entries-more, length-entries, view-none, view-length, size-more, within, length-more, length-rises, capped-whole, capped-over}
 
 -- ---- one entry

@@ -3,16 +3,8 @@
 ghost use mathlib.Core.Path.{_≡_};
 
 pub mod file;
-mod front;
 mod keys;
 mod own;
-mod row;
-
-// How many bytes the name and the namespace of a key take in the pool.
-pub struct Parts {
-    pub name: usize,
-    pub space: usize,
-}
 
 fn index(x: u16) -> usize
     ensures { λ r. ⌜ r ≡ x ⌝ }

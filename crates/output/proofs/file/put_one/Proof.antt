@@ -6,7 +6,7 @@ use Rattle.normal.specs.Normal.{ownBytes}
 use Rattle.iids.specs.Numbers.{wide}
 use Rattle.writing.proofs.Lent.{back}
 use Rattle.output.specs.View.{rowKey, rowOwn, placeOf}
-use Rattle.output.specs.Row.{keyBytes}
+use Rattle.entries.specs.Row.{keyBytes}
 use Rattle.output.proofs.Entries as entries
 use Rattle.output.proofs.Turns as laws
 use Rattle.output.proofs.file.put_one.Statement.{statement}

@@ -4,7 +4,7 @@ ghost use Prim.Native.Nat.{_≤_};
 ghost use lib.ListN.{length};
 ghost use lib.Seq.{sets};
 ghost use Rattle.number.specs.Limits.{fileLimit, entryLimit};
-ghost use Rattle.output.specs.Front.{directoryAt, frontBytes};
+ghost use Rattle.entries.specs.Front.{directoryAt, frontBytes};
 use number::ENTRY_WIDTH;
 
 // The directory's offset, 0 where it has no entry.

@@ -1,9 +1,9 @@
--- `output::row::pointer` meets its contract.
+-- `entries::row::pointer` meets its contract.
 -- Assumes nothing.
 use Rattle.number.proofs.Tools.{arith, needs}
-use Rattle.output.proofs.Fields as laws
-use Rattle.output.proofs.row.pointer.Statement.{statement}
-use Rattle.output.proofs.row.pointer.Tie as tie
+use Rattle.entries.proofs.Fields as laws
+use Rattle.entries.proofs.row.pointer.Statement.{statement}
+use Rattle.entries.proofs.row.pointer.Tie as tie
 
 returns : tie.Need-returns
 returns c = laws.pointer-none _ _ (omega arith)

@@ -14,9 +14,9 @@ use Rattle.normal.specs.Normal.{headerBytes, noteBytes}
 use Rattle.normal.proofs.Numbers.{bytes-add}
 use Rattle.normal.proofs.Lengths.{length-bytes, length-header}
 use Rattle.iids.specs.Numbers.{wide}
-use Rattle.output.specs.declared.Parts.{Parts}
-use Rattle.output.specs.Front.{directoryAt, frontHeader, frontBytes}
-use Rattle.output.specs.Row.{pointerTo, rowBytes}
+use Rattle.entries.specs.declared.Parts.{Parts}
+use Rattle.entries.specs.Front.{directoryAt, frontHeader, frontBytes}
+use Rattle.entries.specs.Row.{pointerTo, rowBytes}
 
 -- ---- before the directory
 

@@ -1,10 +1,10 @@
--- `output::keys::space_size` meets its contract.
+-- `entries::keys::space_size` meets its contract.
 -- Assumes nothing.
 use Rattle.number.proofs.Tools.{sym, _∙_, arith, needs}
 use Rattle.key.proofs.Walks.{space-default, leads-in}
-use Rattle.output.proofs.Words as laws
-use Rattle.output.proofs.keys.space_size.Statement.{statement}
-use Rattle.output.proofs.keys.space_size.Tie as tie
+use Rattle.entries.proofs.Words as laws
+use Rattle.entries.proofs.keys.space_size.Statement.{statement}
+use Rattle.entries.proofs.keys.space_size.Tie as tie
 
 returns : tie.Need-returns
 returns c = laws.none-size (space-default (c .before .before .args .pool .now) (c .before .before .args .v) (omega arith))

@@ -1,9 +1,9 @@
--- `output::keys::key_parts` meets its contract.
+-- `entries::keys::key_parts` meets its contract.
 -- Assumes nothing.
 use Rattle.number.proofs.Tools.{needs}
-use Rattle.output.proofs.Words as laws
-use Rattle.output.proofs.keys.key_parts.Statement.{statement}
-use Rattle.output.proofs.keys.key_parts.Tie as tie
+use Rattle.entries.proofs.Words as laws
+use Rattle.entries.proofs.keys.key_parts.Statement.{statement}
+use Rattle.entries.proofs.keys.key_parts.Tie as tie
 
 returns : tie.Need-returns
 returns c = laws.parts-at (c .before .before .before .args .pool .now) (c .before .before .before .args .v) (c .before .before .before .args .q) _ (c .before .name-size .ensures) (c .space-size .ensures)

@@ -1,11 +1,11 @@
--- `output::front::put_front` meets its contract: one field after another.
+-- `entries::front::put_front` meets its contract: one field after another.
 -- Assumes nothing.
 use lib.ListN.{length-set}
 use Rattle.number.proofs.Tools.{arith, needs}
 use Rattle.normal.specs.Normal.{noteBytes}
-use Rattle.output.proofs.Fields as laws
-use Rattle.output.proofs.front.put_front.Statement.{statement}
-use Rattle.output.proofs.front.put_front.Tie as tie
+use Rattle.entries.proofs.Fields as laws
+use Rattle.entries.proofs.front.put_front.Statement.{statement}
+use Rattle.entries.proofs.front.put_front.Tie as tie
 
 returns : tie.Need-returns
 returns c =

@@ -16,8 +16,8 @@ use Rattle.normal.specs.Record.{nameBytes}
 use Rattle.normal.specs.Normal.{spaceBytes}
 use Rattle.normal.proofs.Lengths.{length-name, length-space}
 use Rattle.writing.proofs.Lent.{rest, back, lent-after}
-use Rattle.output.specs.declared.Parts.{Parts}
-use Rattle.output.specs.Row.{keySize, keyBytes, partsOf}
+use Rattle.entries.specs.declared.Parts.{Parts}
+use Rattle.entries.specs.Row.{keySize, keyBytes, partsOf}
 
 -- ---- a namespace
 

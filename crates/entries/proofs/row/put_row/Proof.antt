@@ -1,9 +1,9 @@
--- `output::row::put_row` meets its contract: one field after another.
+-- `entries::row::put_row` meets its contract: one field after another.
 -- Assumes nothing.
 use Rattle.number.proofs.Tools.{arith, needs}
-use Rattle.output.proofs.Fields as laws
-use Rattle.output.proofs.row.put_row.Statement.{statement}
-use Rattle.output.proofs.row.put_row.Tie as tie
+use Rattle.entries.proofs.Fields as laws
+use Rattle.entries.proofs.row.put_row.Statement.{statement}
+use Rattle.entries.proofs.row.put_row.Tie as tie
 
 returns : tie.Need-returns
 returns c =

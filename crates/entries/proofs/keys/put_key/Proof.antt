@@ -1,10 +1,10 @@
--- `output::keys::put_key` meets its contract: the namespace right after the name.
+-- `entries::keys::put_key` meets its contract: the namespace right after the name.
 -- Assumes nothing.
 use Rattle.number.proofs.Tools.{arith, needs}
 use lib.ListN.{length-take, length-drop}
-use Rattle.output.proofs.Words as laws
-use Rattle.output.proofs.keys.put_key.Statement.{statement}
-use Rattle.output.proofs.keys.put_key.Tie as tie
+use Rattle.entries.proofs.Words as laws
+use Rattle.entries.proofs.keys.put_key.Statement.{statement}
+use Rattle.entries.proofs.keys.put_key.Tie as tie
 
 put-name-requires : tie.Need-put-name-requires
 put-name-requires c κs =

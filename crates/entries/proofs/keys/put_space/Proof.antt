@@ -1,11 +1,11 @@
--- `output::keys::put_space` meets its contract.
+-- `entries::keys::put_space` meets its contract.
 -- Assumes nothing.
 use Rattle.number.proofs.Tools.{sym, ap, _∙_, arith, needs}
 use lib.Seq.{sets}
 use Rattle.key.proofs.Walks.{space-default, leads-in}
-use Rattle.output.proofs.Words as laws
-use Rattle.output.proofs.keys.put_space.Statement.{statement}
-use Rattle.output.proofs.keys.put_space.Tie as tie
+use Rattle.entries.proofs.Words as laws
+use Rattle.entries.proofs.keys.put_space.Statement.{statement}
+use Rattle.entries.proofs.keys.put_space.Tie as tie
 
 returns : tie.Need-returns
 returns c =

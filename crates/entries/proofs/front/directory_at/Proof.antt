@@ -1,9 +1,9 @@
--- `output::front::directory_at` meets its contract.
+-- `entries::front::directory_at` meets its contract.
 -- Assumes nothing.
 use Rattle.number.proofs.Tools.{arith}
-use Rattle.output.proofs.Fields as laws
-use Rattle.output.proofs.front.directory_at.Statement.{statement}
-use Rattle.output.proofs.front.directory_at.Tie as tie
+use Rattle.entries.proofs.Fields as laws
+use Rattle.entries.proofs.front.directory_at.Statement.{statement}
+use Rattle.entries.proofs.front.directory_at.Tie as tie
 
 returns : tie.Need-returns
 returns c = laws.directory-none _ (omega arith)

@@ -8,7 +8,7 @@ use Rattle.normal.specs.BigEndian.{bytesOf}
 use Rattle.normal.specs.Size.{nameSize, spaceSize}
 use Rattle.normal.specs.Record.{nameBytes}
 use Rattle.normal.specs.Normal.{spaceBytes}
-use Rattle.output.specs.declared.Parts.{Parts}
+use Rattle.entries.specs.declared.Parts.{Parts}
 
 -- what a key takes in the pool: its name, and its namespace if any
 unfoldable pub keySize : Key → ℕ

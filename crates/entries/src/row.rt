@@ -5,7 +5,7 @@ ghost use lib.ListN.{length};
 ghost use lib.Seq.{sets};
 ghost use Rattle.number.specs.Limits.{entryWidth};
 ghost use Rattle.iids.specs.Numbers.{wide};
-ghost use Rattle.output.specs.Row.{pointerTo, rowBytes};
+ghost use Rattle.entries.specs.Row.{pointerTo, rowBytes};
 use crate::Parts;
 use writing::field::put_u32;
 use writing::field::put_u64;
