@@ -1,76 +1,63 @@
-//! A second, independent program for document 01: the check of a typelib, its questions, listing,
-//! normal form and links, and what compares them with the first.
+//! A second, independent program for document 01, and what compares it with the proved one.
+//!
+//! - `program`: the program itself, from document 01 and the readings alone;
+//! - `making`: generating and damaging typelibs;
+//! - `library`: comparing through the static library (the calls themselves: `linked/`);
+//! - `line`: comparing through the command line, `xpt` and the listing program;
+//! - `floors`: the one table of what must come at least, with `tally`, which counts.
+//!
+//! Where to add
+//!
+//! - a limit, a tag, a flag or a refusal's number: `program/format.rs`, then its rule in the
+//!   module of `program` that meets it;
+//! - a generator: a function in `making/generate.rs` (good files) or `making/pairs.rs` (files to be
+//!   linked), and a line in `damage::everything` or `links::run`;
+//! - a fault with a known refusal: `making/faults.rs`, in its field's row; damage of another kind:
+//!   a function in `making/damage.rs` and a line in `damage::everything`;
+//! - a floor: a row of `floors.txt`; what counts for it is the row's name in `Tally::add`;
+//! - a call of the library: a field of `library::Program`, its `extern` in `linked/src/lib.rs`, a
+//!   kind of `Asked` in `library/cases.rs`, and a driver beside `library/questions.rs`;
+//! - a command of `xpt`: its answer in `line/answers.rs`, a method of `Script`, and a story.
 
-pub mod accepted;
-pub mod asking;
-pub mod bench;
-pub mod buffers;
-pub mod builder;
-pub mod cases;
-pub mod check;
-pub mod clauses;
-pub mod cli;
-pub mod closing;
-pub mod coverage;
-pub mod damage;
-pub mod generate;
-pub mod hostile;
-pub mod laws;
-pub mod least;
-pub mod link;
-#[cfg(feature = "linked")]
-pub mod linked;
-pub mod linking;
-pub mod listed;
-pub mod listing;
-pub mod model;
-pub mod normal;
-pub mod outline;
-pub mod pairs;
-pub mod questions;
-pub mod rng;
-pub mod session;
-pub mod shape;
-pub mod shrink;
+pub mod floors;
+pub mod library;
+pub mod line;
+pub mod making;
+pub mod program;
 pub mod tally;
 
-/// What a check answers.
-pub type Answer = Result<usize, check::Refusal>;
+use std::process::ExitCode;
+use std::sync::Mutex;
 
-pub type Check = fn(&[u8]) -> Answer;
-
-/// What a run is asked for on the command line: names of parts, none for all, a seed, and whether
-/// it is to be long.
-pub struct Chosen {
-    parts: Vec<String>,
-    pub seed: u64,
-    pub long: bool,
+/// Tells how a comparison ended.
+pub fn ended(good: std::io::Result<bool>) -> ExitCode {
+    match good {
+        Ok(true) => println!("no difference"),
+        Ok(false) => return ExitCode::FAILURE,
+        Err(error) => {
+            eprintln!("{error}");
+            return ExitCode::FAILURE;
+        }
+    }
+    ExitCode::SUCCESS
 }
 
-/// The word for a long run.
-pub const LONG: &str = "long";
-
-impl Chosen {
-    const SEED: u64 = 2;
-
-    /// Ends the program where a part is not known.
-    pub fn from_arguments(known: &[&str]) -> Chosen {
-        let mut chosen = Chosen { parts: Vec::new(), seed: Chosen::SEED, long: false };
-        for argument in std::env::args().skip(1) {
-            match argument.parse() {
-                Ok(seed) => chosen.seed = seed,
-                Err(_) if argument == LONG && known.contains(&LONG) => chosen.long = true,
-                Err(_) if known.contains(&&*argument) => chosen.parts.push(argument),
-                Err(_) => {
-                    eprintln!("{argument} is none of: {}, or a seed", known.join(", "));
-                    std::process::exit(2);
+/// Gives each item to `task` on one of as many threads as there are cores; results in order.
+pub fn in_parallel<T: Send, R: Send>(items: Vec<T>, task: impl Fn(T) -> R + Sync) -> Vec<R> {
+    let cores = std::thread::available_parallelism().map_or(1, |cores| cores.get());
+    let mut results: Vec<Option<R>> = Vec::new();
+    results.resize_with(items.len(), || None);
+    let (waiting, done) = (Mutex::new(items.into_iter().enumerate()), Mutex::new(&mut results));
+    let next = || waiting.lock().unwrap().next();
+    std::thread::scope(|scope| {
+        for _ in 0..cores {
+            scope.spawn(|| {
+                while let Some((i, item)) = next() {
+                    let result = task(item);
+                    done.lock().unwrap()[i] = Some(result);
                 }
-            }
+            });
         }
-        chosen
-    }
-
-    pub fn has(&self, part: &str) -> bool {
-        self.parts.is_empty() || self.parts.iter().any(|chosen| chosen == part)
-    }
+    });
+    results.into_iter().map(|result| result.expect("every item is done")).collect()
 }

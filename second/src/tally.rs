@@ -1,70 +1,164 @@
-//! Counts of what was covered, as a table with floors.
+//! Counts of what was compared, row by row, held against the floors.
 
-use std::collections::{BTreeMap, HashSet};
+use crate::floors;
+use std::collections::hash_map::DefaultHasher;
+use std::collections::{BTreeSet, HashMap, HashSet};
+use std::hash::{Hash, Hasher};
 
-/// A row: what it is about, and what came.
+/// What a row is about, and what came.
 pub type Row = (&'static str, &'static str);
 
-/// How often a row must come at least, and at how many different places.
-pub type Floor = (Row, usize, usize);
+/// Count, places, files, ways.
+pub type Numbers = [usize; 4];
+
+/// One thing that was compared, as far as it is to be counted.
+#[derive(Clone, Copy, Default)]
+pub struct Came {
+    pub place: Option<u64>,
+    /// Tells files apart: their hash, or the number of the file that they were made from.
+    pub file: Option<u64>,
+    /// How it was made.
+    pub way: Option<&'static str>,
+}
 
 #[derive(Default)]
+struct Counts {
+    count: usize,
+    places: HashSet<u64>,
+    files: HashSet<u64>,
+    ways: BTreeSet<&'static str>,
+}
+
+impl Counts {
+    fn numbers(&self) -> Numbers {
+        [self.count, self.places.len(), self.files.len(), self.ways.len()]
+    }
+}
+
+/// The counts of one part of a run.
 pub struct Tally {
-    rows: BTreeMap<Row, (usize, HashSet<u64>)>,
+    part: &'static str,
+    rows: HashMap<Row, Counts>,
+}
+
+/// Texts with a number in them, by number: those of refusals.
+macro_rules! numbered {
+    ($before:literal, $after:literal) => {
+        numbered!($before, $after: 0 1 2 3 4 5 6 7 8 9 10 11 12 13 14 15 16 17 18 19 20 21 22 23 24
+            25 26 27 28 29 30 31 32 33 34 35 36 37 38 39 40 41 42 43 44 45)
+    };
+    ($before:literal, $after:literal: $($number:literal)*) => {
+        &[$(concat!($before, $number, $after)),*]
+    };
+}
+pub(crate) use numbered;
+
+pub const NUMBER: &[&str] = numbered!("", "");
+pub const REFUSED: &[&str] = numbered!("refused ", "");
+pub const REFUSAL: &[&str] = numbered!("refusal ", "");
+pub const LINK: &[&str] = numbered!("link ", "");
+
+/// Tells files and rows of files apart.
+pub fn hash(files: &[&[u8]]) -> u64 {
+    let mut hasher = DefaultHasher::new();
+    files.hash(&mut hasher);
+    hasher.finish()
 }
 
 impl Tally {
+    pub fn new(part: &'static str) -> Tally {
+        Tally { part, rows: HashMap::new() }
+    }
+
+    pub fn part(&self) -> &'static str {
+        self.part
+    }
+
+    /// Many at once, of which nothing else is known.
+    pub fn add_many(&mut self, about: &'static str, what: &'static str, count: usize) {
+        self.rows.entry((about, what)).or_default().count += count;
+    }
+
     pub fn add(&mut self, about: &'static str, what: &'static str) {
-        self.rows.entry((about, what)).or_default().0 += 1;
+        self.came(about, what, Came::default());
     }
 
     pub fn add_at(&mut self, about: &'static str, what: &'static str, place: u64) {
-        let (count, places) = self.rows.entry((about, what)).or_default();
-        *count += 1;
-        places.insert(place);
+        self.came(about, what, Came { place: Some(place), ..Came::default() });
+    }
+
+    pub fn came(&mut self, about: &'static str, what: &'static str, came: Came) {
+        let row = self.rows.entry((about, what)).or_default();
+        row.count += 1;
+        row.places.extend(came.place);
+        row.files.extend(came.file);
+        row.ways.extend(came.way);
     }
 
     pub fn count(&self, about: &'static str, what: &'static str) -> usize {
-        self.rows.get(&(about, what)).map_or(0, |row| row.0)
+        self.numbers(&(about, what))[0]
     }
 
-    /// Prints the table. Whether every floor is reached.
-    pub fn report(&self, floors: &[Floor]) -> bool {
-        self.report_if(floors, true)
+    fn numbers(&self, row: &Row) -> Numbers {
+        self.rows.get(row).map_or([0; 4], Counts::numbers)
     }
 
-    /// The same; the table is printed only if it is asked for.
-    pub fn report_if(&self, floors: &[Floor], printed: bool) -> bool {
-        let floor = |row: &Row| floors.iter().find(|floor| floor.0 == *row);
-        if printed {
-            println!(
-                "about        what                                       count  places   (at least)"
-            );
+    /// Adds what came elsewhere in the same part.
+    pub fn join(&mut self, other: Tally) {
+        for (row, more) in other.rows {
+            let counts = self.rows.entry(row).or_default();
+            counts.count += more.count;
+            counts.places.extend(more.places);
+            counts.files.extend(more.files);
+            counts.ways.extend(more.ways);
         }
-        let mut rows: BTreeMap<Row, (usize, usize)> =
-            floors.iter().map(|(row, ..)| (*row, (0, 0))).collect();
-        rows.extend(self.rows.iter().map(|(row, (count, places))| (*row, (*count, places.len()))));
-        let mut short = Vec::new();
-        for (row, (count, places)) in rows {
-            let (about, what) = row;
-            let shown = if places > 0 { places.to_string() } else { String::new() };
-            let mut least = String::new();
-            if let Some((_, least_count, least_places)) = floor(&row) {
-                least = match least_places {
-                    0 => format!("   ({least_count})"),
-                    _ => format!("   ({least_count}, {least_places})"),
-                };
-                if count < *least_count || places < *least_places {
-                    short.push(row);
-                }
-            }
-            if printed {
-                println!("{about:<13}{what:<38}{count:>10}{shown:>8}{least}");
-            }
+    }
+
+    /// The rows that fall short of these floors.
+    pub fn short(&self, floors: &[(Row, Numbers)]) -> Vec<Row> {
+        let falls = |(row, least): &&(Row, Numbers)| {
+            self.numbers(row).iter().zip(least).any(|(came, least)| came < least)
+        };
+        floors.iter().filter(falls).map(|(row, _)| *row).collect()
+    }
+
+    /// Whether every floor of the part is reached; if not the table is printed.
+    pub fn is_enough(&self) -> bool {
+        let short = self.short(&floors::of(self.part));
+        if !short.is_empty() {
+            self.print();
         }
         for (about, what) in &short {
-            println!("TOO FEW: {about}, {what}");
+            println!("TOO FEW: {}, {about}, {what}", self.part);
         }
         short.is_empty()
+    }
+
+    /// Prints the table: rows with floors in their order, then the others.
+    pub fn print(&self) {
+        let [count, places, files, ways] = ["count", "places", "files", "ways"];
+        println!("{:<20}{:<39}{count:>9}{places:>8}{files:>8}{ways:>6}   at least", self.part, "");
+        let floors = floors::of(self.part);
+        let has_floor: HashSet<Row> = floors.iter().map(|(row, _)| *row).collect();
+        let mut others: Vec<_> = self.rows.keys().filter(|row| !has_floor.contains(row)).collect();
+        others.sort_unstable();
+        let others = others.into_iter().map(|row| (*row, [0; 4]));
+        for (row, least) in floors.into_iter().chain(others) {
+            let [count, places, files, ways] = self.numbers(&row).map(|number| match number {
+                0 => String::new(),
+                number => number.to_string(),
+            });
+            let names = ["", " places", " files", " ways"];
+            let least = least.iter().zip(names).filter(|(least, _)| **least > 0);
+            let least: Vec<_> = least.map(|(least, name)| format!("{least}{name}")).collect();
+            let line = format!(
+                "{:<20}{:<39}{count:>9}{places:>8}{files:>8}{ways:>6}   {}",
+                row.0,
+                row.1,
+                least.join(", ")
+            );
+            println!("{}", line.trim_end());
+        }
+        println!();
     }
 }

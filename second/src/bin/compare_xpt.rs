@@ -1,45 +1,29 @@
 //! Runs the command-line program `xpt` on many files, in batches and one command at a time: fails
 //! where it answers, writes or tells anything else than this program says, and where too little
 //! was covered.
-//! usage: compare_xpt XPT [batch] [single] [long] [SEED]
+//! usage: compare_xpt XPT [batches] [alone] [long] [SEED]
 //!
-//! Without `batch` and `single` both are run. `long` runs ten times as much.
+//! Without names of parts all are run. `long` runs with ten seeds.
 
-use second::cli::{self, Program};
+use second::line::{process::Program, run, PARTS};
 use std::path::Path;
 use std::process::ExitCode;
 
 fn main() -> ExitCode {
-    let arguments: Vec<String> = std::env::args().skip(1).collect();
-    let Some((program, rest)) = arguments.split_first() else {
-        eprintln!("usage: compare_xpt XPT [batch] [single] [long] [SEED]");
-        return ExitCode::from(2);
-    };
-    let (mut batch, mut single, mut rounds, mut seed) = (false, false, 1, 2);
-    for argument in rest {
-        match (&**argument, argument.parse()) {
-            ("batch", _) => batch = true,
-            ("single", _) => single = true,
-            ("long", _) => rounds = 10,
+    let mut arguments = std::env::args().skip(1);
+    let path = arguments.next().unwrap_or_default();
+    let (mut parts, mut rounds, mut seed) = (Vec::new(), 1, 2);
+    for argument in arguments {
+        match (PARTS.iter().find(|(name, ..)| *name == argument), argument.parse()) {
+            (Some(part), _) => parts.push(*part),
             (_, Ok(number)) => seed = number,
+            _ if argument == "long" => rounds = 10,
             _ => {
-                eprintln!("{argument} is none of: batch, single, long, or a seed");
+                eprintln!("usage: compare_xpt XPT [batches] [alone] [long] [SEED]");
                 return ExitCode::from(2);
             }
         }
     }
-    let both = !batch && !single;
-    let program = match Program::new(Path::new(program), &[]) {
-        Ok(program) => program,
-        Err(error) => {
-            eprintln!("{program}: {error}");
-            return ExitCode::from(2);
-        }
-    };
-    if cli::run(&program, batch || both, single || both, rounds, seed) {
-        println!("no difference");
-        ExitCode::SUCCESS
-    } else {
-        ExitCode::FAILURE
-    }
+    let parts = if parts.is_empty() { PARTS.to_vec() } else { parts };
+    second::ended(Program::new(Path::new(&path)).and_then(|xpt| run(&xpt, &parts, seed, rounds)))
 }

@@ -1,10 +1,7 @@
 //! Writes the typelibs of examples/ into the folder given: a console's alarm lists as two suppliers compiled them, an older file
 //! of the second that says otherwise, and its file as a bad transfer left it.
 
-use second::builder::{
-    Annotation, Constant, Descriptor, Entry, Method, Parameter, Type, Typelib, GETTER, HIDDEN, IN,
-    INTERFACE, NOT_XPCOM, OUT, POINTER, RETVAL, SETTER, UINT32,
-};
+use second::making::builder::*;
 use std::path::Path;
 use std::process::ExitCode;
 
@@ -14,8 +11,6 @@ const DOUBLE: u8 = 9;
 const STRING: u8 = POINTER | 16;
 const IID_REFERENCE: u8 = POINTER | 0x20 | 14;
 
-const SCRIPTABLE: u8 = 0x80;
-
 // IIDs, by their last bytes; nsISupports has its own.
 const SUPPORTS: u128 = 0x00000000_0000_0000_c000_000000000046;
 const STATION: u128 = 0x1d3f5a10_7c2e_4b61_9a40_2b7c91e00a01;
@@ -24,8 +19,9 @@ const GAS_ANALYSER: u128 = 0x5e71a8d2_0f3c_4c95_b7e8_19ad5c402203;
 const GAS_ALARM_LIST: u128 = 0x9c04b7f1_63de_4a28_a1f5_8e20d74b3304;
 
 fn named(iid: u128, namespace: &str, name: &str, descriptor: Option<usize>) -> Entry {
-    let namespace = Some(namespace.as_bytes().to_vec()).filter(|bytes| !bytes.is_empty());
-    Entry { iid: iid.to_be_bytes(), name: name.as_bytes().to_vec(), namespace, descriptor }
+    let mut entry = Entry { iid: iid.to_be_bytes(), descriptor, ..Entry::new(0, name) };
+    entry.set_key(namespace, name);
+    entry
 }
 
 /// An argument that is given in.
@@ -43,39 +39,25 @@ fn handed(leaf: u8) -> Parameter {
     Parameter::new(OUT | RETVAL, Type::simple(leaf))
 }
 
-fn result() -> Parameter {
-    Parameter::new(0, Type::simple(UINT32))
-}
-
 fn call(name: &str, arguments: Vec<Parameter>) -> Method {
-    Method::new(0, name.as_bytes(), arguments, result())
+    Method::new(0, name.as_bytes(), arguments, Parameter::new(0, Type::simple(UINT32)))
 }
 
 fn getter(name: &str, leaf: u8) -> Method {
-    Method::new(GETTER, name.as_bytes(), vec![handed(leaf)], result())
+    Method { flags: GETTER, ..call(name, vec![handed(leaf)]) }
 }
 
 fn setter(name: &str, leaf: u8) -> Method {
-    Method::new(SETTER, name.as_bytes(), vec![given(leaf)], result())
+    Method { flags: SETTER, ..call(name, vec![given(leaf)]) }
 }
 
 /// The three methods that every interface starts with.
 fn supports() -> Descriptor {
-    let counted = |name: &str| {
-        Method::new(
-            NOT_XPCOM | HIDDEN,
-            name.as_bytes(),
-            vec![],
-            Parameter::new(0, Type::simple(UINT32)),
-        )
-    };
+    let counted = |name: &str| Method { flags: NOT_XPCOM | HIDDEN, ..call(name, vec![]) };
     let answer = Parameter::new(OUT | RETVAL, Type::with(POINTER | 19, [0, 0, 0]));
     let query = call("QueryInterface", vec![given(IID_REFERENCE), answer]);
-    Descriptor {
-        methods: vec![query, counted("AddRef"), counted("Release")],
-        flags: SCRIPTABLE,
-        ..Descriptor::default()
-    }
+    let methods = vec![query, counted("AddRef"), counted("Release")];
+    Descriptor { methods, flags: SCRIPTABLE, ..Descriptor::default() }
 }
 
 fn station(parent: u16) -> Descriptor {
@@ -137,12 +119,11 @@ fn signed(text: &str) -> Vec<Annotation> {
 /// The first supplier's file: all but the analyser, which it only names.
 fn alarms() -> Vec<u8> {
     let mut lib = Typelib { annotations: signed("xpidl at Northgate"), ..Typelib::default() };
-    let (supports, station, list) =
-        (lib.add(supports()), lib.add(station(1)), lib.add(alarm_list(2, 4)));
+    lib.descriptors = vec![supports(), station(1), alarm_list(2, 4)];
     lib.entries = vec![
-        named(SUPPORTS, "", "nsISupports", Some(supports)),
-        named(STATION, "console", "IStation", Some(station)),
-        named(ALARM_LIST, "console", "IAlarmList", Some(list)),
+        named(SUPPORTS, "", "nsISupports", Some(0)),
+        named(STATION, "console", "IStation", Some(1)),
+        named(ALARM_LIST, "console", "IAlarmList", Some(2)),
         named(GAS_ANALYSER, "gas", "IGasAnalyser", None),
     ];
     lib.bytes()
@@ -151,12 +132,12 @@ fn alarms() -> Vec<u8> {
 /// The second supplier's file: the analyser, and an alarm list over the first supplier's, which it only names.
 fn gas(is_old: bool) -> Vec<u8> {
     let mut lib = Typelib { annotations: signed("xpidl at Kestrel"), ..Typelib::default() };
-    let (analyser, list) = (lib.add(gas_analyser(1, is_old)), lib.add(gas_alarm_list(2)));
+    lib.descriptors = vec![gas_analyser(1, is_old), gas_alarm_list(2)];
     lib.entries = vec![
         named(0, "", "nsISupports", None),
         named(ALARM_LIST, "console", "IAlarmList", None),
-        named(GAS_ANALYSER, "gas", "IGasAnalyser", Some(analyser)),
-        named(GAS_ALARM_LIST, "gas", "IGasAlarmList", Some(list)),
+        named(GAS_ANALYSER, "gas", "IGasAnalyser", Some(0)),
+        named(GAS_ALARM_LIST, "gas", "IGasAlarmList", Some(1)),
     ];
     lib.bytes()
 }

@@ -8,5 +8,5 @@ fn main() -> io::Result<()> {
         eprintln!("usage: list FILE");
         std::process::exit(2);
     };
-    second::listing::list(&std::fs::read(path)?, &mut io::stdout().lock())
+    second::program::listing::list(&std::fs::read(path)?, &mut io::stdout().lock())
 }

@@ -1,0 +1,556 @@
+//! Normal forms and links of many files: answers, every byte of the buffers, and the laws of
+//! linking.
+
+use super::buffers::{lent, Room, GUARD, ROOMS};
+use super::cases::Asked;
+use super::{Session, OWN};
+use crate::making::builder::Typelib;
+use crate::making::rng::Rng;
+use crate::making::{damage, generate, hostile, model, pairs, shape};
+use crate::program::check::check;
+use crate::program::format::{refusal, Refusal, MAX_FILE};
+use crate::program::link::LinkRefusal;
+use crate::tally::{hash, numbered, Came, LINK, REFUSAL};
+use std::collections::HashMap;
+
+/// What a call wrote, or its refusal.
+type Written = Result<Vec<u8>, LinkRefusal>;
+
+/// Whether two links in the two orders agree as they must.
+fn swapped(one: &Written, two: &Written) -> bool {
+    match (one, two) {
+        (Ok(one), Ok(two)) => one == two,
+        (Err(one), Err(two)) => one.0 == two.0 && one.1.number == two.1.number,
+        _ => false,
+    }
+}
+
+/// Whether two ways to group agree as they must.
+fn grouped(left: &Written, right: &Written) -> bool {
+    match (left, right) {
+        (Ok(left), Ok(right)) => left == right,
+        (left, right) => left.is_err() && right.is_err(),
+    }
+}
+
+/// A file, with its model where it is accepted.
+struct File {
+    bytes: Vec<u8>,
+    model: Result<Typelib, Refusal>,
+}
+
+impl File {
+    fn new(bytes: Vec<u8>) -> File {
+        let model = check(&bytes).map(|_| model::read(&bytes));
+        File { bytes, model }
+    }
+
+    fn of(lib: &Typelib) -> File {
+        File::new(lib.bytes())
+    }
+}
+
+pub const FORWARD: &str = "first with second";
+pub const BACKWARD: &str = "second with first";
+const ORDERS: [&str; 2] = [FORWARD, BACKWARD];
+
+const NORMAL: &[&str] = numbered!("normal ", "");
+
+struct Run<'s> {
+    session: &'s mut Session,
+    rng: Rng,
+    /// Buffers are filled with parts of it before each call.
+    noise: Vec<u8>,
+    scratch: Vec<u8>,
+}
+
+fn bytes<'f>(files: &[&'f File]) -> Vec<&'f [u8]> {
+    files.iter().map(|file| &file.bytes[..]).collect()
+}
+
+/// What tells a row of files from others.
+fn together(files: &[&File]) -> Came {
+    Came { file: Some(hash(&bytes(files))), ..Came::default() }
+}
+
+/// The place of a row is the number of the refusal.
+fn numbered_by(answer: &Written) -> Option<u64> {
+    answer.as_ref().err().map(|(_, refusal)| refusal.number.into())
+}
+
+impl Run<'_> {
+    fn differs(&self) -> bool {
+        self.session.differs
+    }
+
+    fn add(&mut self, about: &'static str, what: &'static str) {
+        self.session.tally.add(about, what);
+    }
+
+    fn came(&mut self, about: &'static str, what: &'static str, came: Came) {
+        self.session.tally.came(about, what, came);
+    }
+
+    fn found(&mut self, made: &str, asked: Asked, files: &[&File]) {
+        self.session.found(made, asked, &bytes(files));
+    }
+
+    fn broken(&mut self, law: &str, files: &[&File]) {
+        self.session.broken(law, &bytes(files));
+    }
+
+    /// A file made by a generator. What it shows is counted.
+    fn file(&mut self, way: &'static str, lib: &Typelib) -> File {
+        self.of_bytes(way, lib.bytes())
+    }
+
+    fn of_bytes(&mut self, way: &'static str, bytes: Vec<u8>) -> File {
+        let file = File::new(bytes);
+        if let Ok(lib) = &file.model {
+            let came = Came { way: Some(way), ..together(&[&file]) };
+            for shape in shape::shapes(&file.bytes, lib) {
+                self.came("shape", shape, came);
+            }
+        }
+        file
+    }
+
+    /// The length that is needed; where nothing can be written, one that might have been.
+    fn needed(&mut self, files: &[&File]) -> usize {
+        let read = files.iter().map(|file| file.bytes.len()).sum::<usize>();
+        OWN.write(&bytes(files), &mut self.scratch).unwrap_or(read.clamp(1, MAX_FILE))
+    }
+
+    /// Has both programs write and compares answers and buffers, byte by byte, guards and files
+    /// included.
+    fn call(&mut self, files: &[&File], room: usize) -> Written {
+        let about = if files.len() == 1 { "normal forms" } else { "links" };
+        self.add("all", about);
+        let from = self.rng.below(1_000);
+        let before = &self.noise[from..from + room + 2 * GUARD];
+        let bytes = bytes(files);
+        let copies: Vec<Vec<u8>> = bytes.iter().map(|file| file.to_vec()).collect();
+        let copies: Vec<&[u8]> = copies.iter().map(|file| &file[..]).collect();
+        let (own, mut out) = lent(before, room, |out| OWN.write(&bytes, out));
+        let (other, out_then) = lent(before, room, |out| self.session.other.write(&copies, out));
+        if other != own || out_then != out || copies != bytes {
+            let asked = if files.len() == 1 { Asked::Normal(room) } else { Asked::Link(room) };
+            self.found(about, asked, files);
+        }
+        own.map(|length| {
+            out.truncate(GUARD + length);
+            out.split_off(GUARD)
+        })
+    }
+
+    /// Counts a call with a buffer of this kind.
+    fn count_room(
+        &mut self,
+        about: &'static str,
+        files: &[&File],
+        (room, length): (&'static Room, usize),
+        answer: &Written,
+    ) {
+        self.add(about, room.name);
+        let (whose, what) = match (files.len(), answer) {
+            (1, Ok(_)) => ("normal form written", ""),
+            (1, Err(_)) => ("normal form refused", "of a normal form"),
+            (_, Ok(_)) => ("link written", ""),
+            (_, Err(_)) => ("link refused", "of a link"),
+        };
+        let came = together(files);
+        self.came(whose, room.name, Came { place: numbered_by(answer), ..came });
+        match answer {
+            Ok(bytes) if bytes.len() < length => self.add(about, "bytes past the end kept"),
+            Err((_, Refusal { number: refusal::BUFFER, place })) => {
+                let came = Came { place: Some(*place as u64), ..came };
+                self.came(REFUSAL[refusal::BUFFER as usize], what, came);
+            }
+            _ => {}
+        }
+    }
+
+    /// One link with a buffer of this kind. What comes is told.
+    fn link(
+        &mut self,
+        order: &'static str,
+        files: [&File; 2],
+        needed: usize,
+        room: &'static Room,
+    ) -> Written {
+        let length = room.length(needed, &mut self.rng);
+        let answer = self.call(&files, length);
+        let about = match &answer {
+            Ok(_) => {
+                self.add("linked", order);
+                "linked"
+            }
+            Err((0, refusal)) => {
+                let about = LINK[refusal.number as usize];
+                self.session.tally.add_at(about, order, refusal.place as u64);
+                about
+            }
+            Err((which, refusal)) => {
+                let about = "link, file";
+                // The places are the numbers of the refusals here.
+                self.session.tally.add_at(about, order, refusal.number.into());
+                let whose = match (which, &files[1].model) {
+                    (1, Err(_)) => "both",
+                    (1, Ok(_)) => "the first",
+                    _ => "the second",
+                };
+                self.add(about, whose);
+                let came = Came { place: numbered_by(&answer), ..together(&files) };
+                self.came("file refused", whose, came);
+                about
+            }
+        };
+        self.count_room(about, &files, (room, length), &answer);
+        answer
+    }
+
+    /// A pair in both orders, each with several buffers; and that swapping changes no more than
+    /// it may.
+    fn pair(&mut self, made: &'static str, a: &File, b: &File) {
+        if self.differs() {
+            return;
+        }
+        self.add("made", made);
+        self.came("all", "pairs of files", Came { way: Some(made), ..together(&[a, b]) });
+        let [one, two] = [(FORWARD, [a, b]), (BACKWARD, [b, a])].map(|(order, files)| {
+            let needed = self.needed(&files);
+            let room = match self.rng.below(100) {
+                0 => &ROOMS[7],
+                1 => &ROOMS[8],
+                _ => Room::wide(&mut self.rng),
+            };
+            let answer = self.link(order, files, needed, room);
+            let room = Room::short(&mut self.rng);
+            let _ = self.link(order, files, needed, room);
+            answer
+        });
+        if a.model.is_ok() && b.model.is_ok() && !self.differs() {
+            self.swapped(made, [a, b], &one, &two);
+        }
+    }
+
+    /// Counts what came in both orders, where it agrees as it must.
+    fn swapped(&mut self, made: &'static str, files: [&File; 2], one: &Written, two: &Written) {
+        let came = Came { way: Some(made), ..together(&files) };
+        if !swapped(one, two) {
+            return self.broken("swapping", &files);
+        }
+        match (one, two) {
+            (Err((_, one)), Err((_, two))) => {
+                self.came("law", "swapping: number", came);
+                let about = REFUSAL[one.number as usize];
+                self.came(about, "in both orders", came);
+                for (order, place) in ORDERS.into_iter().zip([one.place, two.place]) {
+                    self.came(about, order, Came { place: Some(place as u64), ..came });
+                }
+            }
+            _ => {
+                self.came("law", "swapping: length and bytes", came);
+                self.again(files, one.as_deref().unwrap_or(&[]));
+                if let (Ok(a), Ok(b)) = (&files[0].model, &files[1].model) {
+                    for what in shape::between(a, b) {
+                        self.came("pair", what, came);
+                    }
+                }
+            }
+        }
+    }
+
+    /// A pair in both orders, with every kind of buffer.
+    fn all_rooms(&mut self, a: &File, b: &File) {
+        for (order, files) in ORDERS.into_iter().zip([[a, b], [b, a]]) {
+            let needed = self.needed(&files);
+            for room in &ROOMS {
+                if !self.differs() {
+                    let _ = self.link(order, files, needed, room);
+                }
+            }
+        }
+    }
+
+    /// Both ways to group a triple end with the same bytes, or neither ends with any.
+    fn triple(&mut self, made: &'static str, room: usize, files: [&File; 3]) {
+        if self.differs() {
+            return;
+        }
+        let [a, b, c] = files;
+        let left = self.call(&[a, b], room);
+        let left = left.and_then(|ab| self.call(&[&File::new(ab), c], room));
+        let right = self.call(&[b, c], room);
+        let right = right.and_then(|bc| self.call(&[a, &File::new(bc)], room));
+        if self.differs() {
+            return;
+        }
+        if !grouped(&left, &right) {
+            return self.broken("grouping", &files);
+        }
+        let came = Came { place: numbered_by(&left), way: Some(made), ..together(&files) };
+        let same = left.is_ok();
+        self.came("law", if same { "grouping: same bytes" } else { "grouping: neither" }, came);
+        if room == MAX_FILE {
+            self.came("law", "grouping: buffers of 1,048,576", came);
+        }
+    }
+
+    /// What a link wrote is accepted, and its own normal form.
+    fn again(&mut self, files: [&File; 2], bytes: &[u8]) {
+        let file = File::new(bytes.to_vec());
+        if self.call(&[&file], bytes.len()) != Ok(bytes.to_vec()) {
+            return self.broken("reading back", &files);
+        }
+        self.came("law", "its own normal form", together(&[&file]));
+    }
+
+    /// A file with itself and with an empty one: as normalising.
+    fn self_and_empty(&mut self, a: &File) {
+        if self.differs() {
+            return;
+        }
+        let room = *self.rng.pick(&[0, 36, 200, 2_000, 20_000, 20_000, MAX_FILE]);
+        let normal = self.call(&[a], room);
+        let empty = File::of(&pairs::empty(&mut self.rng));
+        let came = together(&[a]);
+        if self.call(&[a, a], room) != normal {
+            return self.broken("itself", &[a]);
+        }
+        self.add("law", "self");
+        self.came("law", "itself", came);
+        for files in [[a, &empty], [&empty, a]] {
+            if self.call(&files, room) != normal {
+                return self.broken("empty", &[a, &empty]);
+            }
+        }
+        self.add("law", "empty");
+        self.came("law", "with an empty file", came);
+        if room == MAX_FILE {
+            self.came("law", "itself, empty: buffers of 1,048,576", came);
+        }
+    }
+
+    /// Two files have the same normal form exactly where they mean the same.
+    fn same_form(&mut self, a: &File, b: &File) {
+        let (Ok(first), Ok(second)) = (&a.model, &b.model) else { return };
+        let same = model::same_meaning(first, second);
+        if self.differs() {
+            return;
+        }
+        let forms = (self.call(&[a], MAX_FILE / 4), self.call(&[b], MAX_FILE / 4));
+        let (Ok(one), Ok(two)) = &forms else { return };
+        if (one == two) != same {
+            return self.broken("meaning", &[a, b]);
+        }
+        let what = if same { "same meaning, same bytes" } else { "other meaning, other bytes" };
+        self.came("law", what, together(&[a, b]));
+    }
+
+    /// A file's normal form, with several buffers.
+    fn normal<'r>(&mut self, file: &File, rooms: impl IntoIterator<Item = &'r Room>)
+    where
+        'r: 'static,
+    {
+        if self.differs() {
+            return;
+        }
+        let needed = self.needed(&[file]);
+        for room in rooms {
+            let length = room.length(needed, &mut self.rng);
+            let answer = self.call(&[file], length);
+            let about = match &answer {
+                Ok(bytes) => {
+                    self.add("normal", "written");
+                    if *bytes != file.bytes {
+                        self.add("normal", "changed");
+                    }
+                    "normal"
+                }
+                Err((_, refusal)) if file.model.is_err() => {
+                    let number = refusal.number.into();
+                    self.session.tally.add_at("normal, file", "refused", number);
+                    "normal, file"
+                }
+                Err((_, refusal)) => {
+                    if refusal.number == refusal::FORM_SIZE {
+                        let place = Some(refusal.place as u64);
+                        let about = REFUSAL[refusal::FORM_SIZE as usize];
+                        self.came(about, "of a normal form", Came { place, ..together(&[file]) });
+                    }
+                    NORMAL[refusal.number as usize]
+                }
+            };
+            self.count_room(about, &[file], (room, length), &answer);
+        }
+    }
+}
+
+/// Links and normalises many files; stops at the first difference.
+pub fn run(session: &mut Session) {
+    let seed = session.seed;
+    let rng = &mut Rng::new(seed);
+    let noise = (0..3 * MAX_FILE).map(|_| rng.byte()).collect();
+    let own = Rng::new(rng.number());
+    let mut run = Run { session, rng: own, noise, scratch: vec![0; MAX_FILE] };
+    edges(&mut run, rng);
+    for (made, a, b) in pairs::spread(rng) {
+        let (a, b) = (run.file(made, &a), run.file(made, &b));
+        run.pair(made, &a, &b);
+    }
+    for round in 0..3_000 {
+        if !run.differs() {
+            small(&mut run, rng, round);
+        }
+    }
+    refused(&mut run, rng, seed);
+}
+
+/// Files and pairs about the greatest sizes.
+fn edges(run: &mut Run, rng: &mut Rng) {
+    for (made, a, b) in [pairs::wide(rng), pairs::long()].concat() {
+        let (a, b) = (run.file(made, &a), run.file(made, &b));
+        run.pair(made, &a, &b);
+        run.all_rooms(&a, &b);
+        run.normal(&a, &ROOMS);
+        run.normal(&b, &ROOMS);
+        run.self_and_empty(&a);
+    }
+    for n in 1..=16 {
+        let a = run.of_bytes("overlapping heads", generate::overlapping_heads(rng, n));
+        let b = run.of_bytes("names in descriptors", generate::names_in_descriptors(rng, 3 * n));
+        let c = run.file("wide", &generate::wide(rng, 40));
+        for pair in [[&a, &b], [&a, &c], [&b, &c], [&a, &a]] {
+            run.pair("records that overlap", pair[0], pair[1]);
+        }
+        run.normal(&a, &ROOMS);
+        run.normal(&b, &ROOMS);
+        run.self_and_empty(&a);
+        run.self_and_empty(&b);
+    }
+    // Little bytes, a long normal form.
+    for n in 2..6 {
+        let file = run.of_bytes("records that many share", hostile::long_listing(n));
+        run.normal(&file, &ROOMS);
+    }
+    for (made, files) in pairs::edge_triples() {
+        let [a, b, c] = files.each_ref().map(File::of);
+        run.triple(made, MAX_FILE, [&a, &b, &c]);
+        run.triple(made, MAX_FILE, [&c, &a, &b]);
+    }
+}
+
+/// Files for the check, most of them refused: some of every kind, and now and then one.
+fn refused(run: &mut Run, rng: &mut Rng, seed: u64) {
+    let mut kinds: HashMap<&str, usize> = HashMap::new();
+    let mut numbers: HashMap<u32, usize> = HashMap::new();
+    let mut last_refused = File::new(Vec::new());
+    damage::everything(seed, &mut |made| {
+        let counter = kinds.entry(made.how).or_default();
+        *counter += 1;
+        let taken = *counter <= 3 || counter.is_multiple_of(701);
+        if !taken || run.differs() {
+            return;
+        }
+        let file = File::new(made.bytes.to_vec());
+        run.normal(&file, [Room::short(rng), Room::wide(rng)]);
+        let partner = File::of(&pairs::view(&pairs::world(rng), rng));
+        run.pair("with a file for the check", &file, &partner);
+        let Err(Refusal { number, .. }) = file.model else { return };
+        run.pair("both refused", &file, &last_refused);
+        // Every kind of buffer with every refusal.
+        let met = numbers.entry(number).or_default();
+        *met += 1;
+        if *met <= 3 {
+            run.all_rooms(&file, &partner);
+            run.normal(&file, &ROOMS);
+        }
+        last_refused = file;
+    });
+}
+
+/// The buffers of a triple: mostly shorter ones, that take less time.
+fn room_of(round: usize) -> usize {
+    match round % 10 {
+        0 => MAX_FILE,
+        _ => 131_072,
+    }
+}
+
+/// Files of one small world, and conflicts between them.
+fn small(run: &mut Run, rng: &mut Rng, round: usize) {
+    let world = pairs::world(rng);
+    let views = [0; 3].map(|_| pairs::view(&world, rng));
+    let files = views.each_ref().map(|lib| run.file("view of a world", lib));
+    let [a, b, c] = &files;
+    run.pair("one world", a, b);
+    for file in &files {
+        run.normal(file, [Room::short(rng), Room::wide(rng)]);
+    }
+    if round.is_multiple_of(2) {
+        run.triple("one world", room_of(round), [a, b, c]);
+        run.self_and_empty(a);
+        let laid = run.file("laid out again", &pairs::relaid(&views[0], rng));
+        run.same_form(a, &laid);
+    }
+    conflicts(run, rng, round, &views, &files);
+    chains(run, rng, round, c);
+}
+
+/// Conflicts of one kind and of several.
+fn conflicts(run: &mut Run, rng: &mut Rng, round: usize, views: &[Typelib; 3], files: &[File; 3]) {
+    let [a, b, c] = files;
+    let mut conflicting = Vec::new();
+    for _ in 0..5 {
+        let mut other = views[1].clone();
+        if let Some(made) = pairs::conflict(&views[0], &mut other, rng) {
+            let other = run.file("a conflict put in", &other);
+            run.pair(made, a, &other);
+            conflicting.push(other);
+        }
+    }
+    if let Some(other) = conflicting.first() {
+        let room = room_of(round);
+        match round % 3 {
+            0 => run.triple("a conflict", room, [a, other, c]),
+            1 => run.triple("a conflict", room, [other, c, a]),
+            _ => run.triple("a conflict", room, [c, a, other]),
+        }
+        run.same_form(b, other);
+    }
+    let mut other = views[1].clone();
+    let mut conflicts = 0;
+    for _ in 0..6 {
+        conflicts += usize::from(pairs::conflict(&views[0], &mut other, rng).is_some());
+    }
+    if conflicts > 1 {
+        let other = run.file("two conflicts put in", &other);
+        run.pair("two conflicts", a, &other);
+    }
+}
+
+/// Chains that do not end in the union.
+fn chains(run: &mut Run, rng: &mut Rng, round: usize, c: &File) {
+    let (first, second) = pairs::endless(rng);
+    let (a, b) = (run.file("endless", &first), run.file("endless", &second));
+    run.pair("an endless chain", &a, &b);
+    if round.is_multiple_of(4) {
+        let room = room_of(round);
+        match round % 3 {
+            0 => run.triple("an endless chain", room, [&a, &b, c]),
+            1 => run.triple("an endless chain", room, [&a, c, &b]),
+            _ => run.triple("an endless chain", room, [c, &b, &a]),
+        }
+    }
+    let (mut first, mut second) = (first, second);
+    if pairs::conflict(&first, &mut second, rng).is_some()
+        || pairs::conflict(&second, &mut first, rng).is_some()
+    {
+        let (a, b) = (run.file("endless", &first), run.file("endless", &second));
+        run.pair("an endless chain and a conflict", &a, &b);
+    }
+    // A family resolves what the other world only names, if keys meet at all.
+    let family = run.file("family", &generate::family(rng));
+    run.pair("two worlds", &a, &family);
+}

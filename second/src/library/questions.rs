@@ -1,0 +1,450 @@
+//! Questions to many files: generated, asked of both programs, and counted.
+
+use super::cases::Asked;
+use super::{Session, OWN};
+use crate::making::builder::*;
+use crate::making::damage::everything;
+use crate::making::rng::Rng;
+use crate::making::{generate, hostile, model, pairs, shape};
+use crate::program::check::check;
+use crate::program::questions::{Constant as Value, Kind, Lookup, Method as Place, Slot};
+use crate::tally::{hash, Came, Tally, REFUSAL};
+
+#[derive(Clone, Debug, PartialEq, Eq)]
+pub enum Question {
+    Iid(Vec<u8>),
+    Key(Vec<u8>, Vec<u8>),
+    Method(u64, Vec<u8>, Kind),
+    Slot(u64, u64),
+    Constant(u64, Vec<u8>),
+}
+
+#[derive(Clone, Copy, Debug, PartialEq, Eq)]
+pub enum Found {
+    Interface(usize),
+    Method(Place),
+    Constant(Value),
+}
+
+pub type Reply = Lookup<Found>;
+
+// Questions for a file, each with how it was made.
+
+type Made = (&'static str, Question);
+
+/// A name that is not an identifier, and why.
+fn bad_name(rng: &mut Rng, good: &[u8]) -> (&'static str, Vec<u8>) {
+    let mut name = good.to_vec();
+    match rng.below(4) {
+        0 => ("20: name empty", Vec::new()),
+        1 => {
+            name.resize((MAX_IDENTIFIER + 1) * (1 + rng.below(2)), b'a');
+            ("20: name too long", name)
+        }
+        2 => {
+            name.truncate(MAX_IDENTIFIER - 1);
+            name.insert(rng.below(name.len() + 1), 0);
+            ("20: name with a zero byte", name)
+        }
+        _ => {
+            let at = rng.below(name.len());
+            name[at] = *rng.pick(b" -.:/@[`{\x7f\x80\xc3\xff\x01");
+            ("20: name with a bad byte", name)
+        }
+    }
+}
+
+fn bad_index(rng: &mut Rng, n: u64) -> u64 {
+    let some = rng.below(n as usize + 1) as u64;
+    match rng.below(7) {
+        0 => 0,
+        1 => n + 1,
+        2 => (1 << 16) + some,
+        3 => (1 << 32) + some,
+        4 => (1 << 63) + some,
+        5 => u64::MAX - some,
+        _ => n + 1 + rng.below(70_000) as u64,
+    }
+}
+
+/// Another name that is easily taken for this one.
+fn near_name(rng: &mut Rng, name: &[u8]) -> Vec<u8> {
+    let mut near = name.to_vec();
+    let at = rng.below(near.len());
+    match rng.below(4) {
+        0 if near.len() < MAX_IDENTIFIER => near.push(*rng.pick(b"a0_Z")),
+        1 if near.len() > 1 => _ = near.pop(),
+        2 if near.len() > 1 => _ = near.remove(at),
+        _ => near[at] = *rng.pick(b"abcXYZ019_"),
+    }
+    near
+}
+
+fn iid_question(lib: &Typelib, rng: &mut Rng) -> Made {
+    let mut iid = match lib.entries.is_empty() {
+        true => generate::iid(rng.number()).to_vec(),
+        false => rng.pick(&lib.entries).iid.to_vec(),
+    };
+    match rng.below(10) {
+        0..4 => ("an entry's IID", Question::Iid(iid)),
+        4 | 5 => {
+            iid[rng.below(16)] ^= 1 << rng.below(8);
+            ("nearly an entry's IID", Question::Iid(iid))
+        }
+        6 => ("20: IID zero", Question::Iid(vec![0; 16])),
+        7 => {
+            iid.pop();
+            ("20: IID of 15 bytes", Question::Iid(iid))
+        }
+        8 => {
+            iid.insert(rng.below(2) * 16, 0);
+            ("20: IID of 17 bytes", Question::Iid(iid))
+        }
+        _ => {
+            iid.resize(*rng.pick(&[0, 1, 8, 32, 272, 65_552]), 1);
+            ("20: IID of another length", Question::Iid(iid))
+        }
+    }
+}
+
+fn key_question(lib: &Typelib, rng: &mut Rng) -> Made {
+    if lib.entries.is_empty() {
+        return ("a key in an empty file", Question::Key(Vec::new(), generate::identifier(rng, 4)));
+    }
+    let entry = rng.pick(&lib.entries);
+    let space = entry.namespace.clone().unwrap_or_default();
+    let name = entry.name.clone();
+    match rng.below(10) {
+        0..4 => ("an entry's key", Question::Key(space, name)),
+        4 => {
+            let other = rng.pick(&lib.entries).namespace.clone().unwrap_or_default();
+            ("another namespace", Question::Key(other, name))
+        }
+        5 if space.is_empty() => ("name as namespace", Question::Key(name.clone(), name)),
+        5 => ("namespace and name swapped", Question::Key(name, space)),
+        6 => ("nearly an entry's name", Question::Key(space, near_name(rng, &name))),
+        7 if !space.is_empty() => {
+            ("nearly a namespace", Question::Key(near_name(rng, &space), name))
+        }
+        8 => {
+            let good = if space.is_empty() { &name } else { &space };
+            let (what, bad) = bad_name(rng, good);
+            match bad.is_empty() {
+                true => ("20: name empty", Question::Key(space, bad)),
+                false => (bad_namespace(what), Question::Key(bad, name)),
+            }
+        }
+        _ => {
+            let (what, bad) = bad_name(rng, &name);
+            (what, Question::Key(space, bad))
+        }
+    }
+}
+
+fn bad_namespace(what: &str) -> &'static str {
+    match what {
+        "20: name too long" => "20: namespace too long",
+        "20: name with a zero byte" => "20: namespace with a zero byte",
+        _ => "20: namespace with a bad byte",
+    }
+}
+
+/// An index and a name for a question about methods or constants: mostly one that stands in an entry
+/// which the chain passes, the farther ones no rarer than the near ones.
+fn named<'l, T>(
+    lib: &'l Typelib,
+    rng: &mut Rng,
+    held: fn(&'l Descriptor) -> &'l [T],
+) -> (u64, Option<&'l T>) {
+    let index = rng.range(1, lib.entries.len());
+    let d = if rng.percent(70) {
+        let (resolved, _) = model::chain(lib, index);
+        (!resolved.is_empty()).then(|| model::descriptor(lib, *rng.pick(&resolved)))
+    } else {
+        (!lib.descriptors.is_empty()).then(|| rng.pick(&lib.descriptors))
+    };
+    let held = d.map(held).filter(|held| !held.is_empty());
+    (index as u64, held.map(|held| rng.pick(held)))
+}
+
+/// The name itself for the most part.
+fn name(rng: &mut Rng, [own, near]: [&'static str; 2], name: &[u8]) -> (&'static str, Vec<u8>) {
+    match rng.below(20) {
+        0 => bad_name(rng, name),
+        1 | 2 => (near, near_name(rng, name)),
+        _ => (own, name.to_vec()),
+    }
+}
+
+fn method_question(lib: &Typelib, rng: &mut Rng) -> Made {
+    let n = lib.entries.len();
+    if n == 0 || rng.percent(8) {
+        let index = bad_index(rng, n as u64);
+        return ("20: index", Question::Method(index, b"a".to_vec(), *rng.pick(&Kind::ALL)));
+    }
+    let (index, method) = named(lib, rng, |d| &d.methods);
+    let Some(method) = method else {
+        let name = generate::identifier(rng, 3);
+        return ("any name", Question::Method(index, name, *rng.pick(&Kind::ALL)));
+    };
+    let mut kind = *Kind::ALL.iter().find(|kind| model::is_kind(method.flags, **kind)).unwrap();
+    if rng.percent(20) {
+        kind = *rng.pick(&Kind::ALL);
+    }
+    let (what, name) = name(rng, ["a method's name", "nearly a method's name"], &method.name);
+    (what, Question::Method(index, name, kind))
+}
+
+fn slot_question(lib: &Typelib, rng: &mut Rng) -> Made {
+    let n = lib.entries.len();
+    if n == 0 || rng.percent(8) {
+        return ("20: index", Question::Slot(bad_index(rng, n as u64), rng.below(3) as u64));
+    }
+    let index = rng.range(1, n);
+    let (resolved, _) = model::chain(lib, index);
+    let count = |i: &usize| model::descriptor(lib, *i).methods.len() as u64;
+    let total: u64 = resolved.iter().map(count).sum();
+    let below = rng.below(total.max(1) as usize) as u64;
+    let (what, slot) = match rng.below(12) {
+        0 => ("the total", total),
+        1 => ("past the total", total + 1 + rng.below(3) as u64),
+        2 => {
+            let far = *rng.pick(&[1 << 16, 1 << 32, 1 << 63]);
+            ("far past the total", far + below)
+        }
+        3 => ("the largest number", u64::MAX - rng.below(2) as u64),
+        4 if total > 0 => ("the last slot", total - 1),
+        _ => ("a slot", below),
+    };
+    (what, Question::Slot(index as u64, slot))
+}
+
+fn constant_question(lib: &Typelib, rng: &mut Rng) -> Made {
+    let n = lib.entries.len();
+    if n == 0 || rng.percent(8) {
+        return ("20: index", Question::Constant(bad_index(rng, n as u64), b"a".to_vec()));
+    }
+    let (index, constant) = named(lib, rng, |d| &d.constants);
+    let Some(constant) = constant else {
+        return ("any name", Question::Constant(index, generate::identifier(rng, 3)));
+    };
+    let names = ["a constant's name", "nearly a constant's name"];
+    let (what, name) = name(rng, names, &constant.name);
+    (what, Question::Constant(index, name))
+}
+
+/// A question of each kind in turn.
+pub fn question(lib: &Typelib, rng: &mut Rng, turn: usize) -> Made {
+    match turn % 5 {
+        0 => iid_question(lib, rng),
+        1 => key_question(lib, rng),
+        2 => method_question(lib, rng),
+        3 => slot_question(lib, rng),
+        _ => constant_question(lib, rng),
+    }
+}
+
+// The run.
+
+/// A file to be asked.
+struct File<'f> {
+    bytes: &'f [u8],
+    is_accepted: bool,
+    /// Its model; where it is refused that of another, which questions may be about.
+    lib: &'f Typelib,
+    came: Came,
+}
+
+/// Asks questions of a file, a kind in turn.
+fn ask(session: &mut Session, rng: &mut Rng, file: &File, count: usize) {
+    let mut lent = file.bytes.to_vec();
+    for turn in 0..count {
+        let (made, question) = question(file.lib, rng, turn);
+        if session.differs {
+            return;
+        }
+        let own = OWN.ask(file.bytes, &question);
+        if session.other.ask(&lent, &question) != own || lent != file.bytes {
+            session.found(made, Asked::Question(question), &[file.bytes]);
+            lent = file.bytes.to_vec();
+        } else {
+            self::count(&mut session.tally, file, made, &question, own);
+        }
+    }
+}
+
+/// How many steps up the owner of what was found stands.
+fn steps(lib: &Typelib, question: &Question, found: Found) -> Option<usize> {
+    let (Question::Method(index, ..) | Question::Slot(index, _) | Question::Constant(index, _)) =
+        question
+    else {
+        return None;
+    };
+    let is_owner = |index: usize| match (found, question) {
+        (Found::Method(place), _) => place.owner == index,
+        (_, Question::Constant(_, name)) => {
+            model::descriptor(lib, index).constants.iter().any(|constant| constant.name == *name)
+        }
+        _ => false,
+    };
+    model::chain(lib, *index as usize).0.into_iter().position(is_owner)
+}
+
+fn about(question: &Question) -> &'static str {
+    match question {
+        Question::Iid(_) => "IID",
+        Question::Key(..) => "key",
+        Question::Method(..) => "method",
+        Question::Slot(..) => "slot",
+        Question::Constant(..) => "constant",
+    }
+}
+
+fn count(tally: &mut Tally, file: &File, made: &'static str, question: &Question, reply: Reply) {
+    let about = about(question);
+    tally.add("all", "questions");
+    if file.is_accepted {
+        tally.add("all", "questions of accepted files");
+    }
+    let mut row = |what: &'static str, place: Option<u64>| {
+        tally.came(about, what, Came { place, ..file.came });
+    };
+    match reply {
+        // The place is the number of the refusal here.
+        Lookup::Refused(Refusal { number, .. }) if number != refusal::QUESTION => {
+            return row("file refused", Some(number.into()));
+        }
+        Lookup::Refused(_) => {
+            row("malformed", None);
+            row("refused with 20", None);
+        }
+        Lookup::None => row("none", None),
+        Lookup::Undetermined(index) => {
+            let place = Some(index as u64);
+            row("undetermined", place);
+            let itself = match question {
+                Question::Method(asked, ..)
+                | Question::Slot(asked, _)
+                | Question::Constant(asked, _) => Some(*asked) == place,
+                _ => false,
+            };
+            row(if itself { "undetermined, itself" } else { "undetermined, an ancestor" }, place);
+        }
+        Lookup::Found(found) => {
+            count_found(&mut row, question, found);
+            let far =
+                ["found in the interface itself", "found 1 up", "found 2 up", "found 3 or more up"];
+            if let Some(up) = steps(file.lib, question, found) {
+                row(far[up.min(3)], None);
+            }
+        }
+    }
+    row(made, None);
+    if matches!(reply, Lookup::Refused(_)) {
+        let came = Came { place: Some(0), way: Some(made), ..file.came };
+        tally.came(REFUSAL[refusal::QUESTION as usize], "", came);
+    }
+}
+
+fn count_found(row: &mut impl FnMut(&'static str, Option<u64>), question: &Question, found: Found) {
+    match found {
+        Found::Interface(index) => row("found", Some(index as u64)),
+        Found::Method(Place { owner, slot, .. }) => {
+            row("found", Some(owner as u64));
+            let (what, alone, place) = match slot {
+                Slot::Known(slot) => ("found, slot known", "slot known", slot),
+                Slot::Undetermined(index) => {
+                    ("found, slot undetermined", "slot undetermined", index as u64)
+                }
+            };
+            row(what, None);
+            row(alone, Some(place));
+        }
+        Found::Constant(value) => {
+            let (what, kind, high, is_high) = match value {
+                Value::I16(v) => ("found, i16", "i16", "i16 negative", v < 0),
+                Value::I32(v) => ("found, i32", "i32", "i32 negative", v < 0),
+                Value::U16(v) => ("found, u16", "u16", "u16 of 32,768 or more", v >= 1 << 15),
+                Value::U32(v) => {
+                    ("found, u32", "u32", "u32 of 2,147,483,648 or more", v >= 1 << 31)
+                }
+            };
+            let number = Some(value.value() as u64);
+            row("found", None);
+            row(what, None);
+            row(kind, number);
+            if is_high {
+                row(high, number);
+            }
+        }
+    }
+    match question {
+        Question::Key(space, _) if space.is_empty() => row("found, default namespace", None),
+        Question::Key(..) => row("found, a namespace", None),
+        Question::Method(.., Kind::Getter) => row("a getter", None),
+        Question::Method(.., Kind::Setter) => row("a setter", None),
+        Question::Method(..) => row("a plain method", None),
+        _ => {}
+    }
+}
+
+/// Asks questions of many files; stops at the first difference.
+pub fn run(session: &mut Session) {
+    let rng = &mut Rng::new(session.seed);
+    // Families and other good files: the model is known before the bytes are.
+    for round in 0..6_000 {
+        let (lib, way) = match round % 12 {
+            0 => (generate::random(rng, generate::SMALL), "random"),
+            1 => (generate::random(rng, generate::MEDIUM), "random"),
+            2 => (pairs::view(&pairs::world(rng), rng), "view of a world"),
+            _ => (generate::family(rng), "family"),
+        };
+        good(session, rng, way, &lib.bytes(), &lib, 50);
+    }
+    damaged(session, rng);
+    // Large files and files whose records overlap.
+    let mut large = Vec::new();
+    for n in 1..=16 {
+        large.push((generate::overlapping_heads(rng, n), "overlapping heads"));
+        large.push((generate::names_in_descriptors(rng, 2 * n), "names in descriptors"));
+    }
+    large.push((generate::wide(rng, MAX_INTERFACES).bytes(), "wide"));
+    large.push((hostile::ordinary(), "an ordinary file"));
+    large.extend(hostile::chains().map(|chain| (chain, "a chain of 1,024")));
+    for (bytes, way) in large {
+        good(session, rng, way, &bytes, &model::read(&bytes), 40);
+    }
+}
+
+/// A good file. What it shows is counted.
+fn good(
+    session: &mut Session,
+    rng: &mut Rng,
+    way: &'static str,
+    bytes: &[u8],
+    lib: &Typelib,
+    count: usize,
+) {
+    let came = Came { place: None, file: Some(hash(&[bytes])), way: Some(way) };
+    for shape in shape::shapes(bytes, lib) {
+        session.tally.came("shape", shape, came);
+    }
+    ask(session, rng, &File { bytes, is_accepted: true, lib, came }, count);
+}
+
+/// Some of the files for the check, most of them refused: the file's refusal comes before a
+/// malformed question.
+fn damaged(session: &mut Session, rng: &mut Rng) {
+    let mut counter = rng.below(97);
+    let stranger = generate::family(rng);
+    everything(session.seed, &mut |made| {
+        counter += 1;
+        if !counter.is_multiple_of(97) || session.differs {
+            return;
+        }
+        let read = check(made.bytes).map(|_| model::read(made.bytes));
+        let came = Came { place: None, file: Some(made.base), way: Some(made.how) };
+        let (is_accepted, lib) = (read.is_ok(), read.as_ref().unwrap_or(&stranger));
+        ask(session, rng, &File { bytes: made.bytes, is_accepted, lib, came }, 5);
+    });
+}

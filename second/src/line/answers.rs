@@ -1,0 +1,178 @@
+//! What each command of `xpt` must answer, by this program's functions, and a question's words.
+
+use crate::library::cases::{kind_word, shown};
+use crate::library::questions::{Found, Question};
+use crate::library::OWN;
+use crate::making::rng::Rng;
+use crate::program::format::{refusal, Refusal, MAX_FILE};
+use crate::program::listing::list;
+use crate::program::questions::{Constant, Lookup, Method, Slot};
+use std::sync::Arc;
+
+pub type Bytes = Arc<[u8]>;
+
+/// What stands on standard output before a newline.
+#[derive(Clone, Debug, Default)]
+pub struct Answer {
+    /// Nothing where only an error will do. Lines of a listing have their newlines; in a batch they
+    /// are bars.
+    pub text: Option<Vec<u8>>,
+    /// Whether one line that starts with `error ` will do: where it cannot be asked, and where the
+    /// papers leave open whether it can.
+    pub or_error: bool,
+}
+
+impl Answer {
+    /// The first line of what was printed, and the rest, if it is this answer.
+    pub fn eat<'p>(&self, printed: &'p [u8], alone: bool) -> Option<(&'p [u8], &'p [u8])> {
+        let is_error = self.or_error && printed.starts_with(b"error ");
+        let text = self.text.as_ref().filter(|_| !is_error).map(|text| match alone {
+            true => text.strip_suffix(b"\n").unwrap_or(text).to_vec(),
+            false => text.iter().map(|byte| if *byte == b'\n' { b'|' } else { *byte }).collect(),
+        });
+        let end = match &text {
+            Some(text) => printed.starts_with(text).then_some(text.len())?,
+            None => is_error.then(|| printed.iter().position(|byte| *byte == b'\n'))??,
+        };
+        (printed.get(end) == Some(&b'\n')).then(|| (&printed[..end], &printed[end + 1..]))
+    }
+}
+
+/// An answer with what else comes of the command.
+#[derive(Default)]
+pub struct Outcome {
+    pub answer: Answer,
+    /// The row of the table that it counts for.
+    pub what: &'static str,
+    /// With the file that it is about, 1 or 2; 0 for a link's own.
+    pub refusal: Option<(u8, Refusal)>,
+    /// What the output holds then.
+    pub written: Option<Bytes>,
+}
+
+impl Outcome {
+    pub fn line(what: &'static str, text: impl Into<Vec<u8>>) -> Outcome {
+        let answer = Answer { text: Some(text.into()), or_error: false };
+        Outcome { answer, what, ..Outcome::default() }
+    }
+
+    pub fn error(what: &'static str) -> Outcome {
+        let answer = Answer { text: None, or_error: true };
+        Outcome { answer, what, ..Outcome::default() }
+    }
+
+    fn refused(what: &'static str, refusal: Refusal) -> Outcome {
+        let line = Outcome::line(what, shown(Err(refusal)));
+        Outcome { refusal: Some((1, refusal)), ..line }
+    }
+}
+
+pub fn checked(file: &[u8]) -> Outcome {
+    match (OWN.check)(file) {
+        Ok(n) => Outcome::line("accepted", shown(Ok(n))),
+        Err(refusal) => Outcome::refused("refused", refusal),
+    }
+}
+
+pub fn listed(file: &[u8]) -> Outcome {
+    if let Err(refusal) = (OWN.check)(file) {
+        return Outcome::refused("refused", refusal);
+    }
+    let mut text = Vec::new();
+    list(file, &mut text).expect("writing to memory");
+    Outcome::line("accepted", text)
+}
+
+/// Normalises one file or links two.
+pub fn written(files: &[&[u8]]) -> Outcome {
+    let mut room = vec![0; MAX_FILE];
+    let (which, refusal) = match OWN.write(files, &mut room) {
+        Ok(length) => {
+            let line = Outcome::line("written", format!("written {length}"));
+            return Outcome { written: Some(room[..length].into()), ..line };
+        }
+        Err(refused) => refused,
+    };
+    let what = match (files.len(), which) {
+        (1, _) if refusal.number == refusal::FORM_SIZE => "refused 26",
+        (1, _) => "file refused",
+        (_, 0) => "refused 21 to 26",
+        (_, 1) => "first file refused",
+        _ => "second file refused",
+    };
+    if files.len() == 1 {
+        return Outcome::refused(what, refusal);
+    }
+    let Refusal { number, place } = refusal;
+    let line = Outcome::line(what, format!("refused {which} {number} {place}"));
+    Outcome { refusal: Some((which, refusal)), ..line }
+}
+
+pub fn asked(file: &[u8], question: &Question) -> Outcome {
+    let (what, text) = match OWN.ask(file, question) {
+        Lookup::Found(Found::Interface(index)) => ("found", format!("found {index}")),
+        Lookup::Found(Found::Method(Method { owner, position, slot })) => match slot {
+            Slot::Known(slot) => {
+                ("found, slot known", format!("found {owner} {position} slot {slot}"))
+            }
+            Slot::Undetermined(index) => {
+                ("found, slot unknown", format!("found {owner} {position} slot ? {index}"))
+            }
+        },
+        Lookup::Found(Found::Constant(value)) => {
+            let what = match value {
+                Constant::I16(_) => "found i16",
+                Constant::I32(_) => "found i32",
+                Constant::U16(_) => "found u16",
+                Constant::U32(_) => "found u32",
+            };
+            (what, format!("{what} {}", value.value()))
+        }
+        Lookup::None => ("none", "none".to_string()),
+        Lookup::Undetermined(index) => ("undetermined", format!("undetermined {index}")),
+        Lookup::Refused(why) if why.number == refusal::QUESTION => {
+            return Outcome::refused("malformed", why);
+        }
+        Lookup::Refused(why) => return Outcome::refused("file refused", why),
+    };
+    Outcome::line(what, text)
+}
+
+/// Hexadecimal digits of either case.
+fn hex(bytes: &[u8], rng: &mut Rng) -> Vec<u8> {
+    let text: String = bytes.iter().map(|byte| format!("{byte:02x}")).collect();
+    let case = rng.below(3);
+    let digit = |digit: u8| match case {
+        0 => digit,
+        1 => digit.to_ascii_uppercase(),
+        _ if rng.percent(50) => digit.to_ascii_uppercase(),
+        _ => digit,
+    };
+    text.into_bytes().into_iter().map(digit).collect()
+}
+
+/// Decimal digits, now and then with zeros before them.
+fn decimal(number: u64, rng: &mut Rng) -> Vec<u8> {
+    let zeros = match rng.below(20) {
+        0 => 1,
+        1 => rng.below(30),
+        _ => 0,
+    };
+    format!("{}{number}", "0".repeat(zeros)).into()
+}
+
+/// The command that asks, and the words after the file's.
+pub fn question_words(question: &Question, rng: &mut Rng) -> (&'static str, Vec<Vec<u8>>) {
+    match question {
+        Question::Iid(iid) => ("iid", vec![hex(iid, rng)]),
+        Question::Key(space, name) => {
+            let space = if space.is_empty() { b"-" } else { &space[..] };
+            ("key", vec![space.to_vec(), name.clone()])
+        }
+        Question::Method(index, name, kind) => {
+            ("method", vec![decimal(*index, rng), name.clone(), kind_word(*kind).into()])
+        }
+        Question::Slot(index, slot) => ("slot", vec![decimal(*index, rng), decimal(*slot, rng)]),
+        Question::Constant(index, name) => ("const", vec![decimal(*index, rng), name.clone()]),
+    }
+}

@@ -1,0 +1,177 @@
+//! The listing program beside this one: what it prints for many inputs, each through a pipe.
+
+use super::compare::Difference;
+use super::process::Program;
+use super::report;
+use crate::in_parallel;
+use crate::library::shrink::shrink;
+use crate::making::builder::*;
+use crate::making::rng::Rng;
+use crate::making::{damage, generate, hostile};
+use crate::program::check::check;
+use crate::program::listing::{program as list, MAX_INPUT};
+use crate::tally::{Tally, NUMBER};
+use std::io;
+use std::path::Path;
+use std::time::Duration;
+
+/// How an input was made, and the input.
+type Input = (&'static str, Vec<u8>);
+
+const LARGE: &str = "a large listing";
+
+fn listed(input: &[u8]) -> Vec<u8> {
+    let mut out = Vec::new();
+    list(input, &mut out).expect("writing to memory");
+    out
+}
+
+/// What the program prints otherwise than this one, if it does.
+fn differs(program: &Program, input: &[u8]) -> io::Result<Option<String>> {
+    let ran = program.run(Path::new("/"), &[], input)?;
+    let own = listed(input);
+    let common = ran.stdout.iter().zip(&own).take_while(|(a, b)| a == b).count();
+    let told = ran.stdout != own || ran.broken.is_some();
+    Ok(told.then(|| {
+        let (printed, ended) = (ran.stdout.len(), ran.broken.unwrap_or_default());
+        format!("{printed} bytes printed of {}, {common} of them alike {ended}", own.len())
+    }))
+}
+
+fn count(tally: &mut Tally, made: &'static str, input: &[u8]) {
+    tally.add("input", made);
+    if made == LARGE {
+        return;
+    }
+    if input.len() > MAX_INPUT {
+        return tally.add("input", "too long");
+    }
+    match check(input) {
+        Ok(n) => tally.add_at("input", "accepted", n as u64),
+        // The places are the numbers of the refusals here.
+        Err(refusal) => tally.add_at("input", "refused", refusal.number.into()),
+    }
+    for line in listed(input).split(|b| *b == b'\n') {
+        let words: Vec<&[u8]> = line.split(|b| *b == b' ').collect();
+        match words[..] {
+            [b"I", _, _, namespace, _, b"unresolved" | b"parent", ..] => {
+                let resolved = if words.len() == 7 { "I, resolved" } else { "I, unresolved" };
+                tally.add("line", resolved);
+                let default = namespace == b"-";
+                tally.add("line", if default { "I, default namespace" } else { "I, a namespace" });
+            }
+            [b"M", b"?", ..] => tally.add("line", "M, slot unknown"),
+            [b"M", ..] => tally.add("line", "M, slot known"),
+            [b"C", _, [b'-', ..]] => tally.add("line", "C, negative"),
+            [b"C", ..] => tally.add("line", "C, zero or more"),
+            _ => {}
+        }
+    }
+}
+
+/// The marked cases P1 to P11.
+fn marked() -> Vec<Vec<u8>> {
+    let [p1, p2, p3] = generate::marked();
+    let p3_with = |at: usize, new: &[u8]| {
+        let mut bytes = p3.clone();
+        bytes[at..at + new.len()].copy_from_slice(new);
+        bytes
+    };
+    vec![
+        p1.clone(),
+        p2,
+        p3.clone(),
+        p3[..81].to_vec(),
+        p3_with(17, &[2]),
+        p1[..31].to_vec(),
+        p3_with(66, &[0, 1]),
+        p3_with(66, &[0, 2]),
+        p3_with(76, &[3]),
+        p3_with(79, &[0x81]),
+        p3_with(36, &[0; 16]),
+    ]
+}
+
+/// Inputs about the greatest length, and one whose listing takes 540 KB for each of its entries.
+fn edges(rng: &mut Rng, entries: usize) -> Vec<Input> {
+    let (family, empty) = (generate::family(rng), Typelib::default());
+    let filled = |lib: &Typelib, length: usize| generate::filled_to(lib, length).bytes();
+    let at_most = filled(&family, MAX_INPUT);
+    let mut short = at_most.clone();
+    short[23] ^= 1;
+    let mut all = vec![
+        ("empty", Vec::new()),
+        ("65,536 bytes, accepted", at_most.clone()),
+        ("65,536 bytes, accepted", filled(&empty, MAX_INPUT)),
+        ("65,536 bytes, refused", vec![0; MAX_INPUT]),
+        ("65,536 bytes, refused", at_most[..MAX_INPUT - 1].to_vec()),
+        ("65,536 bytes, refused", short),
+        ("65,537 bytes", filled(&family, MAX_INPUT + 1)),
+        ("65,537 bytes", filled(&empty, MAX_INPUT + 1)),
+        ("65,537 bytes", vec![0; MAX_INPUT + 1]),
+        ("65,537 bytes", [&at_most[..], &[0]].concat()),
+    ];
+    for length in [MAX_INPUT + 2, 131_072, MAX_FILE, MAX_FILE + 1, 3_000_000] {
+        all.push(("longer", [&at_most[..], &vec![0; length - MAX_INPUT]].concat()));
+    }
+    all.push((LARGE, hostile::long_listing(entries)));
+    all
+}
+
+/// About `count` inputs and some more. The large listing has up to 1,024 entries.
+fn inputs(seed: u64, count: usize, entries: usize) -> Vec<Input> {
+    let rng = &mut Rng::new(seed);
+    let mut all: Vec<Input> = marked().into_iter().map(|input| ("marked", input)).collect();
+    all.extend(edges(rng, entries));
+    // Families and other good files; then a sample of those for the check, most of them refused.
+    for round in 0..count / 2 {
+        let lib = match round % 8 {
+            0..6 => generate::family(rng),
+            6 => generate::random(rng, generate::SMALL),
+            _ => generate::random(rng, generate::MEDIUM),
+        };
+        all.push(("good", lib.bytes()));
+    }
+    for n in 1..=16 {
+        all.push(("overlapping heads", generate::overlapping_heads(rng, n)));
+    }
+    all.extend(hostile::chains().map(|chain| ("a chain of 1,024", chain)));
+    let one_in = 2_800_000 / (count / 2).max(1);
+    let mut seen = vec![0; NUMBER.len()];
+    damage::everything(seed, &mut |made| {
+        if made.bytes.len() <= MAX_INPUT {
+            let row = check(made.bytes).map_or_else(|refusal| refusal.number as usize, |_| 0);
+            seen[row] += 1;
+            if seen[row] == 50 || rng.below(one_in) == 0 {
+                all.push(("for the check", made.bytes.to_vec()));
+            }
+        }
+    });
+    all
+}
+
+/// Compares what is printed for all inputs. Whether all is well.
+pub fn run(program: &Program, seed: u64, count: usize, entries: usize) -> io::Result<bool> {
+    let inputs = inputs(seed, count, entries);
+    let compared =
+        in_parallel(inputs.iter().collect(), |(_, input): &Input| differs(program, input));
+    let mut tally = Tally::new("listings");
+    for ((made, input), differs) in inputs.iter().zip(compared) {
+        if let Some(how) = differs? {
+            return difference(program, made, input, how).map(|()| false);
+        }
+        self::count(&mut tally, made, input);
+    }
+    let enough = tally.is_enough();
+    if enough {
+        tally.print();
+    }
+    Ok(enough)
+}
+
+/// Tells of a difference and keeps its input, made smaller.
+fn difference(program: &Program, made: &str, input: &[u8], how: String) -> io::Result<()> {
+    let still = |files: &Vec<Vec<u8>>| differs(program, &files[0]).is_ok_and(|how| how.is_some());
+    let small = shrink(&vec![input.to_vec()], Duration::from_secs(20), &still).remove(0);
+    report(&Difference { text: format!("{made}: {how}"), files: vec![("input".into(), small)] })
+}

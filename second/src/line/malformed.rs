@@ -1,0 +1,193 @@
+//! Lines that cannot be asked: each gets an error, and must not disturb its neighbours.
+
+use super::answers::Outcome;
+use super::script::{Name, Script, LONGEST_LINE, SUBFOLDER};
+use crate::library::questions::Question;
+use crate::making::rng::Rng;
+use crate::program::questions::Kind;
+
+/// A line of each kind. `F` stands for any file, `G` for an accepted one and `O` for one that is
+/// absent and stays so.
+pub fn every_kind(script: &mut Script, file: &Name, good: &Name, out: &Name) {
+    for (kind, line) in KINDS {
+        let some = *script.rng.pick(&GOOD);
+        let line = line(&mut script.rng, script.alone, some);
+        let word = |word: &[u8]| match word {
+            [b'F'] => file.word.clone().into_bytes(),
+            [b'G'] => good.word.clone().into_bytes(),
+            [b'O'] => out.word.clone().into_bytes(),
+            [b'G', 0] => [good.word.as_bytes(), b"\0.xpt"].concat(),
+            [b'O', 0] => [out.word.as_bytes(), b"\0"].concat(),
+            word => word.to_vec(),
+        };
+        let words = line.split(|byte| *byte == b' ').map(word).collect();
+        script.story();
+        script.words(words, Outcome::error(kind).answer, ("error", kind, None));
+    }
+}
+
+/// Every command, with good words.
+const GOOD: [&str; 9] = [
+    "check F",
+    "list F",
+    "normal F O",
+    "link F G O",
+    "iid F 00000000000000000000000000000001",
+    "key F - A",
+    "method F 1 m plain",
+    "slot F 1 0",
+    "const F 1 K",
+];
+
+type Line = fn(&mut Rng, bool, &str) -> Vec<u8>;
+
+/// The kinds of such lines, each a row of the table: how one is made from a good line, for a command
+/// that may run alone.
+const KINDS: [(&str, Line); 21] = [
+    ("blank", |_, _, _| Vec::new()),
+    ("spaces alone", |rng, _, _| vec![b' '; rng.range(1, 5)]),
+    ("unknown command", unknown_command),
+    ("too few words", |rng, _, some| {
+        let words: Vec<&str> = some.split(' ').collect();
+        words[..rng.range(1, words.len() - 1)].join(" ").into()
+    }),
+    ("too many words", |rng, _, some| {
+        format!("{some} {}", rng.pick(&["more", "0", "-", "F"])).into()
+    }),
+    ("a space too many", |rng, _, _| {
+        let some = *rng.pick(&GOOD[..4]);
+        let mut places: Vec<usize> = some.match_indices(' ').map(|(at, _)| at).collect();
+        places.extend([0, some.len()]);
+        let at = *rng.pick(&places);
+        format!("{} {}", &some[..at], &some[at..]).into()
+    }),
+    ("IID not hexadecimal", not_hexadecimal),
+    ("IID with an odd digit", |rng, _, _| {
+        format!("iid F {}", "1".repeat(*rng.pick(&[1, 3, 15, 31, 33, 63, 65]))).into()
+    }),
+    ("index not decimal", |rng, _, _| with_index(rng, not_decimal)),
+    ("index over 64 bits", |rng, _, _| with_index(rng, too_large)),
+    ("slot not decimal", |rng, _, _| format!("slot F 1 {}", not_decimal(rng)).into()),
+    ("slot over 64 bits", |rng, _, _| format!("slot F 1 {}", too_large(rng)).into()),
+    ("unknown kind", |rng, _, _| format!("method F 1 m {}", rng.pick(&NO_KINDS)).into()),
+    ("file absent", |_, _, some| some.replacen('F', "O", 1).into()),
+    ("file is a folder", |_, _, some| some.replacen('F', SUBFOLDER, 1).into()),
+    ("file name too long", |rng, _, some| {
+        some.replacen('F', &"f".repeat(*rng.pick(&[256, 5_000])), 1).into()
+    }),
+    ("file name with a zero byte", |rng, _, _| {
+        (*rng.pick(&["check G\0", "list G\0", "slot G\0 1 0", "normal G O\0"])).into()
+    }),
+    ("second file absent", |_, _, _| b"link G O O".to_vec()),
+    ("output in no folder", |rng, _, _| {
+        (*rng.pick(&["normal G none/o", "link G G none/o"])).into()
+    }),
+    ("output is a folder", |rng, _, _| {
+        format!("{} {SUBFOLDER}", rng.pick(&["normal G", "link G G"])).into()
+    }),
+    ("output name too long", |rng, _, _| {
+        format!("normal G {}", "o".repeat(*rng.pick(&[256, 5_000]))).into()
+    }),
+];
+
+const NO_KINDS: [&str; 9] =
+    ["Getter", "get", "getters", "PLAIN", "plain.", "method", "0", "-", "setter|plain"];
+
+/// A first word that is none of the commands. The last two are for batches only.
+fn unknown_command(rng: &mut Rng, alone: bool, _: &str) -> Vec<u8> {
+    const WORDS: [&str; 14] = [
+        "Check",
+        "CHECK",
+        "chec",
+        "checks",
+        "xpt check",
+        "lists",
+        "constant",
+        "methods",
+        "\u{e9}\u{fe}",
+        "check\t",
+        "-check",
+        "normalise",
+        "batch",
+        "check\0",
+    ];
+    let fit = if alone { &WORDS[..WORDS.len() - 2] } else { &WORDS };
+    format!("{} F", rng.pick(fit)).into()
+}
+
+fn not_hexadecimal(rng: &mut Rng, _: bool, _: &str) -> Vec<u8> {
+    let mut digits = b"0123456789abcdefABCDEF0123456789".to_vec();
+    match rng.below(4) {
+        0 => digits[1] = b'x',
+        1 => digits[8] = b'-',
+        2 => digits[30..].copy_from_slice("\u{b2}".as_bytes()),
+        _ => digits[rng.below(32)] = *rng.pick(b"gG/:@`hzZ.+-\x7f\xb1"),
+    }
+    [b"iid F ", &digits[..]].concat()
+}
+
+fn with_index(rng: &mut Rng, index: fn(&mut Rng) -> String) -> Vec<u8> {
+    let index = index(rng);
+    match rng.below(3) {
+        0 => format!("method F {index} m plain"),
+        1 => format!("slot F {index} 0"),
+        _ => format!("const F {index} K"),
+    }
+    .into()
+}
+
+fn not_decimal(rng: &mut Rng) -> String {
+    const WORDS: [&str; 12] =
+        ["+1", "-1", "0x1", "1.0", "1e0", "one", "1,0", "1a", "a1", "-", "\u{661}", "1_0"];
+    rng.pick(&WORDS).to_string()
+}
+
+/// Numbers of which a part that fits would be good.
+fn too_large(rng: &mut Rng) -> String {
+    const NUMBERS: [&str; 7] = [
+        // 2 to the 64th, and 1 more.
+        "18446744073709551616",
+        "18446744073709551617",
+        "36893488147419103233",
+        "99999999999999999999",
+        "100000000000000000001",
+        // 2 to the 128th, and 1 more.
+        "340282366920938463463374607431768211457",
+        "1000000000000000000000000000000000000000000000000000000000000000001",
+    ];
+    format!("{}{}", "0".repeat(rng.below(3)), rng.pick(&NUMBERS))
+}
+
+// Lines at the edge of what can be asked.
+
+/// Words that are empty: as a name they are bad, as an IID too short. Where a line's spaces make
+/// them, it may be an error too, and so for a namespace.
+pub fn empty_words(script: &mut Script, file: &Name) {
+    let alone = script.alone;
+    let mut ask = |command, more: &[&str], strictly: bool, question: Question| {
+        script.story();
+        let more = more.iter().map(|word| word.as_bytes().to_vec()).collect();
+        let step = script.ask_so(file, command, more, &question);
+        step.counts.push(("line", "with an empty word", None));
+        step.answer.or_error = !alone || !strictly;
+    };
+    ask("iid", &[""], true, Question::Iid(Vec::new()));
+    ask("key", &["-", ""], true, Question::Key(Vec::new(), Vec::new()));
+    ask("key", &["", "A"], false, Question::Key(Vec::new(), b"A".to_vec()));
+    ask("const", &["1", ""], true, Question::Constant(1, Vec::new()));
+    ask("method", &["1", "", "plain"], true, Question::Method(1, Vec::new(), Kind::Plain));
+}
+
+/// Lines about the greatest length that must be answered.
+pub fn long_lines(script: &mut Script, file: &Name) {
+    let taken = "const  1 ".len() + file.word.len();
+    for length in [LONGEST_LINE - 1, LONGEST_LINE, LONGEST_LINE + 1, LONGEST_LINE + 2] {
+        let name = vec![b'a'; length - taken];
+        script.story();
+        let words = vec![b"1".to_vec(), name.clone()];
+        let step = script.ask_so(file, "const", words, &Question::Constant(1, name));
+        step.answer.or_error = length > LONGEST_LINE;
+        let what = if length > LONGEST_LINE { "over 65,535 bytes" } else { "about 65,535 bytes" };
+        step.counts.push(("line", what, None));
+    }
+}

@@ -1,0 +1,354 @@
+//! Commands on the files of a folder, each with what it must answer and write.
+
+use super::answers::{self, Answer, Bytes, Outcome};
+use crate::library::questions::Question;
+use crate::making::rng::Rng;
+use crate::program::format::{refusal, Refusal};
+use crate::tally::{LINK, NUMBER};
+use std::collections::{BTreeMap, HashMap};
+use std::path::PathBuf;
+
+/// A file's path in the folder, and the word that names it in commands.
+#[derive(Clone, Debug)]
+pub struct Name {
+    pub path: String,
+    pub word: String,
+}
+
+/// A row of the table, and a place where it has places.
+pub type Count = (&'static str, &'static str, Option<u64>);
+
+/// What a refusal must tell on standard error, and the files of which it must name one.
+pub type Told = (Refusal, Vec<String>);
+
+#[derive(Default)]
+pub struct Step {
+    pub words: Vec<Vec<u8>>,
+    pub answer: Answer,
+    pub told: Option<Told>,
+    /// The files that it reads, as they are then.
+    pub reads: Vec<(Name, Bytes)>,
+    /// The path of its output.
+    pub out: Option<String>,
+    /// What the output holds from then on; nothing where it is left as it is.
+    pub written: Option<Bytes>,
+    pub counts: Vec<Count>,
+}
+
+impl Step {
+    pub fn line(&self) -> Vec<u8> {
+        self.words.join(&b' ')
+    }
+}
+
+/// Two outputs that must be the same in the end, or both absent.
+pub struct Law {
+    pub same: &'static str,
+    pub absent: &'static str,
+    pub files: [Name; 2],
+}
+
+/// A folder that stands in every folder beside the files.
+pub const SUBFOLDER: &str = "sub";
+
+/// Longer lines may be refused.
+pub const LONGEST_LINE: usize = 65_535;
+
+pub struct Script {
+    pub folder: PathBuf,
+    seed: u64,
+    pub rng: Rng,
+    /// Whether each command is run alone, so that its words may have spaces.
+    pub alone: bool,
+    /// The files that are there at the start, by path.
+    pub files: BTreeMap<String, Bytes>,
+    /// Symbolic links at the start: path and target.
+    pub links: Vec<(String, PathBuf)>,
+    /// Steps of one story keep their order. No story writes what another reads or writes.
+    pub stories: Vec<Vec<Step>>,
+    pub laws: Vec<Law>,
+    /// All files, as the stories told so far leave them.
+    now: HashMap<String, Bytes>,
+    names: usize,
+}
+
+impl Script {
+    pub fn new(folder: PathBuf, alone: bool, seed: u64) -> Script {
+        Script {
+            folder,
+            seed,
+            rng: Rng::new(seed),
+            alone,
+            files: BTreeMap::new(),
+            links: Vec::new(),
+            stories: vec![Vec::new()],
+            laws: Vec::new(),
+            now: HashMap::new(),
+            names: 0,
+        }
+    }
+
+    // Files.
+
+    /// A file that is there at the start.
+    pub fn place(&mut self, bytes: impl Into<Bytes>) -> Name {
+        let name = self.name("f");
+        self.place_at(&name.path, bytes);
+        name
+    }
+
+    pub fn place_at(&mut self, path: &str, bytes: impl Into<Bytes>) {
+        let bytes = bytes.into();
+        self.files.insert(path.to_string(), bytes.clone());
+        self.now.insert(path.to_string(), bytes);
+    }
+
+    /// A name that no file has, for an output.
+    pub fn free(&mut self) -> Name {
+        self.name("o")
+    }
+
+    pub fn content(&self, file: &Name) -> Option<&Bytes> {
+        self.now.get(&file.path)
+    }
+
+    fn name(&mut self, stem: &str) -> Name {
+        self.names += 1;
+        let k = self.names;
+        let path = match self.rng.below(12) {
+            0 => format!("{SUBFOLDER}/{stem}{k}"),
+            1 => format!("{stem}{k}.xpt"),
+            2 => format!("{stem}\u{e9}{k}"),
+            3 | 4 if self.alone => format!("{stem} {k}"),
+            5 if self.alone => format!(" {stem}{k} "),
+            _ => format!("{stem}{k}"),
+        };
+        let word = self.word(&path);
+        Name { path, word }
+    }
+
+    /// One of the ways to name a file.
+    fn word(&mut self, path: &str) -> String {
+        let absolute = self.folder.join(path).to_str().map(str::to_string);
+        // A program may take outputs under /dev for devices.
+        let is_fit =
+            |word: &String| (self.alone || !word.contains(' ')) && !word.starts_with("/dev/");
+        match (self.rng.below(8), absolute.filter(is_fit)) {
+            (0, Some(absolute)) => absolute,
+            (1, _) => format!("./{path}"),
+            (2, _) => format!("{SUBFOLDER}/../{path}"),
+            _ => path.to_string(),
+        }
+    }
+
+    /// Another word for the same file: another way to it, or a symbolic link.
+    pub fn alias(&mut self, file: &Name) -> Name {
+        let path = file.path.clone();
+        if self.rng.percent(30) {
+            self.names += 1;
+            let word = format!("l{}", self.names);
+            self.links.push((word.clone(), self.folder.join(&path)));
+            return Name { path, word };
+        }
+        loop {
+            let word = self.word(&path);
+            if word != file.word {
+                return Name { path, word };
+            }
+        }
+    }
+
+    // Commands.
+
+    /// What follows is a story of its own.
+    pub fn story(&mut self) {
+        self.stories.push(Vec::new());
+    }
+
+    fn add(&mut self, step: Step) -> &mut Step {
+        if let (Some(path), Some(bytes)) = (&step.out, &step.written) {
+            self.now.insert(path.clone(), bytes.clone());
+        }
+        self.stories.last_mut().expect("there is a story").push(step);
+        self.last()
+    }
+
+    fn last(&mut self) -> &mut Step {
+        self.stories.last_mut().and_then(|story| story.last_mut()).expect("there is a step")
+    }
+
+    /// Words that must be answered so, whatever they are. None of them names an output.
+    pub fn words(&mut self, words: Vec<Vec<u8>>, answer: Answer, count: Count) {
+        self.add(Step { words, answer, counts: vec![count], ..Step::default() });
+    }
+
+    /// Another row that the last step counts for.
+    pub fn count(&mut self, about: &'static str, what: &'static str) {
+        self.last().counts.push((about, what, None));
+    }
+
+    /// A command on these files, with more words after them.
+    fn command(
+        &mut self,
+        command: &'static str,
+        files: &[&Name],
+        more: Vec<Vec<u8>>,
+        out: Option<&Name>,
+        outcome: impl Fn(&[&[u8]]) -> Outcome,
+    ) -> &mut Step {
+        let names = files.iter().copied().chain(out);
+        let mut words = vec![command.into()];
+        words.extend(names.map(|name| name.word.clone().into_bytes()));
+        words.extend(more);
+        let content = |name: &&Name| self.content(name).cloned();
+        let contents: Vec<Bytes> = files.iter().filter_map(content).collect();
+        let outcome = match contents.len() == files.len() {
+            true => outcome(&contents.iter().map(|bytes| &bytes[..]).collect::<Vec<_>>()),
+            false => Outcome::error("file absent"),
+        };
+        let mut counts = vec![(command, outcome.what, None)];
+        let told = outcome.refusal.map(|(which, refusal)| {
+            let number = NUMBER[refusal.number as usize];
+            counts.push(("refused", number, Some(refusal.place as u64)));
+            let whose = if which == 0 { files } else { &files[usize::from(which) - 1..][..1] };
+            (refusal, whose.iter().map(|file| file.word.clone()).collect())
+        });
+        self.add(Step {
+            words,
+            answer: outcome.answer,
+            told,
+            reads: files.iter().map(|name| (*name).clone()).zip(contents).collect(),
+            out: out.map(|out| out.path.clone()),
+            written: outcome.written,
+            counts,
+        })
+    }
+
+    pub fn check(&mut self, file: &Name) {
+        self.command("check", &[file], Vec::new(), None, |files| answers::checked(files[0]));
+    }
+
+    pub fn list(&mut self, file: &Name) {
+        self.command("list", &[file], Vec::new(), None, |files| answers::listed(files[0]));
+    }
+
+    /// One question, if it can be put so: a line has no spaces inside words, and the words of a
+    /// command alone have no zero bytes and are not very long.
+    pub fn ask(&mut self, file: &Name, question: &Question) {
+        let question = match question {
+            // The word `-` is the default namespace.
+            Question::Key(space, name) if space == b"-" => Question::Key(Vec::new(), name.clone()),
+            question => question.clone(),
+        };
+        let (command, words) = answers::question_words(&question, &mut self.rng);
+        let cannot = if self.alone { &b"\0"[..] } else { b" \n" };
+        let is_long = words.iter().map(Vec::len).sum::<usize>() > LONGEST_LINE - 1_000;
+        if words.iter().flatten().any(|byte| cannot.contains(byte)) || self.alone && is_long {
+            return;
+        }
+        let alone = self.alone;
+        let is_empty = words.iter().any(Vec::is_empty);
+        let step = self.ask_so(file, command, words, &question);
+        step.counts.extend(spelling(step));
+        if is_long || is_empty {
+            let what = if is_long { "over 65,535 bytes" } else { "with an empty word" };
+            step.counts.push(("line", what, None));
+            step.answer.or_error = !alone;
+        }
+    }
+
+    /// One question in these words after the file's.
+    pub fn ask_so(
+        &mut self,
+        file: &Name,
+        command: &'static str,
+        words: Vec<Vec<u8>>,
+        question: &Question,
+    ) -> &mut Step {
+        self.command(command, &[file], words, None, |files| answers::asked(files[0], question))
+    }
+
+    /// Normalises one file or links two; `order` counts where a pair is linked both ways. The
+    /// papers leave open what a refused file with one that can't be read gives.
+    pub fn write(
+        &mut self,
+        command: &'static str,
+        files: &[&Name],
+        out: &Name,
+        order: Option<&'static str>,
+    ) {
+        let existed = self.content(out).is_some();
+        let step = self.command(command, files, Vec::new(), Some(out), answers::written);
+        if let (Some(order), Some((why, _))) = (order, &step.told) {
+            if !refusal::is_of_file(why.number) {
+                step.counts.push((LINK[why.number as usize], order, Some(why.place as u64)));
+            }
+        }
+        let what = match (step.written.is_some(), existed) {
+            (true, true) => "output replaced",
+            (true, false) => "output made",
+            (false, true) => "output kept",
+            (false, false) => "output still absent",
+        };
+        step.counts.push((command, what, None));
+    }
+
+    pub fn normal(&mut self, file: &Name, out: &Name) {
+        self.write("normal", &[file], out, None);
+    }
+
+    pub fn link(&mut self, first: &Name, second: &Name, out: &Name) {
+        self.write("link", &[first, second], out, None);
+    }
+
+    /// All steps. Few or many stories are mixed at a time, so that what a program keeps of a file
+    /// is asked for soon and late.
+    pub fn merged(&self) -> Vec<&Step> {
+        let rng = &mut Rng::new(self.seed);
+        let mut stories: Vec<&[Step]> = self.stories.iter().map(|story| &story[..]).collect();
+        rng.shuffle(&mut stories);
+        let mut steps = Vec::new();
+        while !stories.is_empty() {
+            let width = *rng.pick(&[1, 1, 2, 3, 8, 30, 100, 300]);
+            let mixed = stories.split_off(stories.len().saturating_sub(width));
+            mix(&mixed, rng, &mut steps);
+        }
+        steps
+    }
+
+    /// The steps of the same story before this one.
+    pub fn story_before(&self, step: &Step) -> &[Step] {
+        let place = |story: &Vec<Step>| story.iter().position(|other| std::ptr::eq(other, step));
+        let before = self.stories.iter().find_map(|story| Some(&story[..place(story)?]));
+        before.unwrap_or(&[])
+    }
+}
+
+/// How a question is spelled that has an answer.
+fn spelling(step: &Step) -> Option<Count> {
+    let text = step.answer.text.as_ref()?;
+    let [command, _, word, ..] = &step.words[..] else { return None };
+    let is_found = text.starts_with(b"found ");
+    let what = match &command[..] {
+        _ if text.starts_with(b"refused ") => return None,
+        b"iid" if is_found && word.iter().any(u8::is_ascii_uppercase) => "IID in upper case",
+        b"iid" if is_found && word.iter().any(u8::is_ascii_lowercase) => "IID in lower case",
+        b"key" if is_found && word == b"-" => "default namespace",
+        b"key" if is_found => "a namespace",
+        b"method" | b"slot" | b"const" if word[0] == b'0' => "index with leading zeros",
+        b"slot" if step.words[3][0] == b'0' && step.words[3].len() > 1 => "slot with leading zeros",
+        _ => return None,
+    };
+    Some(("spelled", what, None))
+}
+
+/// Takes steps from these stories by chance, each story's in order.
+fn mix<'s>(stories: &[&'s [Step]], rng: &mut Rng, steps: &mut Vec<&'s Step>) {
+    let mut turns: Vec<usize> = Vec::new();
+    for (i, story) in stories.iter().enumerate() {
+        turns.extend(std::iter::repeat_n(i, story.len()));
+    }
+    rng.shuffle(&mut turns);
+    let mut rest: Vec<_> = stories.iter().map(|story| story.iter()).collect();
+    steps.extend(turns.into_iter().filter_map(|i| rest[i].next()));
+}

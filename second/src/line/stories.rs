@@ -1,0 +1,394 @@
+//! Stories: commands that belong together, about generated files.
+
+use super::answers::Bytes;
+use super::malformed;
+use super::script::{Law, Name, Script};
+use crate::library::links::{BACKWARD, FORWARD};
+use crate::library::questions::{question, Question};
+use crate::making::builder::*;
+use crate::making::rng::Rng;
+use crate::making::{generate, hostile, model, pairs};
+use crate::program::check::check;
+use crate::program::listing::MAX_INPUT;
+use crate::program::questions::Kind;
+
+/// A good file of any shape.
+pub fn good(rng: &mut Rng) -> Vec<u8> {
+    match rng.below(24) {
+        0 => {
+            let count = rng.range(1, 16);
+            generate::overlapping_heads(rng, count)
+        }
+        1 => {
+            let order = *rng.pick(&[Order::Entries, Order::NamesFirst, Order::Shuffled]);
+            generate::rich(rng.below(2) as u8, order).bytes()
+        }
+        2 => rng.pick(&generate::marked()).clone(),
+        3..6 => generate::random(rng, generate::SMALL).bytes(),
+        6..9 => generate::random(rng, generate::MEDIUM).bytes(),
+        9 => generate::random(rng, generate::LARGE).bytes(),
+        10 => pairs::empty(rng).bytes(),
+        _ => generate::family(rng).bytes(),
+    }
+}
+
+/// Questions of a file, and now and then its check and its listing.
+pub fn questions(script: &mut Script, file: &Name, count: usize) {
+    let read = |bytes: &Bytes| check(bytes).is_ok().then(|| model::read(bytes));
+    let model = script.content(file).and_then(read);
+    // A file that is refused is asked what another could answer.
+    let model = model.unwrap_or_else(|| generate::family(&mut script.rng));
+    let start = script.rng.below(5);
+    for turn in 0..count {
+        match script.rng.below(20) {
+            0 => script.check(file),
+            1 => script.list(file),
+            _ => {
+                let (_, question) = question(&model, &mut script.rng, start + turn);
+                script.ask(file, &question);
+            }
+        }
+    }
+}
+
+/// A file by all commands that only read.
+pub fn asked(script: &mut Script, bytes: impl Into<Bytes>, count: usize) {
+    let file = script.place(bytes);
+    script.story();
+    script.check(&file);
+    script.list(&file);
+    questions(script, &file, count);
+}
+
+/// A file and questions that have every kind of answer.
+pub fn every_answer(script: &mut Script) {
+    let kinds = [(b"a", 1, 0xfffe), (b"b", 2, 0x8000_0000), (b"c", 5, 0xffff), (b"d", 6, u32::MAX)];
+    let constants = kinds.map(|(name, kind, value)| Constant::new(name, kind, value)).to_vec();
+    let methods =
+        vec![Method::plain(0, b"m"), Method::plain(GETTER, b"g"), Method::plain(SETTER, b"g")];
+    let mut lib = Typelib { entries: generate::entries(3), ..Typelib::default() };
+    lib.entries[2].namespace = Some(b"N".to_vec());
+    // The second is below the first, which is unresolved.
+    for (i, parent) in [(1, 1), (2, 0)] {
+        let (methods, constants) = (methods.clone(), constants.clone());
+        let d = lib.add(Descriptor { parent, methods, constants, flags: 0 });
+        lib.entries[i].descriptor = Some(d);
+    }
+    let mut asked = vec![
+        Question::Iid(generate::iid(2).to_vec()),
+        Question::Iid(generate::iid(9).to_vec()),
+        Question::Iid(vec![0; 16]),
+        Question::Iid(vec![1; 15]),
+    ];
+    for (space, name) in [("", "E0"), ("N", "E2"), ("N", "E0"), ("N-", "E2")] {
+        asked.push(Question::Key(space.into(), name.into()));
+    }
+    for index in [0, 1, 2, 3, 4] {
+        for (name, kind) in
+            [(b"m", Kind::Plain), (b"g", Kind::Getter), (b"g", Kind::Setter), (b"x", Kind::Plain)]
+        {
+            asked.push(Question::Method(index, name.to_vec(), kind));
+        }
+        asked.extend([0, 2, 3].map(|slot| Question::Slot(index, slot)));
+        asked.extend([b"a", b"b", b"c", b"d", b"x"].map(|k| Question::Constant(index, k.to_vec())));
+    }
+    let file = script.place(lib.bytes());
+    for question in &asked {
+        script.story();
+        script.ask(&file, question);
+    }
+}
+
+/// An output: one that is there, with some bytes, or not.
+fn output(script: &mut Script) -> Name {
+    let out = script.free();
+    if script.rng.percent(50) {
+        let bytes = match script.rng.below(3) {
+            0 => Vec::new(),
+            1 => (0..script.rng.below(3_000)).map(|_| script.rng.byte()).collect(),
+            _ => good(&mut script.rng),
+        };
+        script.place_at(&out.path, bytes);
+    }
+    out
+}
+
+/// A file for the check, which may be refused, by all commands; `good` is accepted.
+pub fn checked(script: &mut Script, bytes: &Bytes, good: &Name) {
+    let file = script.place(bytes.clone());
+    script.story();
+    script.check(&file);
+    match script.rng.below(6) {
+        0 => script.list(&file),
+        1 => {
+            let out = output(script);
+            script.normal(&file, &out);
+            script.check(&out);
+        }
+        2 => {
+            let out = output(script);
+            match script.rng.below(3) {
+                0 => script.link(&file, good, &out),
+                1 => script.link(good, &file, &out),
+                _ => script.link(&file, &file, &out),
+            }
+            script.check(&out);
+        }
+        _ => questions(script, &file, 3),
+    }
+}
+
+/// Every length under 32, and every byte of the magic.
+pub fn headers(script: &mut Script) {
+    let [.., p3] = generate::marked();
+    let mut files: Vec<Vec<u8>> = (0..=32).map(|length| p3[..length].to_vec()).collect();
+    for at in 0..16 {
+        let mut file = p3.clone();
+        file[at] ^= 1 << script.rng.below(8);
+        files.push(file);
+    }
+    for bytes in files {
+        let file = script.place(bytes);
+        script.story();
+        script.check(&file);
+    }
+}
+
+fn law(script: &mut Script, same: &'static str, absent: &'static str, a: &Name, b: &Name) {
+    script.laws.push(Law { same, absent, files: [a.clone(), b.clone()] });
+}
+
+/// The normal form, asked and normalised again.
+pub fn normalised(script: &mut Script, bytes: impl Into<Bytes>) {
+    let file = script.place(bytes);
+    let (out, again) = (output(script), script.free());
+    script.story();
+    script.normal(&file, &out);
+    questions(script, &out, 4);
+    script.normal(&out, &again);
+    if script.content(&again).is_some() {
+        law(script, "its own normal form", "", &out, &again);
+    }
+}
+
+/// A pair in both orders.
+pub fn pair(script: &mut Script, a: &Bytes, b: &Bytes) {
+    let (a, b) = (script.place(a.clone()), script.place(b.clone()));
+    let (ab, ba) = (script.free(), script.free());
+    script.story();
+    script.write("link", &[&a, &b], &ab, Some(FORWARD));
+    match script.content(&ab).is_some() {
+        true => questions(script, &ab, 4),
+        false if script.rng.percent(20) => script.check(&ab),
+        false => {}
+    }
+    script.write("link", &[&b, &a], &ba, Some(BACKWARD));
+    law(script, "swapping: same bytes", "swapping: neither", &ab, &ba);
+}
+
+/// Both ways to group a triple. What a refused link did not write cannot be read.
+pub fn triple(script: &mut Script, files: [&Bytes; 3]) {
+    let [a, b, c] = files.map(|bytes| script.place(bytes.clone()));
+    let [ab, bc, ab_c, a_bc] = [0; 4].map(|_| script.free());
+    script.story();
+    script.link(&a, &b, &ab);
+    script.link(&ab, &c, &ab_c);
+    script.link(&b, &c, &bc);
+    script.link(&a, &bc, &a_bc);
+    law(script, "grouping: same bytes", "grouping: neither", &ab_c, &a_bc);
+}
+
+/// A file with itself and with an empty one, as normalising.
+pub fn self_and_empty(script: &mut Script, bytes: impl Into<Bytes>) {
+    let empty = pairs::empty(&mut script.rng).bytes();
+    let (a, empty) = (script.place(bytes), script.place(empty));
+    let [normal, aa, ae, ea] = [0; 4].map(|_| script.free());
+    script.story();
+    script.normal(&a, &normal);
+    script.link(&a, &a, &aa);
+    law(script, "self", "self: neither", &aa, &normal);
+    script.link(&a, &empty, &ae);
+    law(script, "empty", "empty: neither", &ae, &normal);
+    script.link(&empty, &a, &ea);
+    law(script, "empty", "empty: neither", &ea, &normal);
+}
+
+/// Files of one world, and conflicts between them.
+pub fn linked(script: &mut Script) {
+    let rng = &mut script.rng;
+    let world = pairs::world(rng);
+    let views = [0; 3].map(|_| pairs::view(&world, rng));
+    let mut others = Vec::new();
+    for _ in 0..4 {
+        let mut other = views[1].clone();
+        if pairs::conflict(&views[0], &mut other, rng).is_some() {
+            others.push(Bytes::from(other.bytes()));
+        }
+    }
+    let (one, two) = pairs::endless(rng);
+    let [a, b, c] = views.map(|lib| Bytes::from(lib.bytes()));
+    pair(script, &a, &b);
+    for other in &others {
+        pair(script, &a, other);
+    }
+    pair(script, &one.bytes().into(), &two.bytes().into());
+    match (script.rng.below(3), others.first()) {
+        (0, Some(other)) => triple(script, [&a, other, &c]),
+        (1, Some(other)) => triple(script, [other, &c, &a]),
+        _ => triple(script, [&a, &b, &c]),
+    }
+    self_and_empty(script, c);
+}
+
+/// An output that is written again and again, and asked each time; `bad` is refused.
+pub fn rewritten(script: &mut Script, bad: &Bytes) {
+    let files = [0; 3].map(|_| good(&mut script.rng));
+    let [a, b, c] = files.map(|bytes| script.place(bytes));
+    let bad = script.place(bad.clone());
+    let out = script.free();
+    script.story();
+    script.check(&out);
+    let mut before = None;
+    for file in [&a, &b, &bad, &c, &a] {
+        match script.rng.below(3) {
+            0 => script.link(file, &a, &out),
+            1 => script.link(&b, file, &out),
+            _ => script.normal(file, &out),
+        }
+        let now = script.content(&out).cloned();
+        script.check(&out);
+        if before.is_some() && before != now {
+            script.count("output", "asked anew with other bytes");
+        }
+        before = now;
+        script.list(&out);
+        questions(script, &out, 3);
+        let copy = script.free();
+        script.normal(&out, &copy);
+    }
+}
+
+/// A file that is its own output.
+pub fn in_place(script: &mut Script) {
+    let (a, b) = (good(&mut script.rng), good(&mut script.rng));
+    let (a, b) = (script.place(a), script.place(b));
+    script.story();
+    script.check(&a);
+    script.normal(&a, &a);
+    script.count("output", "also the input");
+    questions(script, &a, 2);
+    script.link(&a, &b, &a);
+    questions(script, &a, 2);
+    script.link(&b, &a, &b);
+    questions(script, &b, 2);
+    script.link(&b, &b, &b);
+    script.list(&b);
+    script.list(&a);
+}
+
+/// An output that is read by other names than the one that it is written by.
+pub fn by_other_names(script: &mut Script) {
+    let files = [0; 3].map(|_| good(&mut script.rng));
+    let [a, b, c] = files.map(|bytes| script.place(bytes));
+    let out = output(script);
+    let others = [0; 3].map(|_| script.alias(&out));
+    script.story();
+    for file in [&a, &b, &c] {
+        script.normal(file, &out);
+        for other in &others {
+            script.list(other);
+            script.count("output", "asked by another name");
+        }
+    }
+}
+
+/// An output beside files with the names that a temporary one may have.
+pub fn among_others(script: &mut Script) {
+    let a = good(&mut script.rng);
+    let a = script.place(a);
+    let out = output(script);
+    for ending in [".tmp", ".temp", "~", ".new", ".part", ".bak", ".0"] {
+        script.place_at(&format!("{}{ending}", out.path), *b"not a typelib");
+        let (folder, name) = out.path.rsplit_once('/').unwrap_or(("", &out.path));
+        let slash = if folder.is_empty() { "" } else { "/" };
+        script.place_at(&format!("{folder}{slash}.{name}{ending}"), *b"nor this");
+    }
+    script.story();
+    script.normal(&a, &out);
+    script.count("output", "among names like its own");
+    script.link(&a, &a, &out);
+    script.check(&out);
+    // No name in a folder is longer.
+    let path = "n".repeat(255);
+    let longest = Name { path: path.clone(), word: path };
+    script.normal(&a, &longest);
+    script.count("output", "with the longest name");
+    script.check(&longest);
+}
+
+/// Lines of every kind that cannot be asked, and some at the edge.
+pub fn malformed(script: &mut Script, bad: &Bytes) {
+    let bytes = generate::family(&mut script.rng).bytes();
+    let (good, bad) = (script.place(bytes), script.place(bad.clone()));
+    let out = script.free();
+    malformed::every_kind(script, &good, &good, &out);
+    malformed::every_kind(script, &bad, &good, &out);
+    malformed::empty_words(script, &good);
+    malformed::empty_words(script, &bad);
+}
+
+pub fn long_lines(script: &mut Script) {
+    let bytes = generate::family(&mut script.rng).bytes();
+    let file = script.place(bytes);
+    malformed::long_lines(script, &file);
+}
+
+/// Large files, with how they count.
+pub fn large(rng: &mut Rng) -> Vec<(&'static str, Bytes)> {
+    let family = generate::family(rng);
+    let filled = |lib: &Typelib, length: usize| generate::filled_to(lib, length).bytes();
+    let mut short = filled(&family, MAX_FILE);
+    short[23] ^= 1;
+    let empty = Typelib::default();
+    let [upward, downward] = hostile::chains();
+    let files = [
+        ("of 1,048,576 bytes, accepted", filled(&family, MAX_FILE)),
+        ("of 1,048,576 bytes, accepted", filled(&empty, MAX_FILE)),
+        ("of 1,048,576 bytes, refused", short),
+        ("of 1,048,576 bytes, refused", vec![0; MAX_FILE]),
+        ("of 1,048,577 bytes", filled(&family, MAX_FILE + 1)),
+        ("of 1,048,577 bytes", filled(&empty, MAX_FILE + 1)),
+        ("of 1,048,577 bytes", vec![0; MAX_FILE + 1]),
+        ("of 1,048,577 bytes", [filled(&family, MAX_FILE), vec![0]].concat()),
+        ("longer", filled(&family, 3_000_000)),
+        ("of 65,536 bytes", filled(&family, MAX_INPUT)),
+        ("of 65,537 bytes", filled(&family, MAX_INPUT + 1)),
+        ("of 65,537 bytes", filled(&empty, MAX_INPUT + 1)),
+        ("of 1,024 interfaces", generate::wide(rng, MAX_INTERFACES).bytes()),
+        ("of 1,024 interfaces", upward),
+        ("of 1,024 interfaces", downward),
+        ("ordinary", hostile::ordinary()),
+        ("of a long listing", hostile::long_listing(8)),
+        ("of a normal form of 1,048,576", pairs::of_normal_length(MAX_FILE, 'd').bytes()),
+        ("of a normal form of 1,048,577", pairs::of_normal_length(MAX_FILE + 1, 'c').bytes()),
+    ];
+    files.into_iter().map(|(what, bytes)| (what, bytes.into())).collect()
+}
+
+/// A large file by all commands.
+pub fn large_file(script: &mut Script, what: &'static str, bytes: &Bytes) {
+    let file = script.place(bytes.clone());
+    let small = good(&mut script.rng);
+    let small = script.place(small);
+    script.story();
+    script.check(&file);
+    script.count("file", what);
+    script.list(&file);
+    questions(script, &file, 4);
+    let out = output(script);
+    script.normal(&file, &out);
+    script.check(&out);
+    script.link(&file, &small, &out);
+    script.link(&small, &file, &out);
+    script.check(&out);
+}

@@ -1,0 +1,91 @@
+//! Generated files that many scripts take from.
+
+use super::answers::Bytes;
+use super::stories;
+use crate::making::rng::Rng;
+use crate::making::{damage, pairs};
+use crate::program::check::check;
+use crate::program::format::{Refusal, MAX_FILE};
+use crate::program::link::link;
+use crate::program::Answer;
+use std::collections::BTreeMap;
+
+pub struct Supply {
+    /// For the check, with its answer.
+    pub checked: Vec<(Answer, Bytes)>,
+    /// Pairs whose union is large, with the number of their refusal.
+    pub pairs: Vec<(u32, [Bytes; 2])>,
+    pub large: Vec<(&'static str, Bytes)>,
+}
+
+impl Supply {
+    /// With up to so many files of each kind for the check.
+    pub fn new(seed: u64, most: usize) -> Supply {
+        let rng = &mut Rng::new(seed);
+        let mut checked = sampled(seed, most);
+        rng.shuffle(&mut checked);
+        let mut made = [pairs::wide(rng), pairs::long()].concat();
+        rng.shuffle(&mut made);
+        let pair = |(_, a, b): pairs::Pair| {
+            let (a, b) = (a.bytes(), b.bytes());
+            let linked = link(&a, &b, &mut vec![0; MAX_FILE]);
+            (linked.map_or_else(|(_, refusal)| refusal.number, |_| 0), [a.into(), b.into()])
+        };
+        let pairs = made.into_iter().map(pair).collect();
+        Supply { checked, pairs, large: stories::large(rng) }
+    }
+
+    /// A pair of each number, others for other k.
+    pub fn pairs(&self, k: usize) -> Vec<&[Bytes; 2]> {
+        of_each(&self.pairs, k)
+    }
+
+    /// A refused file of each number, for other k at other places where there are some.
+    pub fn refused(&self, k: usize) -> Vec<&Bytes> {
+        let mut places = BTreeMap::new();
+        for (answer, bytes) in &self.checked {
+            if let Err(Refusal { number, place }) = answer {
+                places.entry((*number, *place)).or_insert(bytes);
+            }
+        }
+        let all: Vec<(u32, &Bytes)> =
+            places.into_iter().map(|((number, _), bytes)| (number, bytes)).collect();
+        of_each(&all, k).into_iter().copied().collect()
+    }
+}
+
+fn of_each<T>(all: &[(u32, T)], k: usize) -> Vec<&T> {
+    let mut by_number: BTreeMap<u32, Vec<&T>> = BTreeMap::new();
+    for (number, item) in all {
+        by_number.entry(*number).or_default().push(item);
+    }
+    by_number.values().map(|items| items[k % items.len()]).collect()
+}
+
+/// The k-th of so many parts.
+pub fn part<T>(all: &[T], k: usize, parts: usize) -> impl Iterator<Item = &T> {
+    all.iter().skip(k % parts).step_by(parts)
+}
+
+/// Files for the check are longer only now and then.
+const LONG: usize = 100_000;
+
+/// Up to `most` files of each kind, few of them long.
+fn sampled(seed: u64, most: usize) -> Vec<(Answer, Bytes)> {
+    let rng = &mut Rng::new(seed);
+    // How many were seen of each kind, and those kept: every one has the same chance.
+    let mut kinds: BTreeMap<(&str, bool), (usize, Vec<Bytes>)> = BTreeMap::new();
+    damage::everything(seed, &mut |made| {
+        let is_long = made.bytes.len() > LONG;
+        let most = if is_long { most.div_ceil(40) } else { most };
+        let (seen, kept) = kinds.entry((made.how, is_long)).or_default();
+        *seen += 1;
+        if kept.len() < most {
+            kept.push(made.bytes.into());
+        } else if let Some(place) = kept.get_mut(rng.below(*seen)) {
+            *place = made.bytes.into();
+        }
+    });
+    let kept = kinds.into_values().flat_map(|(_, kept)| kept);
+    kept.map(|file| (check(&file), file)).collect()
+}

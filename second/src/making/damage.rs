@@ -1,0 +1,922 @@
+//! Damaged typelibs. Where the damage is made on purpose its refusal is known from how it was
+//! made and handed on with the file; elsewhere only the two checks are compared.
+
+use super::builder::*;
+use super::faults::{faults, lowest_endless, number};
+use super::generate::{self, entries, fitting, single};
+use super::pairs;
+use super::rng::Rng;
+use crate::program::Answer;
+
+/// Takes a file, its answer where that is known, and how it was made.
+pub type Sink<'a> = dyn FnMut(&[u8], Option<Answer>, &'static str) + 'a;
+
+/// A generated file.
+pub struct Made<'a> {
+    pub bytes: &'a [u8],
+    /// The answer, where it is known from how the file was made. Files whose bytes were changed
+    /// without a purpose have none.
+    pub known: Option<Answer>,
+    pub how: &'static str,
+    /// The number of the good file that it was made from. No two that were built from models of
+    /// their own have the same.
+    pub base: u64,
+}
+
+/// Numbers the good files that others are made from, and hands all of them on.
+struct Bases<'a> {
+    sink: &'a mut dyn FnMut(&Made),
+    count: u64,
+}
+
+impl Bases<'_> {
+    /// What comes is built from models, one for each file.
+    fn each(&mut self, make: impl FnOnce(&mut Sink)) {
+        make(&mut |bytes: &[u8], known: Option<Answer>, how: &'static str| {
+            self.count += 1;
+            (self.sink)(&Made { bytes, known, how, base: self.count });
+        });
+    }
+
+    /// What comes is made from one good file.
+    fn one(&mut self, make: impl FnOnce(&mut Sink)) {
+        self.count += 1;
+        let base = self.count;
+        make(&mut |bytes: &[u8], known: Option<Answer>, how: &'static str| {
+            (self.sink)(&Made { bytes, known, how, base });
+        });
+    }
+}
+
+fn refused(number: u32, place: usize) -> Option<Answer> {
+    Some(Err(Refusal { number, place }))
+}
+
+/// The answer to a file that is good, or refused with 16 at this place.
+fn good_or_rule(good: bool, place: usize) -> Option<Answer> {
+    if good {
+        Some(Ok(1))
+    } else {
+        refused(refusal::RULE, place)
+    }
+}
+
+fn put(bytes: &mut [u8], at: usize, new: &[u8]) {
+    bytes[at..at + new.len()].copy_from_slice(new);
+}
+
+fn set_length(bytes: &mut [u8]) {
+    let length = (bytes.len() as u32).to_be_bytes();
+    put(bytes, 20, &length);
+}
+
+/// One interface with these methods.
+fn with_methods(methods: Vec<Method>) -> Typelib {
+    single(Descriptor { methods, ..Descriptor::default() })
+}
+
+/// Known faults alone, up to `singles`, and `pairs` times two at once: the one met first is given.
+pub fn single_and_paired(lib: &Typelib, seed: u64, singles: usize, pairs: usize, sink: &mut Sink) {
+    let built = lib.build();
+    let good = &built.bytes;
+    let mut all = faults(lib, &built, seed);
+    let mut bytes = good.clone();
+    let mut rng = Rng::new(seed);
+    rng.shuffle(&mut all);
+    for fault in all.iter().take(singles) {
+        fault.apply(&mut bytes);
+        sink(&bytes, Some(Err(fault.refusal)), fault.what);
+        fault.undo(&mut bytes, good);
+    }
+    for _ in 0..pairs {
+        let (a, b) = (rng.pick(&all), rng.pick(&all));
+        if !a.is_apart(b) {
+            continue;
+        }
+        a.apply(&mut bytes);
+        b.apply(&mut bytes);
+        let first = if a.rank <= b.rank { a } else { b };
+        sink(&bytes, Some(Err(first.refusal)), "two faults");
+        a.undo(&mut bytes, good);
+        b.undo(&mut bytes, good);
+    }
+}
+
+fn field_label(field: Field) -> &'static str {
+    use Field::*;
+    match field {
+        Parent => "13 parent does not fit",
+        MethodCount => "13 method count does not fit",
+        MethodFlags => "13 method flags do not fit",
+        MethodName => "13 method name does not fit",
+        ArgumentCount => "13 argument count does not fit",
+        ArgumentFlags => "13 argument flags do not fit",
+        ResultFlags => "13 result flags do not fit",
+        ArgumentPrefix => "13 argument prefix does not fit",
+        ResultPrefix => "13 result prefix does not fit",
+        Index => "13 index does not fit",
+        Number => "13 number does not fit",
+        ConstantCount => "13 constant count does not fit",
+        ConstantName => "13 constant name does not fit",
+        ConstantType => "13 constant type does not fit",
+        ConstantValue => "13 constant value does not fit",
+        InterfaceFlags => "13 interface flags do not fit",
+        _ => "13 other",
+    }
+}
+
+/// Cuts inside the record that stands last in the pool, the length field set to the rest: every
+/// descriptor in turn, then a name.
+pub fn cut_last_record(lib: &Typelib, sink: &mut Sink) {
+    let lib = Typelib { tail: 0, sharing: Sharing::None, ..lib.clone() };
+    let mut cut = |good: &[u8], length: usize, place: usize, what: &'static str| {
+        let mut bytes = good[..length].to_vec();
+        set_length(&mut bytes);
+        sink(&bytes, refused(number(what), place), what);
+    };
+    for d in 0..lib.descriptors.len() {
+        let order = Order::NamesFirst;
+        let built = Typelib { order, last: Some(d), ..lib.clone() }.build();
+        let good = &built.bytes;
+        let placed = &built.placed[d];
+        if placed.entry == usize::MAX {
+            continue;
+        }
+        cut(good, placed.at, built.entry(placed.entry) + 24, "13 descriptor cut away");
+        let inside = |s: &&Spot| s.of == d && s.at >= placed.at && s.field != Field::Identifier;
+        let fields: Vec<_> = built.spots.iter().filter(inside).collect();
+        for length in placed.at + 1..good.len() {
+            let spot = fields.iter().find(|spot| spot.at + spot.length > length).unwrap();
+            cut(good, length, spot.at, field_label(spot.field));
+        }
+    }
+    let built = Typelib { order: Order::NamesLast, ..lib }.build();
+    let end = built.bytes.len();
+    for spot in built.spots.iter().filter(|spot| spot.field == Field::Identifier) {
+        if spot.at + spot.length + 1 == end {
+            let field = built.spots[spot.of].at;
+            cut(&built.bytes, spot.at, field, "13 name cut away");
+            for length in spot.at + 1..end {
+                cut(&built.bytes, length, field, "11 unfinished");
+            }
+        }
+    }
+}
+
+/// Every value of every byte.
+pub fn all_bytes(good: &[u8], sink: &mut Sink) {
+    let mut bytes = good.to_vec();
+    for at in 0..good.len() {
+        for new in 0..=255 {
+            if new != good[at] {
+                bytes[at] = new;
+                sink(&bytes, None, "one byte");
+            }
+        }
+        bytes[at] = good[at];
+    }
+}
+
+/// Some values of every byte, and edge values in every 2 and 4 bytes.
+pub fn edges(good: &[u8], sink: &mut Sink) {
+    let mut bytes = good.to_vec();
+    let pool = u32::from_be_bytes(good[28..32].try_into().unwrap());
+    let length = good.len() as u32;
+    let rest = length - pool;
+    let n = u16::from_be_bytes([good[18], good[19]]);
+    let short = [0, 1, n, n + 1, 255, 256, 1024, 1025, 0x7fff, 0x8000, 0xffff];
+    let mut long = vec![0, 1, rest.wrapping_sub(1), rest, rest + 1, pool, length, length + 1];
+    long.extend([0x7fff_ffff, 0x8000_0000, 0xffff_fffc, 0xffff_ffff]);
+    for at in 0..good.len() {
+        let old = good[at];
+        let mut each = |what: &'static str, new: &[u8]| {
+            if at + new.len() <= good.len() {
+                put(&mut bytes, at, new);
+                sink(&bytes, None, what);
+                put(&mut bytes, at, &good[at..at + new.len()]);
+            }
+        };
+        for new in [0, 0x7f, 0x80, 0xff, old.wrapping_add(1), old.wrapping_sub(1)] {
+            each("edge byte", &[new]);
+        }
+        (0..8).for_each(|bit| each("one bit", &[old ^ 1 << bit]));
+        short.iter().for_each(|new| each("edge of 2 bytes", &new.to_be_bytes()));
+        long.iter().for_each(|new| each("edge of 4 bytes", &new.to_be_bytes()));
+    }
+}
+
+/// Every length, with and without the length field set to it.
+pub fn cuts(good: &[u8], sink: &mut Sink) {
+    for length in 0..good.len() {
+        let expected = match length {
+            0..HEADER => refused(refusal::TOO_SHORT, length),
+            _ => refused(refusal::LENGTH, 20),
+        };
+        sink(&good[..length], expected, "cut");
+        if length >= HEADER {
+            let mut bytes = good[..length].to_vec();
+            set_length(&mut bytes);
+            sink(&bytes, None, "cut, length set");
+        }
+    }
+    let mut longer = good.to_vec();
+    for more in [0, 0x80, 0xff] {
+        longer.push(more);
+        sink(&longer, refused(refusal::LENGTH, 20), "longer");
+    }
+}
+
+/// Every pointer leads to every place of the pool.
+pub fn pointers(built: &Built, sink: &mut Sink) {
+    use Field::*;
+    let mut bytes = built.bytes.clone();
+    let length = (bytes.len() - built.pool) as u32;
+    for spot in &built.spots {
+        let pointer = [EntryName, EntryNamespace, EntryDescriptor, MethodName, ConstantName];
+        if pointer.contains(&spot.field) {
+            for new in 0..=length + 1 {
+                put(&mut bytes, spot.at, &new.to_be_bytes());
+                sink(&bytes, None, "pointer");
+            }
+            bytes.copy_from_slice(&built.bytes);
+        }
+    }
+}
+
+/// Several changes at once: bytes, spans copied, bytes put in or taken out.
+pub fn scrambled(good: &[u8], rounds: usize, rng: &mut Rng, sink: &mut Sink) {
+    for _ in 0..rounds {
+        let mut bytes = good.to_vec();
+        for _ in 0..rng.range(1, 4) {
+            if bytes.len() <= 40 {
+                break;
+            }
+            let at = rng.range(32, bytes.len() - 1);
+            match rng.below(8) {
+                0 => bytes.insert(at, rng.byte()),
+                1 => {
+                    bytes.remove(at);
+                }
+                2 => {
+                    let from = rng.range(32, bytes.len() - 1);
+                    let length = rng.range(1, 8).min(bytes.len() - at.max(from));
+                    bytes.copy_within(from..from + length, at);
+                }
+                3 => bytes[at] = rng.byte(),
+                4 => bytes[at] = bytes[at].wrapping_add(1),
+                5 => bytes[at] ^= 1 << rng.below(8),
+                6 => bytes[at] = rng.byte() & rng.byte() & rng.byte(),
+                _ => {
+                    let other = rng.range(32, bytes.len() - 1);
+                    bytes.swap(at, other);
+                }
+            }
+        }
+        set_length(&mut bytes);
+        sink(&bytes, None, "scrambled");
+    }
+}
+
+/// Too short files: the starts of good ones, and any bytes.
+pub fn too_short(rng: &mut Rng, sink: &mut Sink) {
+    for length in 0..HEADER {
+        for good in generate::marked() {
+            sink(&good[..length], refused(refusal::TOO_SHORT, length), "1 too short");
+        }
+        for _ in 0..8 {
+            let bytes: Vec<u8> = (0..length).map(|_| rng.byte()).collect();
+            sink(&bytes, refused(refusal::TOO_SHORT, length), "1 too short");
+        }
+    }
+}
+
+/// Good files with more unused bytes than are allowed.
+fn too_long(rng: &mut Rng, bases: &mut Bases) {
+    for _ in 0..25 {
+        let mut bytes = generate::random(rng, generate::SMALL).bytes();
+        let short = bytes.len();
+        bytes.resize(MAX_FILE + 300, rng.byte());
+        bases.one(|sink| {
+            for over in [1, 2, 3, rng.range(4, 300)] {
+                for field in [short, MAX_FILE, MAX_FILE + over] {
+                    put(&mut bytes, 20, &(field as u32).to_be_bytes());
+                    sink(
+                        &bytes[..MAX_FILE + over],
+                        refused(refusal::TOO_LONG, MAX_FILE),
+                        "2 too long",
+                    );
+                }
+            }
+        });
+    }
+}
+
+/// Headers of all sorts.
+pub fn headers(rng: &mut Rng, sink: &mut Sink) {
+    let [p1, p2, p3] = generate::marked();
+    // A header alone cannot have a pool.
+    for _ in 0..200 {
+        let mut bytes = p1[..32].to_vec();
+        set_length(&mut bytes);
+        for byte in &mut bytes[24..32] {
+            *byte = if rng.percent(50) { 0 } else { rng.byte() };
+        }
+        bytes[31] = *rng.pick(&[0, 31, 32, 33, 36]);
+        bytes[19] = rng.below(3) as u8;
+        sink(&bytes, refused(refusal::POSITION, 28), "8 header alone");
+    }
+    // One byte more than the greatest file, and more.
+    let mut long = p3.clone();
+    long.resize(MAX_FILE + 300, 0);
+    for k in 1..=300 {
+        let length = MAX_FILE + k;
+        let field = *rng.pick(&[p3.len(), length, MAX_FILE, 0]);
+        put(&mut long, 20, &(field as u32).to_be_bytes());
+        long[0] = if k % 3 == 0 { 0 } else { b'X' };
+        sink(&long[..length], refused(refusal::TOO_LONG, MAX_FILE), "2 too long");
+    }
+    // Counts, directory and pool against each other.
+    for good in [&p1, &p2, &p3] {
+        let length = good.len() as u32;
+        for n in [0_u16, 1, 2, 3, 1024, 1025, 0xffff] {
+            for directory in [0, 4, 32, 33, 34, 36, 40, 64, 0xffff_ffe4, 0xffff_fffc, length] {
+                for pool in [0, 31, 32, 33, 36, 37, 63, 64, 65, length - 1, length, length + 1, !0]
+                {
+                    let mut bytes = good.clone();
+                    put(&mut bytes, 18, &n.to_be_bytes());
+                    put(&mut bytes, 24, &directory.to_be_bytes());
+                    put(&mut bytes, 28, &pool.to_be_bytes());
+                    sink(&bytes, None, "positions");
+                }
+            }
+        }
+    }
+}
+
+/// All short runs of annotation bytes, before a pool and before a directory.
+pub fn short_annotations(sink: &mut Sink) {
+    let alphabet = [0x00, 0x80, 0x01, 0x81, 0x02, 0x7f, 0xff];
+    for n in [0, 1] {
+        let lib =
+            Typelib { entries: entries(n), directory_gap: 1, pool_gap: 4, ..Typelib::default() };
+        let built = lib.build();
+        let mut bytes = built.bytes.clone();
+        let room = built.limit() - 32;
+        for tail in [0x00, 0x80, 0x41] {
+            for mut code in 0..7_usize.pow(5) {
+                bytes[32..32 + room].fill(tail);
+                for at in 0..5.min(room) {
+                    bytes[32 + at] = alphabet[code % 7];
+                    code /= 7;
+                }
+                sink(&bytes, None, "annotation bytes");
+            }
+        }
+    }
+}
+
+/// Every prefix byte, alone and inside arrays, as argument and as result.
+pub fn prefixes(sink: &mut Sink) {
+    for minor in 0..=MAX_MINOR {
+        for flags in [0, NOT_XPCOM] {
+            for (depth, prefix) in (0..=8).flat_map(|d| (0..=255).map(move |p| (d, p))) {
+                for in_result in [false, true] {
+                    one_prefix(minor, flags, depth, prefix, in_result, sink);
+                }
+            }
+        }
+    }
+}
+
+fn one_prefix(minor: u8, flags: u8, depth: usize, prefix: u8, in_result: bool, sink: &mut Sink) {
+    let tag = prefix & TAG;
+    let of = Type::nested(depth, 2, prefix, fitting(tag, 1, 2));
+    let outer = of.prefix();
+    let (argument, result) = match in_result {
+        true => (Type::simple(0), of),
+        false => (of, Type::simple(VOID)),
+    };
+    let types = [argument, Type::simple(POINTER | IID), Type::simple(UINT32)];
+    let arguments = types.map(|of| Parameter::new(IN, of)).to_vec();
+    let method = Method::new(flags, b"f", arguments, Parameter::new(0, result));
+    let built = Typelib { minor, ..with_methods(vec![method]) }.build();
+    let field = if in_result { Field::ResultPrefix } else { Field::ArgumentPrefix };
+    let it = |spot: &&Spot| spot.field == field && usize::from(spot.more) == depth;
+    let at = built.spots.iter().find(it).unwrap().at;
+    let expected = if is_reserved(tag, minor) {
+        refused(refusal::RESERVED, at)
+    } else if prefix < POINTER && (prefix != tag || needs_pointer(tag)) {
+        refused(refusal::RULE, at)
+    } else if tag == ARRAY && depth == MAX_ARRAYS {
+        refused(refusal::SIZE, at)
+    } else {
+        let rule = in_result && flags == 0 && outer != VOID && outer != UINT32;
+        good_or_rule(!rule, built.placed[0].methods[0])
+    };
+    sink(&built.bytes, expected, "every prefix");
+}
+
+/// Every number in every kind of type, against arguments of every prefix.
+pub fn numbers(sink: &mut Sink) {
+    for tag in [INTERFACE_IS, ARRAY, SIZED_STRING, SIZED_WSTRING] {
+        for named in 0..=255_u8 {
+            let named_tag = named & TAG;
+            let pointer = named & POINTER != 0;
+            let is_plain = named == named_tag && !needs_pointer(named_tag);
+            if is_reserved(named_tag, MAX_MINOR) || !pointer && !is_plain {
+                continue;
+            }
+            let (good, fits) = match tag {
+                INTERFACE_IS => (named_tag == IID && pointer, 2),
+                _ => (named_tag == UINT32 && !pointer, 1),
+            };
+            let others = |of: Type| {
+                vec![
+                    Parameter::new(IN | OUT, of),
+                    Parameter::new(IN, Type::simple(UINT32)),
+                    Parameter::new(IN, Type::simple(POINTER | IID)),
+                    Parameter::new(OUT, Type::with(named, fitting(named_tag, 2, 1))),
+                ]
+            };
+            let both = [(3, fits), (fits, 3), (3, 3)];
+            for (first, second) in both.into_iter().filter(|b| tag != INTERFACE_IS || b.0 == 3) {
+                for depth in [0, 1, 3, 7] {
+                    let of = Type::nested(depth, 1, POINTER | tag, [first, second, 0]);
+                    let (void, int) = (Type::simple(VOID), Type::simple(1));
+                    for (flags, argument, result) in [(0, of.clone(), void), (NOT_XPCOM, int, of)] {
+                        let result = Parameter::new(0, result);
+                        let method = Method::new(flags, b"f", others(argument), result);
+                        let built = with_methods(vec![Method::plain(0, b"e"), method]).build();
+                        let expected = good_or_rule(good, built.placed[0].methods[1]);
+                        sink(&built.bytes, expected, "numbers");
+                    }
+                }
+            }
+        }
+    }
+}
+
+/// Every number against methods of many counts of arguments, of which one can be named.
+pub fn wide_numbers(sink: &mut Sink) {
+    for count in [1, 2, 63, 64, 65, 127, 128, 129, 191, 192, 193, 254, 255] {
+        for named in [0, count / 2, count - 1] {
+            for number in 0..=255_u8 {
+                let iid_is = (count + usize::from(number)) % 2 == 0;
+                let (target, of) = match iid_is {
+                    true => (POINTER | IID, Type::with(POINTER | INTERFACE_IS, [number, 0, 0])),
+                    false => (UINT32, Type::with(POINTER | 22, [named as u8, number, 0])),
+                };
+                let mut arguments = vec![Parameter::new(IN, Type::simple(1)); count];
+                arguments[named] = Parameter::new(IN, Type::simple(target));
+                let method = Method::new(0, b"f", arguments, Parameter::new(RETVAL, of));
+                let built = with_methods(vec![method]).build();
+                let good = usize::from(number) == named;
+                let expected = good_or_rule(good, built.placed[0].methods[0]);
+                sink(&built.bytes, expected, "numbers among many arguments");
+            }
+        }
+    }
+}
+
+/// IIDs that differ in one byte first, whatever follows it.
+pub fn iids(sink: &mut Sink) {
+    let good = Typelib { entries: entries(2), ..Typelib::default() }.build();
+    let mut bytes = good.bytes.clone();
+    for at in 0..16 {
+        for (a, b) in [(0, 1), (1, 0), (0x7f, 0x80), (0x80, 0x7f), (0, 0xff), (0xff, 0), (5, 5)] {
+            for (rest_a, rest_b) in [(0, 0), (0, 0xff), (0xff, 0), (7, 7)] {
+                let (mut first, mut second) = ([0; 16], [0; 16]);
+                first[at..].fill(rest_a);
+                second[at..].fill(rest_b);
+                first[at] = a;
+                second[at] = b;
+                put(&mut bytes, good.entry(0), &first);
+                put(&mut bytes, good.entry(1), &second);
+                let rises = first < second || first == [0; 16] && second == [0; 16];
+                let order = refused(refusal::IID_ORDER, good.entry(1));
+                let expected = if rises { Some(Ok(2)) } else { order };
+                sink(&bytes, expected, "two IIDs");
+            }
+        }
+    }
+}
+
+/// Descriptors of entries without an IID, at many places.
+pub fn without_iid(sink: &mut Sink) {
+    for n in [1, 2, 5, 30] {
+        for (position, directory_gap) in (0..n).flat_map(|i| [(i, 0), (i, 3)]) {
+            let mut lib = Typelib { entries: entries(n), directory_gap, ..Typelib::default() };
+            lib.entries[..=position].iter_mut().for_each(|entry| entry.iid = [0; 16]);
+            lib.entries[position].descriptor = Some(lib.add(Descriptor::default()));
+            let built = lib.build();
+            sink(&built.bytes, refused(refusal::NO_IID, built.entry(position) + 24), "12 zero IID");
+        }
+    }
+}
+
+/// Rows of up to five methods out of getters, setters, both, plain and constructors, two names.
+pub fn accessors(rng: &mut Rng, sink: &mut Sink) {
+    let kinds = [GETTER, SETTER, 0, GETTER | SETTER, CONSTRUCTOR, GETTER | CONSTRUCTOR];
+    let names: [&[u8]; 2] = [b"x", b"xy"];
+    for (length, kinds) in
+        [(1, &kinds[..]), (2, &kinds), (3, &kinds), (4, &kinds[..4]), (5, &kinds[..2])]
+    {
+        let choices = 2 * kinds.len();
+        for mut code in 0..choices.pow(length) {
+            let mut row = Vec::new();
+            for _ in 0..length {
+                row.push((kinds[code % choices / 2], names[code % 2]));
+                code /= choices;
+            }
+            accessor_row(&row, Sharing::None, sink);
+        }
+    }
+    // Longer rows, in which most names are used by one kind only.
+    let words: Vec<String> =
+        (0..40).map(|i| format!("{}{i}", "long_common_start".repeat(i % 3))).collect();
+    for _ in 0..2_000 {
+        let length = rng.range(6, 40);
+        let mut row = Vec::new();
+        while row.len() < length {
+            let word = rng.below(40);
+            let name = words[word].as_bytes();
+            match rng.below(100) {
+                0 => row.push((*rng.pick(&kinds), name)),
+                1..60 => row.push(([GETTER, SETTER, 0][word % 3], name)),
+                _ if row.iter().any(|&(_, other)| other == name) => {}
+                _ => row.extend([(GETTER, name), (SETTER, name)]),
+            }
+        }
+        accessor_row(&row, *rng.pick(&[Sharing::None, Sharing::Equal]), sink);
+    }
+}
+
+fn accessor_row(row: &[(u8, &[u8])], sharing: Sharing, sink: &mut Sink) {
+    let methods = row.iter().map(|&(flags, name)| Method::plain(flags, name)).collect();
+    let built = Typelib { sharing, ..with_methods(methods) }.build();
+    let constructors = row.iter().filter(|(flags, _)| flags & CONSTRUCTOR != 0).count();
+    let mut good = constructors <= 1;
+    for (i, (first, name)) in row.iter().enumerate() {
+        for (j, (second, other)) in row.iter().enumerate() {
+            if first & GETTER != 0 && second & SETTER != 0 && name == other && j != i + 1 {
+                good = false;
+            }
+        }
+    }
+    sink(&built.bytes, good_or_rule(good, built.placed[0].at), "row of accessors");
+}
+
+/// Names of 255 letters, and of one and more too many.
+pub fn long_names(lib: &Typelib, sink: &mut Sink) {
+    let mut lib = Typelib { sharing: Sharing::None, ..lib.clone() };
+    let count = names(&mut lib).len();
+    for i in 0..count {
+        for length in [MAX_IDENTIFIER, MAX_IDENTIFIER + 1, MAX_IDENTIFIER + 2, 511, 512] {
+            let name = vec![b'q'; length];
+            let old = std::mem::replace(names(&mut lib)[i], name);
+            let built = lib.build();
+            let long = |spot: &&Spot| spot.field == Field::Identifier && spot.length == length;
+            let too_long = length > MAX_IDENTIFIER;
+            let expected = match built.spots.iter().find(long) {
+                Some(spot) if too_long => refused(refusal::IDENTIFIER, built.spots[spot.of].at),
+                _ => Some(Ok(built.n)),
+            };
+            sink(&built.bytes, expected, if too_long { "11 too long" } else { "longest name" });
+            *names(&mut lib)[i] = old;
+        }
+    }
+}
+
+/// All names of a typelib.
+fn names(lib: &mut Typelib) -> Vec<&mut Vec<u8>> {
+    let mut all = Vec::new();
+    for entry in &mut lib.entries {
+        all.push(&mut entry.name);
+        all.extend(&mut entry.namespace);
+    }
+    for d in &mut lib.descriptors {
+        all.extend(d.methods.iter_mut().map(|method| &mut method.name));
+        all.extend(d.constants.iter_mut().map(|constant| &mut constant.name));
+    }
+    all
+}
+
+/// Counts one too large, with as many records as they say.
+pub fn sizes(sink: &mut Sink) {
+    let too_many = Typelib { entries: entries(MAX_INTERFACES + 1), ..Typelib::default() };
+    sink(&too_many.bytes(), refused(refusal::COUNT, 18), "7 count");
+    for sharing in [Sharing::None, Sharing::Equal] {
+        let methods = with_methods(vec![Method::plain(0, b"m"); MAX_METHODS + 1]);
+        let constants = vec![Constant::new(b"k", 1, 7); MAX_CONSTANTS + 1];
+        let constants = single(Descriptor { constants, ..Descriptor::default() });
+        for (lib, field, what) in [
+            (methods, Field::MethodCount, "17 methods"),
+            (constants, Field::ConstantCount, "17 constants"),
+        ] {
+            let built = Typelib { sharing, ..lib }.build();
+            let at = built.spots.iter().find(|spot| spot.field == field).unwrap().at;
+            sink(&built.bytes, refused(refusal::SIZE, at), what);
+        }
+    }
+    for depth in 7..=20 {
+        for position in 0..4 {
+            let mut arguments = vec![Parameter::new(IN, Type::simple(UINT32)); 4];
+            let deep = Type::nested(depth, 0, 3, [0; 3]);
+            let mut result = Type::nested(8, 0, 3, [0; 3]);
+            match position {
+                0 => result = deep,
+                _ => arguments[position] = Parameter::new(OUT, deep),
+            }
+            let result = Parameter::new(RETVAL, result);
+            let built = with_methods(vec![Method::new(0, b"deep", arguments, result)]).build();
+            let ninth = built.spots.iter().find(|spot| {
+                matches!(spot.field, Field::ArgumentPrefix | Field::ResultPrefix)
+                    && usize::from(spot.more) == MAX_ARRAYS
+                    && built.bytes[spot.at] & TAG == ARRAY
+            });
+            let expected = ninth.map_or(Some(Ok(1)), |spot| refused(refusal::SIZE, spot.at));
+            sink(&built.bytes, expected, "nesting");
+        }
+    }
+}
+
+/// Keys that return in all sorts of patterns.
+pub fn keys(rng: &mut Rng, sink: &mut Sink) {
+    let keys = [
+        [("", "A"), ("", "B"), ("A", "B"), ("B", "A"), ("A", "A")],
+        [("", "AB"), ("AB", "A"), ("A", "BA"), ("", "a"), ("_", "0")],
+    ]
+    .concat();
+    let mut patterns = vec![vec![0, 1, 1, 0], vec![0, 1, 0, 1], vec![2, 3, 2], vec![0, 0, 0]];
+    for _ in 0..6_000 {
+        let length = rng.range(1, 12);
+        let kinds = rng.range(1, 10);
+        patterns.push((0..length).map(|_| rng.below(kinds)).collect());
+    }
+    for pattern in patterns {
+        let mut lib = Typelib { entries: entries(pattern.len()), ..Typelib::default() };
+        lib.sharing = *rng.pick(&[Sharing::None, Sharing::Equal, Sharing::Overlap]);
+        lib.directory_gap = rng.below(3);
+        let zeros = rng.below(pattern.len() + 1);
+        for (i, &key) in pattern.iter().enumerate() {
+            let entry = &mut lib.entries[i];
+            entry.set_key(keys[key].0, keys[key].1);
+            if i < zeros {
+                entry.iid = [0; 16];
+            }
+        }
+        let built = lib.build();
+        let again = (0..pattern.len()).find(|&i| pattern[..i].contains(&pattern[i]));
+        let twice = |i| refused(refusal::KEY_TWICE, built.entry(i));
+        let expected = again.map_or(Some(Ok(built.n)), twice);
+        sink(&built.bytes, expected, "pattern of keys");
+    }
+}
+
+/// Parents in all small patterns and in larger random ones.
+pub fn chains(rng: &mut Rng, sink: &mut Sink) {
+    for n in 1..=4_usize {
+        for mut code in 0..(n + 2).pow(n as u32) {
+            // n + 1 stands for an unresolved entry.
+            let mut parents = Vec::new();
+            for _ in 0..n {
+                parents.push(code % (n + 2));
+                code /= n + 2;
+            }
+            chain(&parents, sink);
+        }
+    }
+    for round in 0..3_000 {
+        let n = rng.range(5, 60);
+        let mut parents: Vec<usize> = (0..n).map(|i| rng.below(i + 1)).collect();
+        match round % 4 {
+            0 => parents = (0..n).map(|_| rng.below(n + 2)).collect(),
+            // One long cycle, or one chain into it.
+            1 => parents = (0..n).map(|i| (i + 1) % n + 1).collect(),
+            2 => parents[rng.below(n)] = rng.range(1, n),
+            _ => parents.iter_mut().for_each(|p| *p = if *p == 0 { 0 } else { n + 1 - *p }),
+        }
+        if round % 4 == 3 {
+            parents.reverse();
+        }
+        if rng.percent(30) {
+            parents[rng.below(n)] = n + 1;
+        }
+        chain(&parents, sink);
+    }
+}
+
+fn chain(parents: &[usize], sink: &mut Sink) {
+    let n = parents.len();
+    let mut lib = Typelib { entries: entries(n), ..Typelib::default() };
+    let mut ends = parents.to_vec();
+    for (i, &parent) in parents.iter().enumerate() {
+        if parent <= n {
+            let d = lib.add(Descriptor { parent: parent as u16, ..Descriptor::default() });
+            lib.entries[i].descriptor = Some(d);
+        } else {
+            ends[i] = 0;
+        }
+    }
+    let built = lib.build();
+    let cycle = |i| refused(refusal::CYCLE, built.entry(i));
+    let expected = lowest_endless(&ends).map_or(Some(Ok(n)), cycle);
+    sink(&built.bytes, expected, "pattern of parents");
+}
+
+/// Descriptors of bytes drawn at random, mostly small.
+pub fn random_pools(rounds: usize, rng: &mut Rng, sink: &mut Sink) {
+    let built = single(Descriptor::default()).build();
+    for _ in 0..rounds {
+        let mut bytes = built.bytes[..built.pool].to_vec();
+        bytes.extend_from_slice(b"A\0");
+        bytes.extend([0, rng.below(3) as u8, 0, rng.below(3) as u8]);
+        for _ in 0..rng.below(60) {
+            let small = [0, 0, 0, 0, 1, 1, 2, 6, 13, 14, 0x80, 0x8e, 0x92, 0x93, 0x94, 0x95, 0x40];
+            bytes.push(if rng.percent(97) { *rng.pick(&small) } else { rng.byte() });
+        }
+        bytes[17] = rng.below(2) as u8;
+        set_length(&mut bytes);
+        sink(&bytes, None, "random pool");
+    }
+}
+
+/// Hands on every generated file, good and damaged.
+pub fn everything(seed: u64, sink: &mut dyn FnMut(&Made)) {
+    let rng = &mut Rng::new(seed);
+    // Other numbers with every seed.
+    let bases = &mut Bases { sink, count: seed.wrapping_mul(1 << 32) };
+    marked(bases);
+    bases.each(|sink| {
+        for lib in generate::special() {
+            sink(&lib.bytes(), Some(Ok(lib.entries.len())), "special");
+        }
+    });
+    bases.each(|sink| too_short(rng, sink));
+    too_long(rng, bases);
+    bases.one(|sink| headers(rng, sink));
+    bases.one(short_annotations);
+    bases.each(prefixes);
+    bases.each(numbers);
+    bases.each(wide_numbers);
+    bases.one(iids);
+    bases.each(without_iid);
+    bases.each(|sink| accessors(rng, sink));
+    bases.each(sizes);
+    bases.each(|sink| keys(rng, sink));
+    bases.each(|sink| chains(rng, sink));
+    bases.one(|sink| random_pools(20_000, rng, sink));
+    good(rng, bases);
+    related(rng, bases);
+    all_faults(rng, bases);
+    some_faults(rng, bases);
+    far_faults(rng, bases);
+}
+
+/// The marked files and every change of a byte in them.
+fn marked(bases: &mut Bases) {
+    for good in generate::marked() {
+        bases.one(|sink| {
+            sink(&good, Some(Ok(usize::from(good[19]))), "marked");
+            all_bytes(&good, sink);
+            edges(&good, sink);
+            cuts(&good, sink);
+        });
+    }
+}
+
+/// Good files of all sizes, some of them scrambled.
+fn good(rng: &mut Rng, bases: &mut Bases) {
+    for round in 0..12_000 {
+        let size = match round % 8 {
+            0..6 => generate::SMALL,
+            6 => generate::MEDIUM,
+            _ if round % 80 == 7 => generate::LARGE,
+            _ => generate::MEDIUM,
+        };
+        let lib = generate::random(rng, size);
+        let bytes = lib.bytes();
+        bases.one(|sink| {
+            sink(&bytes, Some(Ok(lib.entries.len())), "random");
+            if round % 4 == 0 {
+                scrambled(&bytes, 20, rng, sink);
+            }
+        });
+    }
+}
+
+/// Good files that inherit over several levels, and files whose records overlap.
+fn related(rng: &mut Rng, bases: &mut Bases) {
+    for round in 0..3_000 {
+        let (lib, how) = match round % 3 {
+            0 => (pairs::view(&pairs::world(rng), rng), "view of a world"),
+            _ => (generate::family(rng), "family"),
+        };
+        bases.each(|sink| sink(&lib.bytes(), Some(Ok(lib.entries.len())), how));
+    }
+    for round in 0..60 {
+        let bytes = generate::overlapping_heads(rng, 1 + round % 16);
+        bases.one(|sink| {
+            sink(&bytes, Some(Ok(2 + round % 16)), "overlapping heads");
+            scrambled(&bytes, 50, rng, sink);
+            if round == 3 {
+                all_bytes(&bytes, sink);
+            }
+        });
+        let count = 1 + round % 40;
+        let bytes = generate::names_in_descriptors(rng, count);
+        bases.one(|sink| {
+            sink(&bytes, Some(Ok(count)), "names in descriptors");
+            scrambled(&bytes, 20, rng, sink);
+        });
+    }
+}
+
+/// Files with every kind of field, damaged in every way.
+fn all_faults(rng: &mut Rng, bases: &mut Bases) {
+    for (minor, order) in [
+        (1, Order::Entries),
+        (1, Order::NamesFirst),
+        (1, Order::NamesLast),
+        (0, Order::NamesFirst),
+        (0, Order::Shuffled),
+    ] {
+        let lib = generate::rich(minor, order);
+        let built = lib.build();
+        bases.one(|sink| {
+            sink(&built.bytes, Some(Ok(7)), "rich");
+            single_and_paired(&lib, 7, usize::MAX, 20_000, sink);
+            cut_last_record(&lib, sink);
+            long_names(&lib, sink);
+            cuts(&built.bytes, sink);
+            scrambled(&built.bytes, 5_000, rng, sink);
+            edges(&built.bytes, sink);
+            if order == Order::NamesFirst {
+                all_bytes(&built.bytes, sink);
+                pointers(&built, sink);
+            }
+        });
+    }
+}
+
+/// Random files, damaged in many ways.
+fn some_faults(rng: &mut Rng, bases: &mut Bases) {
+    for round in 0..120 {
+        let size = if round % 6 == 5 { generate::MEDIUM } else { generate::SMALL };
+        let mut lib = generate::random(rng, size);
+        while lib.descriptors.iter().all(|d| d.methods.len() < 2) || lib.bytes().len() > 6_000 {
+            lib = generate::random(rng, size);
+        }
+        let built = lib.build();
+        bases.one(|sink| {
+            if built.bytes.len() < 1_000 && round % 2 == 0 {
+                cuts(&built.bytes, sink);
+                edges(&built.bytes, sink);
+                pointers(&built, sink);
+            }
+            if built.bytes.len() < 600 && round % 10 == 0 {
+                all_bytes(&built.bytes, sink);
+            }
+            if round % 4 == 0 {
+                long_names(&lib, sink);
+            }
+            lib.sharing = Sharing::None;
+            single_and_paired(&lib, round, 4_000, 3_000, sink);
+            cut_last_record(&lib, sink);
+        });
+    }
+}
+
+/// Far places: large files, of which a check reads much before it meets the fault.
+fn far_faults(rng: &mut Rng, bases: &mut Bases) {
+    for round in 0..8 {
+        let mut lib = generate::random(rng, generate::LARGE);
+        lib.sharing = Sharing::None;
+        bases.one(|sink| single_and_paired(&lib, round, 400, 400, sink));
+    }
+    let rich = generate::rich(1, Order::NamesFirst);
+    let to_the_end = MAX_FILE - rich.bytes().len();
+    for lib in [
+        Typelib { directory_gap: 20_000, pool_gap: 70_001, junk: 3, ..rich.clone() },
+        Typelib { record_gap: 40_000, junk: 4, ..generate::rich(0, Order::Shuffled) },
+        Typelib { pool_gap: to_the_end, ..rich },
+    ] {
+        bases.one(|sink| {
+            sink(&lib.bytes(), Some(Ok(7)), "far");
+            single_and_paired(&lib, 5, 1_500, 500, sink);
+        });
+    }
+    let text = |length: usize| vec![b'~'; length];
+    for (first, second) in [(300, 65_535), (65_535, 256)] {
+        let annotations = vec![Annotation::Texts(text(first), text(second)), Annotation::Empty];
+        let lib = Typelib { annotations, entries: entries(2), ..Typelib::default() };
+        bases.one(|sink| single_and_paired(&lib, 6, 300, 100, sink));
+    }
+    for count in [200, 1023, MAX_INTERFACES] {
+        let lib = generate::wide(rng, count);
+        bases.one(|sink| {
+            sink(&lib.bytes(), Some(Ok(count)), "wide");
+            single_and_paired(&lib, 3, 400, 400, sink);
+        });
+    }
+}

@@ -1,0 +1,517 @@
+//! Single faults in a good file, field by field. What a fault is called starts with the number of
+//! the refusal that it must give, if no other is met before.
+
+use super::builder::*;
+use super::rng::Rng;
+
+/// When a fault is met in reading: step, entry, place, and the order at one place.
+type Rank = (u8, usize, usize, u8);
+
+// Steps after those of the header, which have the numbers of their refusals.
+const ANNOTATIONS: u8 = 9;
+const DIRECTORY: u8 = 10;
+const DESCRIPTORS: u8 = 11;
+const KEYS: u8 = 18;
+const CHAINS: u8 = 19;
+
+/// New bytes at a place.
+type Patch = (usize, Vec<u8>);
+
+pub struct Fault {
+    pub what: &'static str,
+    pub refusal: Refusal,
+    patches: Vec<Patch>,
+    /// Fields on which the fault rests: pointers to the damaged bytes, those copied to other
+    /// places, neighbouring IIDs.
+    needs: Vec<usize>,
+    pub rank: Rank,
+}
+
+impl Fault {
+    pub fn apply(&self, bytes: &mut [u8]) {
+        for (at, new) in &self.patches {
+            bytes[*at..at + new.len()].copy_from_slice(new);
+        }
+    }
+
+    pub fn undo(&self, bytes: &mut [u8], good: &[u8]) {
+        for (at, new) in &self.patches {
+            let range = *at..at + new.len();
+            bytes[range.clone()].copy_from_slice(&good[range]);
+        }
+    }
+
+    /// The ranges that another fault must leave alone.
+    fn ranges(&self) -> impl Iterator<Item = (usize, usize)> + '_ {
+        let patched = self.patches.iter().map(|(at, new)| (*at, at + new.len()));
+        patched.chain(self.needs.iter().map(|at| (*at, at + 4)))
+    }
+
+    pub fn is_apart(&self, other: &Fault) -> bool {
+        self.ranges().all(|(a, b)| other.ranges().all(|(c, d)| b <= c || d <= a))
+    }
+}
+
+/// The number that a fault's name starts with.
+pub fn number(what: &str) -> u32 {
+    let digits = what.split(' ').next().and_then(|word| word.parse().ok());
+    digits.unwrap_or_else(|| panic!("no number: {what}"))
+}
+
+/// The bits of a mask one by one.
+fn bits(mask: u8) -> impl Iterator<Item = u8> {
+    (0..8).map(|i| 1 << i).filter(move |bit| mask & bit != 0)
+}
+
+/// Every single fault we know to make in this file. No two of its records may share bytes.
+pub fn faults(lib: &Typelib, built: &Built, seed: u64) -> Vec<Fault> {
+    assert!(lib.sharing == Sharing::None);
+    let mut c = Collector { lib, built, rng: Rng::new(seed), all: Vec::new() };
+    c.header();
+    c.no_last_annotation();
+    for i in 0..built.spots.len() {
+        c.spot(i);
+    }
+    c.keys();
+    for d in 0..lib.descriptors.len() {
+        if built.placed[d].entry != usize::MAX {
+            c.methods(d);
+        }
+    }
+    c.parents();
+    c.all
+}
+
+struct Collector<'a> {
+    lib: &'a Typelib,
+    built: &'a Built,
+    rng: Rng,
+    all: Vec<Fault>,
+}
+
+impl Collector<'_> {
+    fn add(
+        &mut self,
+        what: &'static str,
+        place: usize,
+        rank: Rank,
+        patches: Vec<Patch>,
+    ) -> &mut Fault {
+        let refusal = Refusal { number: number(what), place };
+        self.all.push(Fault { what, refusal, patches, needs: Vec::new(), rank });
+        self.all.last_mut().expect("it was just added")
+    }
+
+    /// These values in a field of so many bytes, which is the refusal's place.
+    fn field(
+        &mut self,
+        what: &'static str,
+        (at, length): (usize, usize),
+        rank: Rank,
+        values: impl IntoIterator<Item = usize>,
+    ) {
+        for value in values {
+            let bytes = (value as u32).to_be_bytes()[4 - length..].to_vec();
+            self.add(what, at, rank, vec![(at, bytes)]);
+        }
+    }
+
+    /// These values in a field of one byte.
+    fn byte(
+        &mut self,
+        what: &'static str,
+        at: usize,
+        rank: Rank,
+        values: impl IntoIterator<Item = u8>,
+    ) {
+        self.field(what, (at, 1), rank, values.into_iter().map(usize::from));
+    }
+
+    fn header(&mut self) {
+        let b = self.built;
+        for at in 0..MAGIC.len() {
+            let old = b.bytes[at];
+            self.byte("3 magic", at, (3, at, 0, 0), [old ^ 1, old ^ 0x80, old.wrapping_add(32)]);
+        }
+        self.byte("4 major", 16, (4, 0, 0, 0), [0, 2, 3, 0x81, 255]);
+        let minors = [MAX_MINOR + 1, MAX_MINOR + 2, 0x80, 0x81, 255];
+        self.byte("5 minor", 17, (5, 0, 0, 0), minors);
+        let length = b.bytes.len();
+        let lengths = [0, 32, length - 1, length + 1, length | 1 << 31, length + (1 << 16), !0];
+        self.field("6 length", (20, 4), (6, 0, 0, 0), lengths);
+        let counts = [MAX_INTERFACES + 1, MAX_INTERFACES + 2, 2048, 0x7fff, 0x8000, 0xffff];
+        self.field("7 count", (18, 2), (7, 0, 0, 0), counts);
+        let pools = [0, 1, 31, 32, length + 1, length + 28, 1 << 31, 0xffff_fffc, 0xffff_ffff];
+        self.field("8 pool", (28, 4), (8, 0, 0, 0), pools);
+        let mut bad = vec![1, 2, 4, 28, 32, 33, 34, 35, 0xffff_fffc, 0xffff_ffff, 1 << 31];
+        if b.n > 0 {
+            let room = ENTRY * b.n;
+            bad.extend([0, b.directory + 1, b.directory + 2, b.directory + 3]);
+            // The first multiple of 4 from which the entries reach over the pool's start.
+            bad.push((b.pool - room) / 4 * 4 + 4);
+            bad.extend([b.pool.next_multiple_of(4), length.next_multiple_of(4) + 4]);
+            // Sums that fit only when they wrap around.
+            bad.extend([(1 << 32) - room, (1 << 32) - room + 4, (1 << 32) - 28]);
+            bad.extend((room > 36).then(|| (1 << 32) - room + 36));
+        } else {
+            bad.extend([36, 64, b.pool, length]);
+        }
+        self.field("8 directory", (24, 4), (8, 1, 0, 0), bad);
+    }
+
+    /// No annotation is marked last up to the limit.
+    fn no_last_annotation(&mut self) {
+        use Field::*;
+        let b = self.built;
+        let annotations = [AnnotationByte, AnnotationLength, AnnotationText];
+        let last = |fields: &[Field]| b.spots.iter().rfind(|spot| fields.contains(&spot.field));
+        let at = last(&annotations[..1]).map_or(HEADER, |spot| spot.at);
+        let end = last(&annotations).map_or(HEADER, |spot| spot.at + spot.length);
+        let limit = b.limit();
+        let patches = vec![(at, vec![b.bytes[at] & 0x7f]), (end, vec![0; limit - end])];
+        self.add("9 none last", limit, (ANNOTATIONS, limit, 0, 0), patches);
+    }
+
+    fn rank_of(&self, spot: &Spot) -> Rank {
+        use Field::*;
+        match spot.field {
+            AnnotationByte | AnnotationLength | AnnotationText => (ANNOTATIONS, spot.at, 0, 0),
+            EntryIid => (DIRECTORY, spot.of, 0, 0),
+            EntryName => (DIRECTORY, spot.of, 1, 0),
+            EntryNamespace => (DIRECTORY, spot.of, 2, 0),
+            EntryDescriptor => (DIRECTORY, spot.of, 3, 0),
+            Identifier => self.rank_of(&self.built.spots[spot.of]),
+            _ => (DESCRIPTORS, self.built.placed[spot.of].entry, spot.at, 1),
+        }
+    }
+
+    /// What can be wrong in one field.
+    fn spot(&mut self, i: usize) {
+        use Field::*;
+        let b = self.built;
+        let spot = b.spots[i];
+        let (at, rank) = (spot.at, self.rank_of(&spot));
+        let old = b.bytes.get(at).copied().unwrap_or(0);
+        let (n, minor) = (b.n, self.lib.minor);
+        match spot.field {
+            AnnotationByte => {
+                let tags = [2, 3, 0x40, 0x7f, self.rng.range(2, 0x7f) as u8];
+                self.byte("9 tag", at, rank, tags.map(|tag| old & 0x80 | tag));
+            }
+            AnnotationLength | AnnotationText => self.text(i),
+            EntryIid => self.iid(spot.of),
+            EntryName => self.pointer(at, rank, "13 name", Some("11 absent name")),
+            EntryNamespace => self.pointer(at, rank, "13 namespace", None),
+            EntryDescriptor if b.bytes[b.entry(spot.of)..][..16] == [0; 16] => {
+                let length = b.bytes.len() - b.pool;
+                let first = self.all.len();
+                let pointers = [1, length, length + 1, 1 << 31, 0xffff_ffff];
+                self.field("12 zero IID", (at, 4), rank, pointers.into_iter().filter(|p| *p > 0));
+                self.all[first..].iter_mut().for_each(|f| f.needs.push(b.entry(spot.of)));
+            }
+            EntryDescriptor => {
+                self.pointer(at, (DESCRIPTORS, spot.of, 0, 0), "13 descriptor", None)
+            }
+            Identifier => self.identifier(spot, rank),
+            Parent => {
+                self.field("15 parent", (at, 2), rank, [n + 1, n + 2, 0x7fff, 0x8000, 0xffff])
+            }
+            MethodCount | ConstantCount => {
+                let (what, most) = match spot.field {
+                    MethodCount => ("17 methods", MAX_METHODS),
+                    _ => ("17 constants", MAX_CONSTANTS),
+                };
+                self.field(what, (at, 2), rank, [most + 1, most + 2, 2048, 0x7fff, 0x8000, 0xffff]);
+            }
+            MethodFlags => {
+                let reserved = bits(RESERVED_IN_METHOD).chain([RESERVED_IN_METHOD]);
+                self.byte("14 method flags", at, rank, reserved.map(|bit| old | bit));
+            }
+            MethodName => self.pointer(at, rank, "13 method name", Some("11 absent method name")),
+            ConstantName => {
+                self.pointer(at, rank, "13 constant name", Some("11 absent constant name"))
+            }
+            ArgumentCount | ConstantValue => {}
+            ArgumentFlags | ResultFlags => {
+                let (reserved, rule, bad) = match spot.field {
+                    ArgumentFlags => {
+                        ("14 argument flags", "16 retval without out", vec![old & !OUT | RETVAL])
+                    }
+                    _ => {
+                        let bad = vec![old | IN, old | OUT, old | IN | OUT];
+                        ("14 result flags", "16 result in or out", bad)
+                    }
+                };
+                let mask = reserved_in_parameter(minor);
+                for bit in bits(mask).chain([mask]) {
+                    self.byte(reserved, at, rank, [old | bit, bad[0] | bit]);
+                }
+                self.byte(rule, at, rank, bad);
+            }
+            ArgumentPrefix | ResultPrefix => self.prefix(spot, rank),
+            Index => self.field("15 index", (at, 2), rank, [0, n + 1, n + 2, 0x8000, 0xffff]),
+            Number => self.number(spot),
+            ConstantType => {
+                let types = [0, 3, 4, 7, 8, 0x11, 0x21, 0x41, 0x81, 0x82, 0x85, 0x86, 255];
+                self.byte("16 constant type", at, rank, types);
+            }
+            InterfaceFlags => {
+                let reserved = bits(reserved_in_interface(minor));
+                self.byte("14 interface flags", at, rank, reserved.map(|bit| old | bit));
+            }
+        }
+    }
+
+    /// The length of an annotation's text, or its bytes.
+    fn text(&mut self, i: usize) {
+        use Field::{AnnotationByte, AnnotationLength, AnnotationText};
+        let b = self.built;
+        let Spot { field, at, length, of, .. } = b.spots[i];
+        let is = |s: &Spot, field: Field| s.field == field && s.of == of;
+        let first = b.spots.iter().find(|s| is(s, AnnotationByte)).unwrap().at;
+        let rank = (ANNOTATIONS, first, 0, 0);
+        if field == AnnotationText {
+            for at in at..at + length {
+                self.add("9 text byte", first, rank, vec![(at, vec![b.bytes[at] | 0x80])]);
+            }
+            return;
+        }
+        let room = b.limit() - (at + 2);
+        let mut lengths = vec![0xffff, 0x8000, room + 1, room + 2];
+        lengths.retain(|new| *new > room);
+        // The first text fits, but not the length of the second.
+        if !b.spots[..i].iter().any(|s| is(s, AnnotationLength)) {
+            lengths.extend([room, room.saturating_sub(1)]);
+        }
+        for new in lengths.into_iter().filter(|new| *new <= 0xffff) {
+            let patch = (at, (new as u16).to_be_bytes().to_vec());
+            self.add("9 text length", first, rank, vec![patch]);
+        }
+    }
+
+    fn pointer(&mut self, at: usize, rank: Rank, out: &'static str, absent: Option<&'static str>) {
+        let (file, pool) = (self.built.bytes.len(), self.built.pool);
+        let length = file - pool;
+        let leads_out = [length + 1, length + 2, file + 1, 1 << 31, 0xffff_ffff];
+        self.field(out, (at, 4), rank, leads_out);
+        if let Some(absent) = absent {
+            self.field(absent, (at, 4), rank, [0]);
+        }
+    }
+
+    fn iid(&mut self, i: usize) {
+        let b = self.built;
+        let at = b.entry(i);
+        let own = &b.bytes[at..at + 16];
+        let rank = (DIRECTORY, i, 0, 0);
+        let mut equal = Vec::new();
+        let mut falls = Vec::new();
+        if i > 0 {
+            let before = b.bytes[at - ENTRY..][..16].to_vec();
+            if before != [0; 16] {
+                equal.push((at, before.clone()));
+                falls.push((at, vec![0; 16]));
+                // One lower in the last byte that can fall.
+                let mut lower = before.clone();
+                let k = lower.iter().rposition(|&b| b > 0).unwrap();
+                lower[k] -= 1;
+                falls.push((at, lower));
+            }
+            if own != [0; 16] {
+                equal.push((at - ENTRY, own.to_vec()));
+            }
+            if own[0] != 0xff {
+                falls.push((at - ENTRY, vec![0xff; 16]));
+            }
+            // Bytes compare as unsigned.
+            if own[0] < 0x80 && before[0] < 0x80 {
+                let mut high = before.clone();
+                high[0] = 0x80;
+                falls.push((at - ENTRY, high));
+            }
+        }
+        for (what, patches) in [("10 equal", equal), ("10 falls", falls)] {
+            for patch in patches {
+                self.add(what, at, rank, vec![patch]).needs = vec![at - ENTRY, at];
+            }
+        }
+        let after_zero = i == 0 || b.bytes[at - ENTRY..][..16] == [0; 16];
+        if own != [0; 16] && after_zero && self.lib.entries[i].descriptor.is_some() {
+            let patch = vec![(at, vec![0; 16])];
+            self.add("12 IID made zero", at + 24, (DIRECTORY, i, 3, 0), patch);
+        }
+    }
+
+    fn identifier(&mut self, spot: Spot, rank: Rank) {
+        let field = self.built.spots[spot.of].at;
+        let bad = [b'-', b'.', b' ', b'/', b':', b'@', b'[', b'`', b'{', 0x7f, 0x80, 0xc1, 0xff, 1];
+        let mut patches = Vec::new();
+        for k in 0..=spot.length {
+            patches.push((spot.at + k, vec![*self.rng.pick(&bad)]));
+        }
+        for byte in bad {
+            patches.push((spot.at + self.rng.below(spot.length), vec![byte]));
+        }
+        for patch in patches {
+            self.add("11 bad byte", field, rank, vec![patch]).needs = vec![field];
+        }
+        self.add("11 empty", field, rank, vec![(spot.at, vec![0])]).needs = vec![field];
+    }
+
+    fn prefix(&mut self, spot: Spot, rank: Rank) {
+        let at = spot.at;
+        let old = self.built.bytes[at];
+        let minor = self.lib.minor;
+        let bits = self.rng.byte() & !TAG;
+        for tag in LAST_TAG + 1..=TAG {
+            self.byte("14 tag", at, rank, [tag | bits, tag | old & !TAG]);
+        }
+        if is_reserved(ASTRING, minor) {
+            let prefixes = [0, 0x80, 0x40, 0xe0].map(|bits| ASTRING | bits);
+            self.byte("14 tag 15 in minor 0", at, rank, prefixes);
+        }
+        let prefixes = [UNIQUE, REFERENCE, UNIQUE | REFERENCE].map(|bits| old & TAG | bits);
+        self.byte("16 unique or reference", at, rank, prefixes);
+        for tag in (0..=LAST_TAG).filter(|tag| needs_pointer(*tag)) {
+            self.byte("16 pointer needed", at, rank, [tag, tag | bits & !POINTER]);
+        }
+        if usize::from(spot.more) == MAX_ARRAYS {
+            let prefixes = [0x80, 0xa0, 0xc0, 0xe0].map(|bits| ARRAY | bits);
+            self.byte("17 ninth array", at, rank, prefixes);
+        }
+        // A result of another type where only void and uint32 may stand.
+        let methods = &self.lib.descriptors[spot.of].methods;
+        if spot.field == Field::ResultPrefix {
+            let method = &methods[spot.method];
+            if method.flags & NOT_XPCOM == 0 && method.result.flags & RETVAL == 0 {
+                let types =
+                    [0, 4, 5, 7, 10, 12, 14, 0x80, 0x86, 0x8d, 0x8e, 0x90, 0x91, 0xe6, 0xcd];
+                let astring = (!is_reserved(ASTRING, minor)).then_some(ASTRING);
+                self.method_fault("16 result rule", spot, types.into_iter().chain(astring));
+            }
+        }
+    }
+
+    /// A byte that is 16 at the method's first, met after its result.
+    fn method_fault(
+        &mut self,
+        what: &'static str,
+        spot: Spot,
+        values: impl IntoIterator<Item = u8>,
+    ) {
+        let placed = &self.built.placed[spot.of];
+        let rank = (DESCRIPTORS, placed.entry, placed.methods[spot.method + 1], 0);
+        for value in values {
+            self.add(what, placed.methods[spot.method], rank, vec![(spot.at, vec![value])]);
+        }
+    }
+
+    fn number(&mut self, spot: Spot) {
+        let arguments = &self.lib.descriptors[spot.of].methods[spot.method].arguments;
+        let count = arguments.len();
+        let large = [count, count + 1, 128, 255].into_iter().filter(|new| *new >= count);
+        self.method_fault(
+            "16 number too big",
+            spot,
+            large.filter(|new| *new < 256).map(|new| new as u8),
+        );
+        for (number, argument) in arguments.iter().enumerate() {
+            let prefix = argument.of.prefix();
+            let (tag, pointer) = (prefix & TAG, prefix & POINTER != 0);
+            let (what, fits) = match spot.more {
+                INTERFACE_IS => ("16 number names no IID", tag == IID && pointer),
+                _ => ("16 number names no size", tag == UINT32 && !pointer),
+            };
+            if !fits {
+                self.method_fault(what, spot, [number as u8]);
+            }
+        }
+    }
+
+    /// One key twice.
+    fn keys(&mut self) {
+        let b = self.built;
+        for i in 1..b.n {
+            for _ in 0..3 {
+                let from = b.entry(self.rng.below(i)) + 16;
+                let patch = vec![(b.entry(i) + 16, b.bytes[from..][..8].to_vec())];
+                self.add("18 key", b.entry(i), (KEYS, i, 0, 0), patch).needs = vec![from, from + 4];
+            }
+        }
+    }
+
+    /// Rules between a method's flags and its result, and between the methods of an interface.
+    fn methods(&mut self, d: usize) {
+        let b = self.built;
+        let placed = &b.placed[d];
+        let methods = &self.lib.descriptors[d].methods;
+        let (at, rank) = (placed.at, (DESCRIPTORS, placed.entry, placed.flags, 2));
+        let count = methods.len();
+        let flags = |i: usize, more: u8| (placed.methods[i], vec![methods[i].flags | more]);
+        let name = |i: usize| placed.methods[i] + 1;
+        let rename = |i: usize, from: usize| (name(i), b.bytes[name(from)..][..4].to_vec());
+        for (i, method) in methods.iter().enumerate() {
+            let result = method.result.of.prefix();
+            let plain = result == VOID || result == UINT32;
+            if method.flags & NOT_XPCOM != 0 && method.result.flags & RETVAL == 0 && !plain {
+                let patch = vec![(placed.methods[i], vec![method.flags & !NOT_XPCOM])];
+                let rank = (DESCRIPTORS, placed.entry, placed.methods[i + 1], 0);
+                self.add("16 result rule, flag", placed.methods[i], rank, patch);
+            }
+            let patch = vec![flags(i, GETTER | SETTER)];
+            self.add("16 getter and setter in one", at, rank, patch);
+        }
+        for i in 0..count {
+            for j in (0..count).filter(|j| *j != i) {
+                let both = vec![flags(i, CONSTRUCTOR), flags(j, CONSTRUCTOR)];
+                self.add("16 two constructors", at, rank, both);
+                if j != i + 1 {
+                    let pair = vec![flags(i, GETTER), flags(j, SETTER), rename(j, i)];
+                    self.add("16 getter pair apart", at, rank, pair).needs = vec![name(i)];
+                } else if j + 1 < count {
+                    let mut three = vec![flags(i, GETTER), flags(j, GETTER), flags(j + 1, SETTER)];
+                    three.extend([rename(j, i), rename(j + 1, i)]);
+                    self.add("16 getter, getter, setter", at, rank, three).needs = vec![name(i)];
+                }
+            }
+        }
+    }
+
+    /// Chains that do not end.
+    fn parents(&mut self) {
+        let b = self.built;
+        let entries = &self.lib.entries;
+        let used = |d: &usize| b.placed[*d].entry != usize::MAX;
+        let mut trials: Vec<(usize, usize)> = Vec::new();
+        for d in (0..b.placed.len()).filter(used) {
+            trials.extend((0..b.n).map(|i| (d, i)));
+        }
+        self.rng.shuffle(&mut trials);
+        for (d, i) in trials.into_iter().take(500) {
+            let mut changed: Vec<u16> = self.lib.descriptors.iter().map(|d| d.parent).collect();
+            changed[d] = i as u16 + 1;
+            let parent = |entry: &Entry| entry.descriptor.map_or(0, |d| usize::from(changed[d]));
+            let parents: Vec<usize> = entries.iter().map(parent).collect();
+            if let Some(lowest) = lowest_endless(&parents) {
+                let own = entries[i].descriptor == Some(d);
+                let what = if own { "19 own parent" } else { "19 cycle" };
+                let patch = vec![(b.placed[d].at, changed[d].to_be_bytes().to_vec())];
+                self.add(what, b.entry(lowest), (CHAINS, lowest, 0, 0), patch);
+            }
+        }
+    }
+}
+
+/// The lowest entry whose chain is longer than there are entries.
+pub fn lowest_endless(parents: &[usize]) -> Option<usize> {
+    (0..parents.len()).find(|&i| {
+        let mut index = i + 1;
+        for _ in 0..=parents.len() {
+            if index == 0 {
+                return false;
+            }
+            index = parents[index - 1];
+        }
+        true
+    })
+}

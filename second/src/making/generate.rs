@@ -1,0 +1,649 @@
+//! Good typelibs of every shape, from fixed seeds.
+
+use super::builder::*;
+use super::model::KeyOf;
+use super::rng::Rng;
+use std::collections::{HashMap, HashSet};
+
+/// The largest counts of a random typelib.
+#[derive(Clone, Copy)]
+pub struct Size {
+    pub entries: usize,
+    pub methods: usize,
+    pub arguments: usize,
+    pub constants: usize,
+    pub name: usize,
+}
+
+pub const SMALL: Size = Size { entries: 3, methods: 3, arguments: 4, constants: 2, name: 4 };
+pub const MEDIUM: Size = Size { entries: 12, methods: 6, arguments: 6, constants: 4, name: 12 };
+pub const LARGE: Size = Size { entries: 60, methods: 12, arguments: 10, constants: 8, name: 40 };
+
+/// What identifiers are made of.
+pub const LETTERS: &[u8; 63] = b"ABCDEFGHIJKLMNOPQRSTUVWXYZabcdefghijklmnopqrstuvwxyz0123456789_";
+
+pub fn identifier(rng: &mut Rng, longest: usize) -> Vec<u8> {
+    let length = match rng.below(100) {
+        0 => MAX_IDENTIFIER,
+        1..=10 => 1,
+        _ => rng.range(1, longest),
+    };
+    (0..length).map(|_| *rng.pick(LETTERS)).collect()
+}
+
+/// What follows the prefix of an interface's type.
+pub fn index_tail(index: usize) -> [u8; 3] {
+    let [high, low] = (index as u16).to_be_bytes();
+    [high, low, 0]
+}
+
+/// What follows a prefix of this tag, where these arguments are an IID and a size.
+pub fn fitting(tag: u8, iid: u8, size: u8) -> [u8; 3] {
+    match tag {
+        INTERFACE => [0, 1, 0],
+        INTERFACE_IS => [iid, 0, 0],
+        _ => [size, size, 0],
+    }
+}
+
+/// An IID that ends in the number.
+pub fn iid(number: u64) -> [u8; 16] {
+    let mut iid = [0; 16];
+    iid[8..].copy_from_slice(&number.to_be_bytes());
+    iid
+}
+
+fn iids(rng: &mut Rng, count: usize) -> Vec<[u8; 16]> {
+    let mut set = HashSet::new();
+    let style = rng.below(4);
+    while set.len() < count {
+        let mut id = iid(1 + rng.below(4 * count) as u64);
+        match style {
+            0 => id.iter_mut().for_each(|b| *b = rng.byte()),
+            1 => id.reverse(),
+            2 => id[..8].fill(0xff),
+            _ => {}
+        }
+        if id != [0; 16] {
+            set.insert(id);
+        }
+    }
+    let mut sorted: Vec<_> = set.into_iter().collect();
+    sorted.sort_unstable();
+    sorted
+}
+
+/// What the types of one method may use.
+struct Scope<'a> {
+    minor: u8,
+    n: usize,
+    iids: &'a [u8],
+    sizes: &'a [u8],
+}
+
+impl Scope<'_> {
+    /// Pointer, unique and reference as the tag allows.
+    fn prefix(&self, rng: &mut Rng, tag: u8) -> u8 {
+        if !needs_pointer(tag) && rng.percent(60) {
+            return tag;
+        }
+        let more = if rng.percent(60) { 0 } else { rng.byte() & (UNIQUE | REFERENCE) };
+        tag | POINTER | more
+    }
+
+    fn allows(&self, tag: u8) -> bool {
+        match tag {
+            INTERFACE => self.n > 0,
+            INTERFACE_IS => !self.iids.is_empty(),
+            ARRAY | SIZED_STRING | SIZED_WSTRING => !self.sizes.is_empty(),
+            _ => !is_reserved(tag, self.minor),
+        }
+    }
+
+    fn of(&self, rng: &mut Rng) -> Type {
+        let mut arrays = Vec::new();
+        if self.allows(ARRAY) && rng.percent(25) {
+            let depth = if rng.percent(20) { 8 } else { rng.range(1, 4) };
+            for _ in 0..depth {
+                let prefix = self.prefix(rng, ARRAY);
+                arrays.push([prefix, *rng.pick(self.sizes), *rng.pick(self.sizes)]);
+            }
+        }
+        let tag = loop {
+            let tag = rng.below(usize::from(LAST_TAG) + 1) as u8;
+            if tag != ARRAY && self.allows(tag) {
+                break tag;
+            }
+        };
+        let tail = match tag {
+            INTERFACE => index_tail(rng.range(1, self.n)),
+            INTERFACE_IS => [*rng.pick(self.iids), 0, 0],
+            SIZED_STRING | SIZED_WSTRING => [*rng.pick(self.sizes), *rng.pick(self.sizes), 0],
+            _ => [0; 3],
+        };
+        Type { arrays, leaf: self.prefix(rng, tag), tail }
+    }
+}
+
+fn argument_flags(rng: &mut Rng, minor: u8) -> u8 {
+    let mut flags = rng.byte() & !(RETVAL | reserved_in_parameter(minor));
+    if flags & OUT != 0 && rng.percent(30) {
+        flags |= RETVAL;
+    }
+    flags
+}
+
+pub fn method(
+    rng: &mut Rng,
+    minor: u8,
+    n: usize,
+    flags: u8,
+    name: &[u8],
+    arguments: usize,
+) -> Method {
+    // Some arguments are there to be named by the numbers of others, before or after them.
+    let mut kinds = Vec::new();
+    let (mut iids, mut sizes) = (Vec::new(), Vec::new());
+    for number in 0..arguments as u8 {
+        let kind = rng.below(5);
+        match kind {
+            0 => iids.push(number),
+            1 => sizes.push(number),
+            _ => {}
+        }
+        kinds.push(kind);
+    }
+    let scope = Scope { minor, n, iids: &iids, sizes: &sizes };
+    let mut list = Vec::new();
+    for kind in kinds {
+        let of = match kind {
+            0 => Type::simple(IID | POINTER | (rng.byte() & (UNIQUE | REFERENCE))),
+            1 => Type::simple(UINT32),
+            _ => scope.of(rng),
+        };
+        list.push(Parameter::new(argument_flags(rng, minor), of));
+    }
+    let mut result_flags = rng.byte() & rng.byte() & !(IN | OUT | reserved_in_parameter(minor));
+    if rng.percent(50) {
+        result_flags = 0;
+    }
+    let free = flags & NOT_XPCOM != 0 || result_flags & RETVAL != 0;
+    let of = if free { scope.of(rng) } else { Type::simple(*rng.pick(&[VOID, UINT32, UINT32])) };
+    Method::new(flags, name, list, Parameter::new(result_flags, of))
+}
+
+fn descriptor(
+    rng: &mut Rng,
+    minor: u8,
+    n: usize,
+    size: Size,
+    words: &[Vec<u8>],
+    parent: u16,
+) -> Descriptor {
+    let mut d = Descriptor { parent, ..Descriptor::default() };
+    // What each accessor name is used for: GETTER, SETTER or both as a pair.
+    let mut used: HashMap<Vec<u8>, u8> = HashMap::new();
+    let mut constructor = rng.percent(30);
+    let count = rng.range(0, size.methods);
+    while d.methods.len() < count {
+        let name = rng.pick(words).clone();
+        let mut flags = rng.byte() & rng.byte() & (NOT_XPCOM | HIDDEN);
+        let kind = rng.below(6);
+        let before = used.get(&name).copied().unwrap_or(0);
+        let mut pair = false;
+        match kind {
+            0 if before & SETTER == 0 => flags |= GETTER,
+            1 if before & GETTER == 0 => flags |= SETTER,
+            2 if before == 0 => {
+                flags |= GETTER;
+                pair = true;
+            }
+            _ => {}
+        }
+        if constructor && rng.percent(30) {
+            flags |= CONSTRUCTOR;
+            constructor = false;
+        }
+        if flags & (GETTER | SETTER) != 0 {
+            *used.entry(name.clone()).or_default() |= flags & (GETTER | SETTER);
+        }
+        let arguments = rng.range(0, size.arguments);
+        d.methods.push(method(rng, minor, n, flags, &name, arguments));
+        if pair {
+            *used.entry(name.clone()).or_default() |= SETTER;
+            let arguments = rng.range(0, 2);
+            d.methods.push(method(rng, minor, n, SETTER, &name, arguments));
+        }
+    }
+    for _ in 0..rng.range(0, size.constants) {
+        let value = *rng.pick(&[0, 1, 0x7fff, 0x8000, 0xffff, 0x7fff_ffff, 0x8000_0000, u32::MAX]);
+        let name = &words[rng.below(words.len())];
+        d.constants.push(Constant::new(name, *rng.pick(&CONSTANT_TYPES), value));
+    }
+    d.flags = rng.byte() & !reserved_in_interface(minor);
+    d
+}
+
+pub fn annotations(rng: &mut Rng) -> Vec<Annotation> {
+    let text = |rng: &mut Rng| {
+        let length = rng.below(6);
+        (0..length).map(|_| rng.byte() & 0x7f).collect()
+    };
+    let count = if rng.percent(60) { 1 } else { rng.range(1, 5) };
+    let mut list = Vec::new();
+    for _ in 0..count {
+        list.push(match rng.percent(60) {
+            true => Annotation::Empty,
+            false => Annotation::Texts(text(rng), text(rng)),
+        });
+    }
+    list
+}
+
+/// A random layout without contents.
+pub fn layout(rng: &mut Rng, minor: u8) -> Typelib {
+    Typelib {
+        minor,
+        annotations: annotations(rng),
+        directory_gap: if rng.percent(80) { 0 } else { rng.below(9) },
+        pool_gap: if rng.percent(80) { 0 } else { rng.below(9) },
+        record_gap: if rng.percent(80) { 0 } else { rng.below(4) },
+        tail: if rng.percent(80) { 0 } else { rng.below(9) },
+        junk: if rng.percent(50) { 0 } else { rng.number() >> 1 },
+        order: *rng.pick(&[Order::Entries, Order::NamesFirst, Order::NamesLast, Order::Shuffled]),
+        sharing: *rng.pick(&[Sharing::None, Sharing::None, Sharing::Equal, Sharing::Overlap]),
+        ..Typelib::default()
+    }
+}
+
+/// Entries of the given number, those of zero IID first, with keys as `key` gives them. Of 100
+/// with an IID so many are resolved, and of these so many with a descriptor of their own.
+///
+/// Gives how many descriptors there are, which have yet to be made.
+fn populate(
+    lib: &mut Typelib,
+    rng: &mut Rng,
+    [zeros, n]: [usize; 2],
+    [resolved, own]: [usize; 2],
+    key: impl Fn(&mut Rng) -> KeyOf,
+) -> usize {
+    let ids = iids(rng, n - zeros);
+    let mut keys = HashSet::new();
+    let mut descriptors = 0;
+    for i in 0..n {
+        let (namespace, name) = loop {
+            let key = key(rng);
+            if keys.insert(key.clone()) {
+                break key;
+            }
+        };
+        let iid = if i < zeros { [0; 16] } else { ids[i - zeros] };
+        let mut descriptor = None;
+        if i >= zeros && rng.percent(resolved) {
+            if descriptors == 0 || rng.percent(own) {
+                descriptors += 1;
+                descriptor = Some(descriptors - 1);
+            } else {
+                descriptor = Some(rng.below(descriptors));
+            }
+        }
+        lib.entries.push(Entry { iid, name, namespace, descriptor });
+    }
+    let mut renumbered: Vec<usize> = (0..descriptors).collect();
+    rng.shuffle(&mut renumbered);
+    for entry in &mut lib.entries {
+        entry.descriptor = entry.descriptor.map(|d| renumbered[d]);
+    }
+    descriptors
+}
+
+/// A good typelib of up to the given size, in a random layout.
+pub fn random(rng: &mut Rng, size: Size) -> Typelib {
+    let minor = u8::from(rng.percent(70));
+    let n = rng.range(0, size.entries);
+    let zeros = if rng.percent(50) { 0 } else { rng.range(0, n) };
+    let words: Vec<_> = (0..8).map(|_| identifier(rng, size.name)).collect();
+    let mut lib = layout(rng, minor);
+    let word = |rng: &mut Rng| match rng.percent(50) {
+        true => rng.pick(&words).clone(),
+        false => identifier(rng, size.name),
+    };
+    let key = |rng: &mut Rng| (rng.percent(40).then(|| word(rng)), word(rng));
+    // A descriptor's parent is unresolved or has a lower descriptor, so that chains end.
+    for d in 0..populate(&mut lib, rng, [zeros, n], [85, 85], key) {
+        let may_be = |i: &usize| lib.entries[i - 1].descriptor.is_none_or(|other| other < d);
+        let parents: Vec<usize> = (1..=n).filter(may_be).collect();
+        let parent = match parents.is_empty() || rng.percent(40) {
+            true => 0,
+            false => *rng.pick(&parents) as u16,
+        };
+        lib.descriptors.push(descriptor(rng, minor, n, size, &words, parent));
+    }
+    lib
+}
+
+/// Words that are easily taken for one another: prefixes, other case, long ones.
+fn near_words(rng: &mut Rng) -> Vec<Vec<u8>> {
+    let word = identifier(rng, 6);
+    let mut words = vec![word.clone(), identifier(rng, 6), identifier(rng, 2), b"_".to_vec()];
+    words.push(word.iter().map(|b| b.to_ascii_uppercase()).collect());
+    if word.len() > 1 {
+        words.push(word[..word.len() - 1].to_vec());
+    }
+    if word.len() < MAX_IDENTIFIER {
+        words.push([&word[..], b"0"].concat());
+    }
+    if rng.percent(20) {
+        let mut long = vec![b'x'; MAX_IDENTIFIER];
+        words.push(long.clone());
+        long[MAX_IDENTIFIER - 1] = b'y';
+        words.push(long);
+    }
+    words
+}
+
+/// Interfaces that inherit from one another over several levels, with few words for the names of
+/// all methods and constants; chains that end and chains that meet an unresolved entry.
+pub fn family(rng: &mut Rng) -> Typelib {
+    let size = Size { entries: 0, methods: 4, arguments: 2, constants: 3, name: 6 };
+    let minor = u8::from(rng.percent(70));
+    let n = rng.range(1, 16);
+    let zeros = if rng.percent(60) { 0 } else { rng.range(0, n / 2) };
+    let incomplete = if rng.percent(40) { 0 } else { 25 };
+    let mut lib = layout(rng, minor);
+    let words = [near_words(rng), near_words(rng)].concat();
+    let (names, spaces) = (near_words(rng), near_words(rng));
+
+    let key = |rng: &mut Rng| {
+        let namespace = rng.percent(60).then(|| rng.pick(&spaces).clone());
+        (namespace, if rng.percent(10) { identifier(rng, 6) } else { rng.pick(&names).clone() })
+    };
+    // The parent: unresolved, the next lower descriptor or any lower one, so that chains end.
+    for d in 0..populate(&mut lib, rng, [zeros, n], [90, 92], key) {
+        let those = |may_be: &dyn Fn(Option<usize>) -> bool| -> Vec<usize> {
+            (1..=n).filter(|i| may_be(lib.entries[i - 1].descriptor)).collect()
+        };
+        let candidates = match rng.below(100) {
+            0..4 => Vec::new(),
+            kind if kind < 4 + incomplete => those(&|other| other.is_none()),
+            kind if kind < 85 => those(&|other| other.is_some_and(|other| other + 1 == d)),
+            _ => those(&|other| other.is_some_and(|other| other < d)),
+        };
+        let parent = if candidates.is_empty() { 0 } else { *rng.pick(&candidates) as u16 };
+        lib.descriptors.push(descriptor(rng, minor, n, size, &words, parent));
+    }
+    lib
+}
+
+/// One entry with IID 1 and name `A`, directory at 36, pool at 64.
+pub fn single(descriptor: Descriptor) -> Typelib {
+    let entry = Entry { descriptor: Some(0), ..Entry::new(1, "A") };
+    Typelib { entries: vec![entry], descriptors: vec![descriptor], ..Typelib::default() }
+}
+
+/// Entries `E0`, `E1`, .. with IIDs from 1, unresolved.
+pub fn entries(count: usize) -> Vec<Entry> {
+    (0..count).map(|i| Entry::new(i as u64 + 1, &format!("E{i}"))).collect()
+}
+
+/// Appends unused bytes up to the given length.
+pub fn filled_to(lib: &Typelib, length: usize) -> Typelib {
+    let mut filled = lib.clone();
+    filled.tail += length - lib.bytes().len();
+    filled
+}
+
+/// P1, P2 and P3 of document 01.
+pub fn marked() -> [Vec<u8>; 3] {
+    let p1 = Typelib { pool_gap: 3, ..Typelib::default() }.bytes();
+    let p2 = Typelib { entries: vec![Entry::new(0, "Tank")], ..Typelib::default() }.bytes();
+    let constants = vec![Constant::new(b"K", 1, 0xfffe)];
+    let p3 = single(Descriptor { constants, flags: 0x80, ..Descriptor::default() }).bytes();
+    [p1, p2, p3]
+}
+
+/// A typelib with every kind of field in few bytes.
+pub fn rich(minor: u8, order: Order) -> Typelib {
+    let argument = |flags: u8, of: Type| Parameter::new(flags, of);
+    let void = || Parameter::new(0, Type::simple(VOID));
+    let mut lib = Typelib { minor, order, entries: entries(7), ..Typelib::default() };
+    lib.annotations = vec![
+        Annotation::Empty,
+        Annotation::Texts(b"by hand".to_vec(), b"1.0".to_vec()),
+        Annotation::Texts(Vec::new(), b"x".to_vec()),
+    ];
+    for (entry, number) in lib.entries.iter_mut().zip([0, 0, 5, 6, 0x1_0000, 0x1_0001, u64::MAX]) {
+        entry.iid = iid(number);
+    }
+    lib.entries[1].namespace = Some(b"n".to_vec());
+    lib.entries[1].name = b"E0".to_vec();
+    lib.entries[5].namespace = Some(b"ns_2".to_vec());
+
+    let constants = vec![
+        Constant::new(b"SHORT", 1, 0x8000),
+        Constant::new(b"LONG", 2, 0x7fff_ffff),
+        Constant::new(b"USHORT", 5, 0xffff),
+        Constant::new(b"ULONG", 6, 0xffff_ffff),
+    ];
+    let methods = vec![Method::plain(0, b"release"), Method::plain(HIDDEN, b"release")];
+    let root = lib.add(Descriptor { parent: 0, methods, constants, flags: 0x80 });
+
+    let sized = vec![
+        argument(IN, Type::with(POINTER | INTERFACE_IS, [3, 0, 0])),
+        argument(IN | SHARED, Type::nested(8, 2, POINTER | INTERFACE_IS, [3, 0, 0])),
+        argument(IN, Type::simple(UINT32)),
+        argument(IN, Type::simple(IID | POINTER | REFERENCE)),
+        argument(OUT | RETVAL, Type::nested(2, 5, POINTER | INTERFACE, [0, 7, 0])),
+        argument(IN | OUT, Type::simple(UINT32)),
+        argument(IN, Type::with(POINTER | 21, [2, 5, 0])),
+        argument(OUT, Type::with(POINTER | UNIQUE | 22, [5, 5, 0])),
+    ];
+    let numbers =
+        vec![argument(IN, Type::simple(UINT32)), argument(IN, Type::simple(IID | POINTER))];
+    let other = Parameter::new(0, Type::nested(8, 0, POINTER | INTERFACE_IS, [1, 0, 0]));
+    let interface = Parameter::new(RETVAL, Type::with(POINTER | INTERFACE, [0, 4, 0]));
+    let value = |flags: u8| vec![argument(flags, Type::simple(10))];
+    let methods = vec![
+        Method::new(GETTER, b"size", value(OUT | RETVAL), void()),
+        Method::new(SETTER, b"size", value(IN), Parameter::new(0, Type::simple(UINT32))),
+        Method::new(0, b"fill", sized, void()),
+        Method::new(NOT_XPCOM, b"pick", numbers, other),
+        Method::new(CONSTRUCTOR, b"make", Vec::new(), interface),
+        Method::new(GETTER, b"kind", value(OUT), void()),
+    ];
+    let constants = vec![Constant::new(b"K", 5, 3)];
+    let child = lib.add(Descriptor { parent: 4, methods, constants, flags: 0 });
+    let above_unresolved = lib.add(Descriptor { parent: 3, flags: 0x80, ..Descriptor::default() });
+    for (entry, d) in [(3, root), (4, child), (5, child), (6, above_unresolved)] {
+        lib.entries[entry].descriptor = Some(d);
+    }
+    lib
+}
+
+/// Many entries with little in each: small random descriptors, namespaces, unresolved ones.
+pub fn wide(rng: &mut Rng, count: usize) -> Typelib {
+    let size = Size { entries: 0, methods: 2, arguments: 3, constants: 1, name: 6 };
+    let words: Vec<_> = (0..30).map(|_| identifier(rng, 8)).collect();
+    let mut lib = Typelib { entries: entries(count), ..Typelib::default() };
+    for i in 0..count {
+        let parent = rng.below(i + 1) as u16;
+        if rng.percent(80) {
+            let d = descriptor(rng, 1, count, size, &words, parent);
+            lib.entries[i].descriptor = Some(lib.add(d));
+        }
+        if rng.percent(50) {
+            lib.entries[i].namespace = Some(rng.pick(&words).clone());
+        }
+    }
+    lib
+}
+
+/// Methods each of which ends in a descriptor's head, so that as many descriptors as methods
+/// overlap: the one that starts in method i's last four bytes has the methods after i.
+///
+/// The head is the last argument `00 00` and the result `00 t` of a not-XPCOM method: parent 0
+/// and t methods, t being the result's tag; so there are at most 15 methods after the first.
+/// The first entry leads to the outermost descriptor, the entry after it to the first head.
+pub fn overlapping_heads(rng: &mut Rng, count: usize) -> Vec<u8> {
+    assert!((1..=16).contains(&count));
+    let mut methods = Vec::new();
+    for i in 0..count {
+        let mut arguments = Vec::new();
+        for _ in 0..rng.below(3) {
+            arguments.push(Parameter::new(argument_flags(rng, 1), Type::simple(UINT32)));
+        }
+        arguments.push(Parameter::new(0, Type::simple(0)));
+        let result = Parameter::new(0, Type::simple((count - 1 - i) as u8));
+        let flags = NOT_XPCOM | (rng.byte() & HIDDEN);
+        methods.push(Method::new(flags, &identifier(rng, 5), arguments, result));
+    }
+    let constants = vec![Constant::new(b"Z", 6, rng.number() as u32); rng.below(3)];
+    let outer = Descriptor { parent: 0, methods, constants, flags: 0xc0 };
+    let mut lib = Typelib { entries: entries(count + 1), ..Typelib::default() };
+    lib.entries[0].descriptor = Some(lib.add(outer));
+    lib.order = *rng.pick(&[Order::Entries, Order::NamesFirst, Order::NamesLast]);
+    let built = lib.build();
+    let mut bytes = built.bytes.clone();
+    for i in 0..count {
+        let head = built.placed[0].methods[i + 1] - 4;
+        let pointer = (head - built.pool + 1) as u32;
+        bytes[built.entry(i + 1) + 24..][..4].copy_from_slice(&pointer.to_be_bytes());
+    }
+    bytes
+}
+
+/// Entries whose names stand inside descriptors: in the values of their constants.
+pub fn names_in_descriptors(rng: &mut Rng, count: usize) -> Vec<u8> {
+    assert!((1..=LETTERS.len()).contains(&count));
+    let mut lib = Typelib { sharing: Sharing::None, ..layout(rng, 1) };
+    lib.entries = entries(count);
+    for (entry, letter) in lib.entries.iter_mut().zip(LETTERS) {
+        let value = u32::from_be_bytes([*letter, *rng.pick(LETTERS), 0, rng.byte()]);
+        let constants = vec![Constant::new(b"K", *rng.pick(&[2, 6]), value)];
+        lib.descriptors.push(Descriptor { constants, ..Descriptor::default() });
+        entry.descriptor = Some(lib.descriptors.len() - 1);
+    }
+    let built = lib.build();
+    let mut bytes = built.bytes.clone();
+    let values = built.spots.iter().filter(|spot| spot.field == Field::ConstantValue);
+    let shift = rng.below(count);
+    for (i, value) in values.enumerate() {
+        let pointer = (value.at - built.pool + 1) as u32;
+        let entry = built.entry((i + shift) % count);
+        bytes[entry + 16..][..4].copy_from_slice(&pointer.to_be_bytes());
+    }
+    bytes
+}
+
+/// Good typelibs at the edges of what is allowed.
+pub fn special() -> Vec<Typelib> {
+    let empty = Typelib::default();
+    let of = |entries: Vec<Entry>| Typelib { entries, ..Typelib::default() };
+    let with = |methods: Vec<Method>| single(Descriptor { methods, ..Descriptor::default() });
+    // 33 bytes, and no entries with gaps, annotations and an unused pool.
+    let mut all = vec![empty.clone()];
+    for (tail, pool_gap) in
+        [0, 1, 2, 3, 100].into_iter().flat_map(|t| [0, 1, 5, 1000].map(|g| (t, g)))
+    {
+        all.push(Typelib { tail, pool_gap, junk: 5, ..empty.clone() });
+    }
+    let text = |length: usize| vec![b'x'; length];
+    for (first, second) in [(0, 0), (0, 1), (1, 0), (127, 128), (65_535, 0), (300, 65_535)] {
+        let annotations = vec![Annotation::Texts(text(first), text(second)), Annotation::Empty];
+        all.push(Typelib { annotations: annotations.clone(), ..empty.clone() });
+        all.push(Typelib { annotations, ..of(entries(2)) });
+    }
+    all.push(Typelib { annotations: vec![Annotation::Empty; 1000], ..empty.clone() });
+    // The directory farther on.
+    for directory_gap in [1, 2, 7, 63, 64, 1000] {
+        all.push(Typelib { directory_gap, junk: 9, ..of(entries(3)) });
+    }
+    // Identifiers of 1 and 255 bytes, also as namespaces; keys that join to the same text.
+    let mut names = of(entries(6));
+    let longest = "x".repeat(MAX_IDENTIFIER);
+    let keys =
+        [("", &*longest), (&longest, "x"), ("ab", "c"), ("a", "bc"), ("", "abc"), ("c", "ab")];
+    for (entry, (namespace, name)) in names.entries.iter_mut().zip(keys) {
+        entry.set_key(namespace, name);
+    }
+    for sharing in [Sharing::None, Sharing::Equal, Sharing::Overlap] {
+        all.push(Typelib { sharing, ..names.clone() });
+    }
+    all.push(filled_to(&names, 60_000));
+
+    // The greatest counts.
+    let mut many = of(entries(MAX_INTERFACES));
+    all.extend([many.clone(), filled_to(&many, MAX_FILE)]);
+    many.entries[..500].iter_mut().for_each(|entry| entry.iid = [0; 16]);
+    all.push(many.clone());
+    for i in 500..MAX_INTERFACES {
+        let parent = if i == 500 { 7 } else { i as u16 };
+        let d = many.add(Descriptor { parent, ..Descriptor::default() });
+        many.entries[i].descriptor = Some(d);
+    }
+    all.extend([many.clone(), Typelib { sharing: Sharing::Equal, ..many }]);
+    let methods = with(vec![Method::plain(0, b"m"); MAX_METHODS]);
+    let constants = vec![Constant::new(b"k", 2, 7); MAX_CONSTANTS];
+    let constants = single(Descriptor { constants, ..Descriptor::default() });
+    for sharing in [Sharing::None, Sharing::Equal] {
+        all.push(Typelib { sharing, ..methods.clone() });
+        all.push(Typelib { sharing, ..constants.clone() });
+    }
+    let mut both = methods;
+    both.descriptors[0].constants = constants.descriptors[0].constants.clone();
+    all.push(filled_to(&both, MAX_FILE));
+    all.extend([MAX_FILE, MAX_FILE - 1].map(|length| filled_to(&empty, length)));
+    all.push(Typelib { pool_gap: MAX_FILE - 33, ..empty });
+
+    // Many accessors: pairs one after another, then getters and setters without partner.
+    let mut accessors = Vec::new();
+    for name in (0..300).map(|i| format!("attribute{i}")) {
+        accessors.extend([GETTER, SETTER].map(|flags| Method::plain(flags, name.as_bytes())));
+    }
+    accessors.extend(vec![Method::plain(GETTER, b"read"); 200]);
+    accessors.extend(vec![Method::plain(SETTER, b"write"); 200]);
+    all.push(with(accessors));
+
+    // 255 arguments, eight arrays, numbers that name the last argument.
+    let of_number = |i: usize| match i % 4 {
+        _ if i == 254 => Type::simple(UINT32),
+        0 => Type::nested(8, 254, POINTER | SIZED_STRING, [254, 254, 0]),
+        1 => Type::nested(i % 9, 254, POINTER | INTERFACE, [0, 1, 0]),
+        2 => Type::with(POINTER | INTERFACE_IS, [3, 0, 0]),
+        _ => Type::simple(POINTER | IID),
+    };
+    let arguments = (0..255).map(|i| Parameter::new(IN, of_number(i))).collect();
+    let result = Parameter::new(RETVAL, Type::nested(8, 254, ASTRING, [0; 3]));
+    all.push(with(vec![Method::new(0, b"wide", arguments, result); 3]));
+
+    // Every tag, plain and in arrays, as argument and as result.
+    for (minor, tag) in (0..=MAX_MINOR).flat_map(|m| (0..=LAST_TAG).map(move |tag| (m, tag))) {
+        if is_reserved(tag, minor) {
+            continue;
+        }
+        let prefix = if needs_pointer(tag) { POINTER | tag } else { tag };
+        let method = |depth: usize| {
+            let of = Type::nested(depth, 2, prefix, fitting(tag, 1, 2));
+            let types = [of.clone(), Type::simple(POINTER | IID), Type::simple(UINT32)];
+            let mut arguments = types.map(|of| Parameter::new(IN, of)).to_vec();
+            arguments[0].flags = IN | OUT;
+            Method::new(NOT_XPCOM, b"f", arguments, Parameter::new(0, of))
+        };
+        let depths = if tag == ARRAY { 0..=7 } else { 0..=8 };
+        all.push(Typelib { minor, ..with(depths.map(method).collect()) });
+    }
+
+    // A long chain of parents in both directions.
+    for down in [false, true] {
+        let mut chain = of(entries(200));
+        for i in 0..200 {
+            let parent = if down { (i + 2) % 201 } else { i };
+            let d = chain.add(Descriptor { parent: parent as u16, ..Descriptor::default() });
+            chain.entries[i].descriptor = Some(d);
+        }
+        all.push(chain);
+    }
+    let rng = &mut Rng::new(1);
+    all.extend((0..6).map(|_| random(rng, LARGE)));
+    all
+}

@@ -1,0 +1,310 @@
+//! Good files that are hard on a check, and a large ordinary one.
+
+use super::builder::*;
+use super::generate::{entries, iid, index_tail, single, LETTERS};
+use super::rng::Rng;
+
+/// A file and what is hard about it.
+pub struct Case {
+    pub name: &'static str,
+    pub n: usize,
+    pub bytes: Vec<u8>,
+}
+
+pub fn cases() -> Vec<Case> {
+    let all = [
+        ("a: 1,024 entries share one descriptor", shared_descriptor(false)),
+        ("b: arrays whose numbers name the last argument", deep_arguments()),
+        ("c: getters and setters of nearly one name", near_names()),
+        ("d: descriptors that overlap, long methods", overlapping(true)),
+        ("e: a chain of 1,024 parents, upward", chain(true).bytes()),
+        ("e: a chain of 1,024 parents, downward", chain(false).bytes()),
+        ("f: keys with a long common start", near_keys(0).bytes()),
+        ("g: an ordinary file", ordinary()),
+        ("h: descriptors that overlap, accessors", overlapping(false)),
+        ("i: 240,000 references to a key of 510 bytes", shared_descriptor(true)),
+    ];
+    let case = |(name, bytes): (&'static str, Vec<u8>)| {
+        let n = usize::from(u16::from_be_bytes([bytes[18], bytes[19]]));
+        assert!(bytes.len() <= MAX_FILE);
+        Case { name, n, bytes }
+    };
+    all.into_iter().map(case).collect()
+}
+
+/// A name of the greatest length: many letters alike, the last two from the number.
+fn long_name(number: usize) -> Vec<u8> {
+    let mut name = vec![b'a'; MAX_IDENTIFIER];
+    name[MAX_IDENTIFIER - 2] = LETTERS[number / 63];
+    name[MAX_IDENTIFIER - 1] = LETTERS[number % 63];
+    name
+}
+
+/// (a) and (i) One descriptor of nearly the whole file, for every entry. It refers to the last,
+/// whose key is as long as can be in (i).
+fn shared_descriptor(long_key: bool) -> Vec<u8> {
+    let argument = Parameter::new(IN, Type::with(POINTER | INTERFACE, [4, 0, 0]));
+    let result = Parameter::new(0, Type::simple(VOID));
+    let method = Method::new(0, b"m", vec![argument; 242], result);
+    let d = Descriptor {
+        methods: vec![method; MAX_METHODS],
+        constants: vec![Constant::new(b"k", 2, 1); MAX_CONSTANTS],
+        ..Descriptor::default()
+    };
+    let mut lib = sharing(MAX_INTERFACES, d);
+    if long_key {
+        lib.entries[MAX_INTERFACES - 1].name = long_name(0);
+        lib.entries[MAX_INTERFACES - 1].namespace = Some(long_name(1));
+    }
+    lib.bytes()
+}
+
+/// 254 arguments of eight arrays, all of whose numbers name the last argument, a uint32.
+fn deep_method(flags: u8, name: &[u8], result: Parameter) -> Method {
+    let deep = Type::nested(8, 254, POINTER | SIZED_STRING, [254, 254, 0]);
+    let mut arguments = vec![Parameter::new(IN, deep); 254];
+    arguments.push(Parameter::new(IN, Type::simple(UINT32)));
+    Method::new(flags, name, arguments, result)
+}
+
+/// (b) As many such methods as fit.
+fn deep_arguments() -> Vec<u8> {
+    let method = deep_method(0, b"m", Parameter::new(0, Type::simple(VOID)));
+    let count = (MAX_FILE - 100) / method.size();
+    let methods = vec![method; count];
+    let lib = single(Descriptor { methods, ..Descriptor::default() });
+    Typelib { sharing: Sharing::Equal, ..lib }.bytes()
+}
+
+/// (c) 512 getters of one long name and 512 setters of another in each descriptor, which differ
+/// in the last letter. A descriptor takes 8,199 bytes, so that beside 1,024 entries 124 fit, not
+/// 127.
+fn near_names() -> Vec<u8> {
+    let mut methods = vec![Method::plain(GETTER, &long_name(0)); 512];
+    methods.extend(vec![Method::plain(SETTER, &long_name(1)); 512]);
+    let d = Descriptor { methods, ..Descriptor::default() };
+    let mut lib = Typelib { entries: entries(MAX_INTERFACES), ..Typelib::default() };
+    lib.sharing = Sharing::Equal;
+    let fixed = Typelib { descriptors: Vec::new(), ..lib.clone() }.bytes().len();
+    let count = (MAX_FILE - fixed - 2 * (MAX_IDENTIFIER + 1)) / d.size();
+    for (i, entry) in lib.entries.iter_mut().enumerate() {
+        entry.descriptor = Some(i % count);
+    }
+    lib.descriptors = vec![d; count];
+    lib.bytes()
+}
+
+/// The prefix of a pointer to an interface is also the parent in a head (see below).
+const ROOT: usize = (POINTER | INTERFACE) as usize;
+
+/// (d) and (h) Descriptors at 1,023 places, all of which end in the same bytes.
+///
+/// Each of 1,024 not-XPCOM methods has as result a pointer to interface k: `00 92`, then k as 2
+/// bytes. Read as a descriptor's head this is parent 146 and k methods; k is the number of
+/// methods that follow. Entry 146 is a root of its own. A head with parent 0 would have to end
+/// in a result of one byte of prefix, which gives too few different counts.
+///
+/// Long: only the last methods have arguments, very many, so that nearly every descriptor has
+/// nearly the whole file. Otherwise: the methods have none, but are getters of long names.
+fn overlapping(long: bool) -> Vec<u8> {
+    let result =
+        |index: usize| Parameter::new(0, Type::with(POINTER | INTERFACE, index_tail(index.max(1))));
+    let long_methods = if long { 141 } else { 0 };
+    let mut methods = Vec::new();
+    for following in (0..MAX_METHODS).rev() {
+        methods.push(match (long, following < long_methods) {
+            (true, true) => deep_method(NOT_XPCOM, b"m", result(following)),
+            (true, false) => Method::new(NOT_XPCOM, b"m", Vec::new(), result(following)),
+            (false, _) => {
+                let kind = if following % 2 == 0 { GETTER } else { SETTER };
+                let flags = NOT_XPCOM | kind;
+                Method::new(flags, &long_name(following), Vec::new(), result(following))
+            }
+        });
+    }
+    let mut lib = Typelib { entries: entries(MAX_INTERFACES), ..Typelib::default() };
+    lib.sharing = Sharing::Equal;
+    let parent = ROOT as u16;
+    let outer = lib.add(Descriptor { parent, methods, ..Descriptor::default() });
+    let root = lib.add(Descriptor::default());
+    lib.entries.iter_mut().for_each(|entry| entry.descriptor = Some(outer));
+    lib.entries[ROOT - 1].descriptor = Some(root);
+    let built = lib.build();
+    let mut bytes = built.bytes.clone();
+    let heads = built.placed[outer].methods[1..].iter().map(|end| end - 4);
+    let others = (1..MAX_INTERFACES).filter(|i| *i != ROOT - 1);
+    for (i, head) in others.zip(heads) {
+        let pointer = (head - built.pool + 1) as u32;
+        bytes[built.entry(i) + 24..][..4].copy_from_slice(&pointer.to_be_bytes());
+    }
+    bytes
+}
+
+/// A file of at most 50 KB whose listing has 540 KB for each entry: the entries share a
+/// descriptor, whose methods and constants share a name of the greatest length.
+pub fn long_listing(count: usize) -> Vec<u8> {
+    let d = Descriptor {
+        methods: vec![Method::plain(0, &long_name(0)); MAX_METHODS],
+        constants: vec![Constant::new(&long_name(0), 1, 0x8000); MAX_CONSTANTS],
+        ..Descriptor::default()
+    };
+    sharing(count, d).bytes()
+}
+
+/// Entries that share a descriptor.
+pub fn sharing(count: usize, d: Descriptor) -> Typelib {
+    let mut lib =
+        Typelib { entries: entries(count), sharing: Sharing::Equal, ..Typelib::default() };
+    lib.entries.iter_mut().for_each(|entry| entry.descriptor = Some(0));
+    lib.descriptors.push(d);
+    lib
+}
+
+/// Chains of 1,024 parents, upward and downward.
+pub fn chains() -> [Vec<u8>; 2] {
+    [chain(true).bytes(), chain(false).bytes()]
+}
+
+/// (e) Each entry is the parent of the one before it, or after it.
+fn chain(upward: bool) -> Typelib {
+    let mut lib = Typelib { entries: entries(MAX_INTERFACES), ..Typelib::default() };
+    for i in 0..MAX_INTERFACES {
+        let parent = if upward { (i + 2) % (MAX_INTERFACES + 1) } else { i };
+        let d = Descriptor { parent: parent as u16, ..Descriptor::default() };
+        lib.entries[i].descriptor = Some(lib.add(d));
+    }
+    lib
+}
+
+/// (f) Names of 255 letters with 253 in common and one namespace, stored anew for each. With 254
+/// in common only 64 names can differ.
+fn near_keys(namespace: usize) -> Typelib {
+    let mut lib = Typelib { entries: entries(MAX_INTERFACES), ..Typelib::default() };
+    for (i, entry) in lib.entries.iter_mut().enumerate() {
+        entry.name = long_name(i);
+        entry.namespace = Some(long_name(namespace));
+    }
+    lib
+}
+
+/// Two good files that are hard on a link, with what is hard about them.
+pub fn linked() -> [(&'static str, [Vec<u8>; 2]); 2] {
+    // As many entries as can be, none in common: nothing before 25 ends the link.
+    let mut others = near_keys(1);
+    for (i, entry) in others.entries.iter_mut().enumerate() {
+        entry.iid = iid((MAX_INTERFACES + i + 1) as u64);
+    }
+    // Every step up leads from what one file resolves to what the other does.
+    let half = |left_out: usize| {
+        let mut lib = chain(true);
+        lib.entries.iter_mut().skip(left_out).step_by(2).for_each(|entry| entry.descriptor = None);
+        lib.bytes()
+    };
+    [
+        ("j: 2,048 keys with a long common start", [near_keys(0).bytes(), others.bytes()]),
+        ("k: a chain of 1,024 parents, in turns", [half(1), half(0)]),
+    ]
+}
+
+/// (g) Some 500 interfaces.
+pub fn ordinary() -> Vec<u8> {
+    interfaces(500).bytes()
+}
+
+/// Interfaces with 20 to 60 methods each, attributes and constants. Parents stand before.
+pub fn interfaces(count: usize) -> Typelib {
+    const PARTS: [&str; 32] = [
+        "Element", "Node", "List", "Window", "Frame", "Style", "Sheet", "Event", "Target",
+        "Listener", "Document", "Content", "Load", "Channel", "Stream", "Buffer", "Cookie", "Host",
+        "Cache", "Entry", "Session", "Service", "Manager", "Observer", "Tree", "View", "Column",
+        "Row", "Index", "Key", "Value", "State",
+    ];
+    const VERBS: [&str; 12] = [
+        "get", "set", "create", "remove", "insert", "append", "find", "open", "close", "notify",
+        "on", "update",
+    ];
+    let rng = &mut Rng::new(500);
+    let mut lib = Typelib { entries: entries(count), ..Typelib::default() };
+    let n = lib.entries.len();
+    let part = |rng: &mut Rng| *rng.pick(&PARTS);
+    for i in 0..n {
+        let (first, second) = (part(rng), part(rng));
+        lib.entries[i].name = format!("nsI{first}{second}{i}").into_bytes();
+        let high = ((i as u64 + 1) << 48) | (rng.number() >> 16);
+        lib.entries[i].iid[..8].copy_from_slice(&high.to_be_bytes());
+        lib.entries[i].iid[8..].copy_from_slice(&rng.number().to_be_bytes());
+        if rng.percent(2) {
+            // Named only by others.
+            continue;
+        }
+        let mut d = Descriptor { flags: 0x80, ..Descriptor::default() };
+        d.parent = if rng.percent(20) { 0 } else { rng.below(i + 1) as u16 };
+        for _ in 0..rng.below(20) {
+            let name = format!("{}_{}", part(rng), part(rng)).to_uppercase();
+            let value = rng.below(0x8000) as u32;
+            d.constants.push(Constant::new(name.as_bytes(), *rng.pick(&[5, 5, 6, 2]), value));
+        }
+        let count = rng.range(20, 60);
+        while d.methods.len() < count {
+            let flag = if rng.percent(3) { HIDDEN } else { 0 };
+            let void = || Parameter::new(0, Type::simple(UINT32));
+            if rng.percent(45) {
+                let position = d.methods.len();
+                let name =
+                    format!("{}{}{}{position}", part(rng).to_lowercase(), part(rng), part(rng));
+                let of = plain_type(rng, n);
+                let value = Parameter::new(OUT | RETVAL, of.clone());
+                let getter = Method::new(GETTER | flag, name.as_bytes(), vec![value], void());
+                d.methods.push(getter);
+                if rng.percent(50) {
+                    let value = Parameter::new(IN, of);
+                    let setter = Method::new(SETTER | flag, name.as_bytes(), vec![value], void());
+                    d.methods.push(setter);
+                }
+            } else {
+                let third = if rng.percent(50) { part(rng) } else { "" };
+                let name = format!("{}{}{}{third}", rng.pick(&VERBS), part(rng), part(rng));
+                let arguments = ordinary_arguments(rng, n);
+                d.methods.push(Method::new(flag, name.as_bytes(), arguments, void()));
+            }
+        }
+        lib.entries[i].descriptor = Some(lib.add(d));
+    }
+    lib
+}
+
+fn plain_type(rng: &mut Rng, n: usize) -> Type {
+    let tail = index_tail(rng.range(1, n));
+    match rng.below(10) {
+        0..3 => Type::with(POINTER | INTERFACE, tail),
+        3 | 4 => Type::simple(POINTER | REFERENCE | ASTRING),
+        5 => Type::simple(10),
+        6 => Type::simple(2),
+        7 => Type::simple(UINT32),
+        8 => Type::simple(POINTER | 16),
+        _ => Type::simple(POINTER | 17),
+    }
+}
+
+fn ordinary_arguments(rng: &mut Rng, n: usize) -> Vec<Parameter> {
+    let mut arguments = Vec::new();
+    for _ in 0..rng.below(7) {
+        arguments.push(Parameter::new(IN, plain_type(rng, n)));
+    }
+    let next = arguments.len() as u8;
+    match rng.below(12) {
+        0 => {
+            arguments.push(Parameter::new(IN, Type::simple(POINTER | REFERENCE | IID)));
+            let of = Type::with(POINTER | INTERFACE_IS, [next, 0, 0]);
+            arguments.push(Parameter::new(OUT | RETVAL, of));
+        }
+        1 => {
+            arguments.push(Parameter::new(OUT, Type::simple(UINT32)));
+            let of = Type::nested(1, next, POINTER | 17, [0; 3]);
+            arguments.push(Parameter::new(OUT | RETVAL, of));
+        }
+        2..8 => arguments.push(Parameter::new(OUT | RETVAL, plain_type(rng, n))),
+        _ => {}
+    }
+    arguments
+}

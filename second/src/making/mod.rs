@@ -1,0 +1,12 @@
+//! Generating and damaging: typelibs as models and as bytes, good ones of every shape, damaged ones
+//! whose refusal is known, and files to be linked.
+
+pub mod builder;
+pub mod damage;
+pub mod faults;
+pub mod generate;
+pub mod hostile;
+pub mod model;
+pub mod pairs;
+pub mod rng;
+pub mod shape;

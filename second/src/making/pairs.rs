@@ -1,0 +1,594 @@
+//! Files to be linked. Those of one world agree with one another; then conflicts are put in.
+
+use super::builder::*;
+use super::generate::{self, entries, index_tail};
+use super::hostile::sharing;
+use super::model::{index_of, key, references, renumbered};
+use super::rng::Rng;
+use crate::program::check::check;
+use crate::tally::numbered;
+use std::collections::HashMap;
+
+/// The typelib with its entries in another order, some left out: by position from 0.
+fn reordered(lib: &Typelib, order: &[usize]) -> Typelib {
+    let mut new = vec![0; lib.entries.len() + 1];
+    for (i, old) in order.iter().enumerate() {
+        new[old + 1] = i + 1;
+    }
+    let mut out = lib.clone();
+    out.entries = order.iter().map(|old| lib.entries[*old].clone()).collect();
+    let kept: Vec<usize> = out.entries.iter().filter_map(|entry| entry.descriptor).collect();
+    for (d, descriptor) in out.descriptors.iter_mut().enumerate() {
+        *descriptor = match kept.contains(&d) {
+            true => renumbered(&lib.descriptors[d], &|index| new[index]),
+            false => Descriptor::default(),
+        };
+    }
+    // Descriptors that none leads to would only take room.
+    let mut places = HashMap::new();
+    let mut descriptors = Vec::new();
+    for entry in &mut out.entries {
+        entry.descriptor = entry.descriptor.map(|d| {
+            *places.entry(d).or_insert_with(|| {
+                descriptors.push(out.descriptors[d].clone());
+                descriptors.len() - 1
+            })
+        });
+    }
+    out.descriptors = descriptors;
+    out
+}
+
+/// Entries by IID; those of zero IID keep their order.
+pub fn sorted(lib: &Typelib) -> Typelib {
+    let mut order: Vec<usize> = (0..lib.entries.len()).collect();
+    order.sort_by_key(|i| lib.entries[*i].iid);
+    reordered(lib, &order)
+}
+
+/// All that the files of one world may hold: every key with its IID and its descriptor.
+pub fn world(rng: &mut Rng) -> Typelib {
+    let mut lib = generate::family(rng);
+    let n = lib.entries.len();
+    for d in &mut lib.descriptors {
+        for method in &mut d.methods {
+            if rng.percent(40) && method.arguments.len() < 255 {
+                let of = Type::with(POINTER | INTERFACE, index_tail(rng.range(1, n)));
+                method.arguments.push(Parameter::new(IN, of));
+            }
+        }
+    }
+    lib
+}
+
+/// A file of a world: some entries, resolved or not, with or without IID, in a random layout.
+pub fn view(world: &Typelib, rng: &mut Rng) -> Typelib {
+    view_with(world, rng, &[], &[])
+}
+
+/// Two files whose chains end, which together have a chain that does not, for the most part.
+pub fn endless(rng: &mut Rng) -> (Typelib, Typelib) {
+    loop {
+        let mut world = world(rng);
+        for i in 0..world.entries.len() {
+            let d = world.entries[i].descriptor.map(|d| world.descriptors[d].clone());
+            world.entries[i].descriptor = d.map(|d| world.add(d));
+        }
+        let mut cycle: Vec<usize> = (0..world.entries.len()).collect();
+        cycle.retain(|i| world.entries[*i].descriptor.is_some());
+        rng.shuffle(&mut cycle);
+        cycle.truncate(rng.range(2, 5));
+        if cycle.len() < 2 {
+            continue;
+        }
+        for (k, i) in cycle.iter().enumerate() {
+            let parent = cycle[(k + 1) % cycle.len()] + 1;
+            let d = world.entries[*i].descriptor.unwrap();
+            world.descriptors[d].parent = parent as u16;
+        }
+        // Each is resolved in one file or in both, but neither file has all of them.
+        let cut = rng.range(1, cycle.len() - 1);
+        let (mut in_first, mut in_second) = (cycle[..cut].to_vec(), cycle[cut..].to_vec());
+        if cycle.len() > 2 && rng.percent(30) {
+            match in_first.len() < in_second.len() {
+                true => in_first.push(in_second[0]),
+                false => in_second.push(in_first[0]),
+            }
+        }
+        if rng.percent(20) {
+            in_first.pop();
+        }
+        let not_in = |full: &[usize]| -> Vec<usize> {
+            cycle.iter().copied().filter(|i| !full.contains(i)).collect()
+        };
+        let first = view_with(&world, rng, &in_first, &not_in(&in_first));
+        let second = view_with(&world, rng, &in_second, &not_in(&in_second));
+        return (first, second);
+    }
+}
+
+/// A view in which some entries, by position, are resolved and some are not.
+fn view_with(world: &Typelib, rng: &mut Rng, full: &[usize], bare: &[usize]) -> Typelib {
+    let n = world.entries.len();
+    let density = *rng.pick(&[20, 50, 80, 100]);
+    let resolving = *rng.pick(&[30, 60, 100]);
+    let mut resolved: Vec<bool> = world
+        .entries
+        .iter()
+        .map(|entry| entry.descriptor.is_some() && rng.percent(density) && rng.percent(resolving))
+        .collect();
+    full.iter().for_each(|i| resolved[*i] = true);
+    bare.iter().for_each(|i| resolved[*i] = false);
+    let mut included: Vec<bool> = resolved.iter().map(|r| *r || rng.percent(density)).collect();
+    for i in (0..n).filter(|i| resolved[*i]) {
+        for index in references(&world.descriptors[world.entries[i].descriptor.unwrap()]) {
+            included[index - 1] = true;
+        }
+    }
+    let minor = if world.minor == 0 { rng.below(2) as u8 } else { 1 };
+    let mut lib = generate::layout(rng, minor);
+    lib.entries = world.entries.clone();
+    lib.descriptors = world.descriptors.clone();
+    let sharing = rng.percent(70);
+    for (entry, resolved) in lib.entries.iter_mut().zip(&resolved) {
+        if !resolved {
+            entry.descriptor = None;
+            if rng.percent(40) {
+                entry.iid = [0; 16];
+            }
+        } else if !sharing {
+            lib.descriptors.push(lib.descriptors[entry.descriptor.unwrap()].clone());
+            entry.descriptor = Some(lib.descriptors.len() - 1);
+        }
+    }
+    let mut order: Vec<usize> = (0..n).filter(|i| included[*i]).collect();
+    rng.shuffle(&mut order);
+    order.sort_by_key(|i| lib.entries[*i].iid);
+    reordered(&lib, &order)
+}
+
+/// An empty typelib, not only P1.
+pub fn empty(rng: &mut Rng) -> Typelib {
+    let minor = rng.below(2) as u8;
+    generate::layout(rng, minor)
+}
+
+/// Puts a conflict between the files into the second, which stays good. How it was done, if it
+/// could be.
+pub fn conflict(first: &Typelib, second: &mut Typelib, rng: &mut Rng) -> Option<&'static str> {
+    let mut changed = second.clone();
+    let made = match rng.below(6) {
+        0 | 1 => another_iid(first, &mut changed, rng),
+        2 | 3 => taken_iid(first, &mut changed, rng),
+        _ => another_descriptor(first, &mut changed, rng),
+    }?;
+    changed = sorted(&changed);
+    if check(&changed.bytes()).is_err() {
+        return None;
+    }
+    *second = changed;
+    Some(made)
+}
+
+/// Puts a conflict of this number, 21 to 24, between two files that have entries in common. Both
+/// stay good.
+fn forced(number: u32, first: &Typelib, second: &Typelib) -> Option<(Typelib, Typelib)> {
+    let (mut first, mut second) = (first.clone(), second.clone());
+    let mut both = common(&first, &second);
+    both.retain(|(i, j)| first.entries[*i].iid == second.entries[*j].iid);
+    both.retain(|(i, _)| first.entries[*i].iid != [0; 16]);
+    let middle = both.len() / 2;
+    let (x, y) = (*both.get(middle)?, *both.get(middle + 1)?);
+    match number {
+        refusal::TWO_IIDS => second.entries[x.1].iid = [0xee; 16],
+        refusal::TWO_KEYS => {
+            // A key that only the second has takes the IID of one that only the first has.
+            let mine = (0..first.entries.len()).rfind(|i| both.iter().all(|b| b.0 != *i))?;
+            let theirs = (0..second.entries.len()).find(|j| both.iter().all(|b| b.1 != *j))?;
+            second.entries[theirs].iid = first.entries[mine].iid;
+        }
+        _ => conflict_of_descriptors(number, [x, y], &mut first, &mut second),
+    }
+    let (first, second) = (sorted(&first), sorted(&second));
+    let good = check(&first.bytes()).is_ok() && check(&second.bytes()).is_ok();
+    good.then_some((first, second))
+}
+
+/// Puts a conflict of this number, 23 or 24, at the first of two entries that both files have, by
+/// their positions in both.
+fn conflict_of_descriptors(
+    number: u32,
+    [x, y]: [(usize, usize); 2],
+    first: &mut Typelib,
+    second: &mut Typelib,
+) {
+    if number == refusal::TWO_DESCRIPTORS {
+        let d = Descriptor { flags: SCRIPTABLE, ..Descriptor::default() };
+        first.entries[x.0].descriptor = Some(first.add(d));
+        second.entries[x.1].descriptor = Some(second.add(Descriptor::default()));
+        return;
+    }
+    // In one file the first below the other, in the other file the other below the first.
+    let below = |i: usize| Descriptor { parent: i as u16 + 1, ..Descriptor::default() };
+    first.entries[x.0].descriptor = Some(first.add(below(y.0)));
+    first.entries[y.0].descriptor = None;
+    second.entries[x.1].descriptor = None;
+    second.entries[y.1].descriptor = Some(second.add(below(x.1)));
+}
+
+/// The refusals of which both files are accepted.
+const CONFLICTS: std::ops::RangeInclusive<u32> = refusal::TWO_IIDS..=refusal::UNION_CYCLE;
+
+/// How conflicts at many places are made.
+const SPREAD: &[&str] = numbered!("", " at many places");
+const WIDE: &[&str] = numbered!("a wide union with ", "");
+const LONG: &[&str] = numbered!("a long union with ", "");
+
+/// Pairs with a conflict of each number, 21 to 24, at each of many indexes. Both hold the same
+/// entries, some of them resolved in one file only.
+pub fn spread(rng: &mut Rng) -> Vec<Pair> {
+    const COUNT: usize = 48;
+    let mut pairs = Vec::new();
+    for position in 0..COUNT - 1 {
+        let world = generate::wide(rng, COUNT);
+        for number in CONFLICTS {
+            let made = SPREAD[number as usize];
+            let (mut first, mut second) = (relaid(&world, rng), relaid(&world, rng));
+            conflict_at(number, position, &mut first, &mut second);
+            let (mut first, mut second) = (sorted(&first), sorted(&second));
+            if position % 2 == 1 {
+                std::mem::swap(&mut first, &mut second);
+            }
+            if check(&first.bytes()).is_ok() && check(&second.bytes()).is_ok() {
+                pairs.push((made, first, second));
+            }
+        }
+    }
+    pairs
+}
+
+/// Puts a conflict of this number, 21 to 24, at a position that both files have.
+fn conflict_at(number: u32, position: usize, first: &mut Typelib, second: &mut Typelib) {
+    match number {
+        refusal::TWO_IIDS => second.entries[position].iid[0] ^= 1,
+        // The second has the IID under another key.
+        refusal::TWO_KEYS => second.entries[position].name = b"another_key".to_vec(),
+        _ => {
+            let places = [position, position + 1].map(|i| (i, i));
+            conflict_of_descriptors(number, places, first, second);
+        }
+    }
+}
+
+/// Three files and how they were made.
+pub type Triple = (&'static str, [Typelib; 3]);
+
+/// Triples whose union is about the greatest sizes.
+pub fn edge_triples() -> Vec<Triple> {
+    let part = |from: usize, to: usize| {
+        let entries = entries(to)[from..].to_vec();
+        Typelib { entries, ..Typelib::default() }
+    };
+    let mut triples = vec![
+        ("1,024 entries in the end", [part(0, 600), part(300, 1_000), part(900, 1_024)]),
+        ("1,025 entries in the end", [part(0, 600), part(300, 1_000), part(900, 1_025)]),
+        ("1,025 entries at once", [part(0, 1_024), part(1_000, 1_025), part(0, 10)]),
+    ];
+    // The headers of all but one fall away.
+    let third = MAX_FILE / 3;
+    for (over, made) in [(0, "1,048,576 bytes in the end"), (1, "1,048,577 bytes in the end")] {
+        let last = MAX_FILE + over + 2 * 36 - 2 * third;
+        let long = [(third, 'a'), (third, 'b'), (last, 'c')];
+        triples.push((made, long.map(|(length, letter)| of_own_length(length, letter))));
+    }
+    let long = [(MAX_FILE - 100, 'a'), (third, 'b'), (third, 'c')];
+    triples.push(("too long at once", long.map(|(length, letter)| of_own_length(length, letter))));
+    triples
+}
+
+/// As `of_normal_length`, but no key or IID is another letter's.
+fn of_own_length(length: usize, letter: char) -> Typelib {
+    let mut lib = of_normal_length(length, letter);
+    for entry in lib.entries.iter_mut().filter(|entry| entry.descriptor.is_some()) {
+        entry.name[0] = letter as u8;
+        entry.iid[0] = letter as u8;
+    }
+    sorted(&lib)
+}
+
+/// The same meaning in another layout: entries of zero IID in another order, records elsewhere.
+pub fn relaid(lib: &Typelib, rng: &mut Rng) -> Typelib {
+    let minor = if lib.minor == 0 { rng.below(2) as u8 } else { 1 };
+    let layout = generate::layout(rng, minor);
+    let (entries, descriptors) = (lib.entries.clone(), lib.descriptors.clone());
+    let mut order: Vec<usize> = (0..entries.len()).collect();
+    rng.shuffle(&mut order);
+    order.sort_by_key(|i| entries[*i].iid);
+    reordered(&Typelib { entries, descriptors, ..layout }, &order)
+}
+
+/// Entries of the second file whose key the first has too, by position.
+fn common(first: &Typelib, second: &Typelib) -> Vec<(usize, usize)> {
+    let keys: HashMap<_, _> = first.entries.iter().map(key).zip(0..).collect();
+    let pair = |(j, entry)| keys.get(&key(entry)).map(|i| (*i, j));
+    second.entries.iter().enumerate().filter_map(pair).collect()
+}
+
+fn another_iid(first: &Typelib, second: &mut Typelib, rng: &mut Rng) -> Option<&'static str> {
+    let mut both = common(first, second);
+    both.retain(|(i, j)| first.entries[*i].iid != [0; 16] && second.entries[*j].iid != [0; 16]);
+    let count = rng.range(1, 2).min(both.len());
+    rng.shuffle(&mut both);
+    for (_, j) in &both[..count] {
+        let iid = &mut second.entries[*j].iid;
+        match rng.below(3) {
+            0 => iid[rng.below(16)] ^= 1 << rng.below(8),
+            1 => *iid = generate::iid(rng.number()),
+            _ => iid.iter_mut().for_each(|b| *b = rng.byte()),
+        }
+    }
+    (count > 0).then_some("another IID")
+}
+
+fn taken_iid(first: &Typelib, second: &mut Typelib, rng: &mut Rng) -> Option<&'static str> {
+    let with_iid: Vec<&Entry> = first.entries.iter().filter(|e| e.iid != [0; 16]).collect();
+    if with_iid.is_empty() || second.entries.is_empty() {
+        return None;
+    }
+    let taken = *rng.pick(&with_iid);
+    // An entry of another key, whose own IID in the first file is zero, or that is new there.
+    let free = |entry: &Entry| {
+        let there = first.entries.iter().find(|other| key(other) == key(entry));
+        there.is_none_or(|other| other.iid == [0; 16])
+    };
+    let may_be: Vec<usize> = (0..second.entries.len())
+        .filter(|j| key(&second.entries[*j]) != key(taken) && free(&second.entries[*j]))
+        .collect();
+    for entry in second.entries.iter_mut().filter(|entry| entry.iid == taken.iid) {
+        if entry.descriptor.is_some() {
+            return None;
+        }
+        entry.iid = [0; 16];
+    }
+    if may_be.is_empty() {
+        // A new entry then.
+        let name = generate::identifier(rng, 9);
+        let entry = Entry { iid: taken.iid, name, namespace: None, descriptor: None };
+        second.entries.push(entry);
+        return Some("an IID taken by a new key");
+    }
+    second.entries[*rng.pick(&may_be)].iid = taken.iid;
+    Some("an IID taken")
+}
+
+/// Changes one thing in the descriptor of an entry, as often as possible one that both resolve.
+fn another_descriptor(
+    first: &Typelib,
+    second: &mut Typelib,
+    rng: &mut Rng,
+) -> Option<&'static str> {
+    let is_resolved = |lib: &Typelib, i: usize| lib.entries[i].descriptor.is_some();
+    let both: Vec<usize> = common(first, second)
+        .into_iter()
+        .filter(|(i, j)| is_resolved(first, *i) && is_resolved(second, *j))
+        .map(|(_, j)| j)
+        .collect();
+    let j = if both.is_empty() { return None } else { *rng.pick(&both) };
+    let n = second.entries.len();
+    let mut d = second.descriptors[second.entries[j].descriptor.unwrap()].clone();
+    let made = change(&mut d, n, rng)?;
+    second.entries[j].descriptor = Some(second.add(d));
+    Some(made)
+}
+
+/// Another index than this one.
+fn other_index(index: usize, n: usize, rng: &mut Rng) -> usize {
+    1 + (index - 1 + rng.range(1, n - 1)) % n
+}
+
+/// Changes one thing that is part of a descriptor's meaning. What can't be changed there becomes
+/// another reference, if it has one.
+fn change(d: &mut Descriptor, n: usize, rng: &mut Rng) -> Option<&'static str> {
+    let (methods, constants) = (d.methods.len(), d.constants.len());
+    let kind = rng.below(20);
+    if kind < 5 {
+        let made = match kind {
+            0 => "interface flags",
+            1 if n > 1 => "another parent",
+            2 if d.parent != 0 => "no parent",
+            3 if methods < MAX_METHODS => "a method more",
+            4 if constants < MAX_CONSTANTS => "a constant more",
+            _ => "",
+        };
+        match made {
+            "interface flags" => d.flags ^= SCRIPTABLE,
+            "another parent" if d.parent == 0 => d.parent = rng.range(1, n) as u16,
+            "another parent" => d.parent = other_index(d.parent.into(), n, rng) as u16,
+            "no parent" => d.parent = 0,
+            "a method more" => d.methods.push(Method::plain(0, b"more")),
+            "a constant more" => d.constants.push(Constant::new(b"MORE", 5, 1)),
+            _ => {}
+        }
+        if !made.is_empty() {
+            return Some(made);
+        }
+    }
+    if kind >= 15 && constants > 0 {
+        return change_constant(&mut d.constants, kind, rng);
+    }
+    if methods == 0 {
+        return None;
+    }
+    let at = rng.below(methods);
+    let m = &mut d.methods[at];
+    let parameters = m.arguments.len() + 1;
+    let which = rng.below(parameters);
+    let is_result = which + 1 == parameters;
+    let p = if is_result { &mut m.result } else { &mut m.arguments[which] };
+    let of_flags = if is_result { "result's flags" } else { "argument's flags" };
+    let (made, ()) = match kind {
+        5 => ("method's flags", m.flags ^= HIDDEN),
+        6 => ("method's name", m.name = near(&m.name)),
+        7 => ("a method less", _ = d.methods.remove(at)),
+        8 if methods > 1 => ("order of methods", d.methods.swap(at, (at + 1) % methods)),
+        9 if !is_result => (of_flags, p.flags ^= IN),
+        10 => (of_flags, p.flags ^= SHARED),
+        11 if p.of.prefix() & POINTER != 0 => {
+            let prefix = p.of.arrays.first_mut().map_or(&mut p.of.leaf, |array| &mut array[0]);
+            ("a prefix", *prefix ^= *rng.pick(&[UNIQUE, REFERENCE]))
+        }
+        12 => {
+            let new = Parameter::new(IN, Type::simple(UINT32));
+            ("an argument more", m.arguments.insert(parameters - 1, new))
+        }
+        _ => {
+            let all = m.arguments.iter_mut().chain([&mut m.result]);
+            let mut types = all.map(|p| &mut p.of).filter(|of| of.leaf & TAG == INTERFACE);
+            let first = types.next().filter(|_| n > 1)?;
+            let index = other_index(index_of(first), n, rng);
+            ("another reference", first.tail = index_tail(index))
+        }
+    };
+    Some(made)
+}
+
+fn change_constant(
+    constants: &mut Vec<Constant>,
+    kind: usize,
+    rng: &mut Rng,
+) -> Option<&'static str> {
+    let at = rng.below(constants.len());
+    let c = &mut constants[at];
+    let (made, ()) = match kind {
+        15 => ("constant's value", c.value ^= 1 << rng.below(16)),
+        16 => {
+            let kind = if c.kind ^ 4 == 3 { 2 } else { c.kind ^ 4 };
+            ("constant's kind", c.kind = Some(kind).filter(|k| CONSTANT_TYPES.contains(k))?)
+        }
+        17 => ("constant's name", c.name = near(&c.name)),
+        18 => ("a constant less", _ = constants.remove(at)),
+        _ => ("order of constants", constants.rotate_left(1)),
+    };
+    Some(made)
+}
+
+/// The name with another last letter.
+fn near(name: &[u8]) -> Vec<u8> {
+    let mut name = name.to_vec();
+    let last = name.len() - 1;
+    name[last] = if name[last] == b'q' { b'r' } else { b'q' };
+    name
+}
+
+/// A file whose normal form has this length: entries that share a descriptor, then unresolved
+/// ones whose keys end in the letter.
+pub fn of_normal_length(length: usize, letter: char) -> Typelib {
+    let methods = vec![Method::plain(0, &[b'm'; MAX_IDENTIFIER]); 300];
+    let d = Descriptor { methods, ..Descriptor::default() };
+    let each = d.size() + 256 * d.methods.len();
+    let count = (length / each).min(12);
+    let mut lib = sharing(count, d);
+    // An unresolved entry takes 29 bytes and its name.
+    let mut missing = length - (36 + lib.entries.iter().map(|e| 29 + e.name.len()).sum::<usize>());
+    missing -= count * each;
+    let mut number = u64::from(u32::from(letter)) << 32;
+    while missing > 0 {
+        let part = match missing {
+            0..=284 => missing,
+            285..568 => missing / 2,
+            _ => 284,
+        };
+        let name = format!("{:x<width$}", format!("F{number}{letter}"), width = part - 29);
+        number += 1;
+        lib.entries.push(Entry::new(number, &name));
+        missing -= part;
+    }
+    lib
+}
+
+/// A pair and how it was made.
+pub type Pair = (&'static str, Typelib, Typelib);
+
+/// Pairs whose union has about 1,024 entries, some with a conflict beside.
+pub fn wide(rng: &mut Rng) -> Vec<Pair> {
+    let mut pairs = Vec::new();
+    let part = |from: usize, to: usize| {
+        let entries = entries(to)[from..].to_vec();
+        Typelib { entries, ..Typelib::default() }
+    };
+    for (from, middle, to, made) in [
+        (0, 600, 1_024, "union of 1,024"),
+        (300, 1_000, 1_024, "union of 1,024"),
+        (0, 1_024, 1_024, "union of 1,024"),
+        (0, 600, 1_025, "union of 1,025"),
+        (500, 1_024, 1_025, "union of 1,025"),
+        (1_000, 1_020, 1_040, "union of 1,040"),
+        (1, 1_024, 1_025, "union of 1,025"),
+        (900, 1_000, 1_024, "union of 1,024"),
+        (1_024, 1_024, 2_048, "union of 2,048"),
+    ] {
+        // Below `middle` in the first, from `from` on in the second.
+        let (first, mut second) = (part(0, middle), part(from, to));
+        pairs.push((made, first.clone(), second.clone()));
+        // With references: the second resolves what the first only names.
+        let n = second.entries.len();
+        for i in 0..n / 2 {
+            let parent = rng.range(n / 2 + 1, n) as u16;
+            let d = second.add(Descriptor { parent, ..Descriptor::default() });
+            second.entries[i].descriptor = Some(d);
+        }
+        pairs.push((made, first.clone(), second.clone()));
+        // IIDs only in one of them.
+        let mut bare = first.clone();
+        bare.entries.iter_mut().for_each(|entry| entry.iid = [0; 16]);
+        rng.shuffle(&mut bare.entries);
+        pairs.push((made, bare, second.clone()));
+        for number in CONFLICTS {
+            let forced = forced(number, &first, &second);
+            pairs.extend(forced.map(|(a, b)| (WIDE[number as usize], a, b)));
+        }
+    }
+    pairs
+}
+
+/// Pairs whose union has a normal form of about 1,048,576 bytes.
+pub fn long() -> Vec<Pair> {
+    let mut pairs = Vec::new();
+    // Two files that have their resolved entries in common.
+    let first = of_normal_length(MAX_FILE - 70_000, 'a');
+    let shared: usize = 36
+        + first.entries[..12].iter().map(|e| 29 + e.name.len()).sum::<usize>()
+        + 12 * (first.descriptors[0].size() + 256 * 300);
+    for (over, made) in [
+        (-1_000, "normal form well below the limit"),
+        (-1, "normal form of 1,048,575"),
+        (0, "normal form of 1,048,576"),
+        (1, "normal form of 1,048,577"),
+        (2, "normal form over the limit"),
+        (3, "normal form over the limit"),
+        (284, "normal form over the limit"),
+        (900, "normal form over the limit"),
+        (40_000, "normal form over the limit"),
+    ] {
+        let length = (70_000 + shared as isize + over) as usize;
+        let second = of_normal_length(length, 'b');
+        pairs.push((made, first.clone(), second.clone()));
+        if over == 2 || over == 900 {
+            let second = Typelib { order: Order::Shuffled, ..second };
+            for number in CONFLICTS {
+                let forced = forced(number, &first, &second);
+                pairs.extend(forced.map(|(a, b)| (LONG[number as usize], a, b)));
+            }
+        }
+    }
+    // One file that is too long by itself.
+    for more in [1, 2, 500, 90_000] {
+        let over = of_normal_length(MAX_FILE + more, 'c');
+        pairs.push(("a file over the limit", over.clone(), Typelib::default()));
+        pairs.push(("a file over the limit", over.clone(), over));
+    }
+    let most = of_normal_length(MAX_FILE, 'd');
+    pairs.push(("normal form of 1,048,576", most.clone(), Typelib::default()));
+    pairs.push(("normal form of 1,048,576", most.clone(), most));
+    pairs
+}

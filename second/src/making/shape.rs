@@ -1,0 +1,253 @@
+//! What an accepted file shows: how its entries inherit, how its types nest, and how its records
+//! lie in the pool.
+
+use super::builder::*;
+use super::model;
+use crate::program::accepted::{pair, Accepted};
+use crate::program::check::{accept, word};
+use std::collections::{BTreeSet, HashMap, HashSet};
+
+/// The shapes of an accepted file, whose model this is.
+pub fn shapes(file: &[u8], lib: &Typelib) -> Vec<&'static str> {
+    let accepted = accept(file).expect("an accepted file");
+    let mut all = Shapes { all: BTreeSet::new() };
+    all.entries(lib);
+    all.inheritance(lib);
+    all.arrays(lib);
+    let mut records = records(&accepted);
+    all.gaps(&accepted, &mut records);
+    all.records(records);
+    all.sizes(lib);
+    all.add(file.len() == MAX_FILE, "1,048,576 bytes");
+    all.add(file[17] == 0, "minor 0");
+    all.all.into_iter().collect()
+}
+
+/// A record of the pool.
+#[derive(Clone, Copy)]
+struct Record {
+    from: usize,
+    to: usize,
+    is_name: bool,
+}
+
+/// A record for each pointer of the directory and of the descriptors, each of which is read once.
+fn records(lib: &Accepted) -> Vec<Record> {
+    let mut all = Vec::new();
+    let mut ends = HashMap::new();
+    for index in 1..=lib.n {
+        let entry = lib.directory + ENTRY * (index - 1);
+        let pointers = [16, 20].map(|at| word(lib.file, entry + at));
+        let mut names: Vec<_> =
+            pointers.iter().filter(|p| **p > 0).map(|p| lib.pool + p - 1).collect();
+        if let Some(from) = lib.descriptor(index) {
+            let to = *ends.entry(from).or_insert_with(|| {
+                let mut walk = lib.walk(from);
+                names.extend((0..walk.pair()).map(|_| walk.method().1));
+                names.extend((0..walk.pair()).map(|_| walk.constant().0));
+                walk.at + 1
+            });
+            all.push(Record { from, to, is_name: false });
+        }
+        for from in names {
+            let length = lib.file[from..].iter().take_while(|b| **b != 0).count();
+            all.push(Record { from, to: from + length + 1, is_name: true });
+        }
+    }
+    all
+}
+
+/// Where an accepted file's annotations end.
+fn annotations_end(file: &[u8]) -> usize {
+    let mut at = HEADER;
+    loop {
+        let first = file[at];
+        at += 1;
+        if first & 0x7f == 1 {
+            for _ in 0..2 {
+                at += 2 + usize::from(pair(file, at));
+            }
+        }
+        if first & 0x80 != 0 {
+            return at;
+        }
+    }
+}
+
+struct Shapes {
+    all: BTreeSet<&'static str>,
+}
+
+impl Shapes {
+    fn add(&mut self, is: bool, shape: &'static str) {
+        if is {
+            self.all.insert(shape);
+        }
+    }
+
+    fn entries(&mut self, lib: &Typelib) {
+        let n = lib.entries.len();
+        self.add(n == 0, "no entries");
+        self.add(n == 1, "one entry");
+        self.add(n == MAX_INTERFACES, "1,024 entries");
+        let unresolved = |zero: bool| {
+            lib.entries.iter().any(|e| e.descriptor.is_none() && (e.iid == [0; 16]) == zero)
+        };
+        let (zero, with) = (unresolved(true), unresolved(false));
+        self.add(zero, "unresolved with zero IID");
+        self.add(with, "unresolved with an IID");
+        self.add(zero && with, "unresolved of both kinds");
+        let spaces: HashSet<_> = lib.entries.iter().filter_map(|e| e.namespace.as_ref()).collect();
+        let names: HashSet<_> = lib.entries.iter().map(|e| &e.name).collect();
+        self.add(spaces.len() > 1, "several namespaces");
+        self.add(names.len() < n, "one name in two namespaces");
+        self.add(names.iter().any(|name| name.len() == MAX_IDENTIFIER), "a name of 255 letters");
+    }
+
+    fn sizes(&mut self, lib: &Typelib) {
+        for d in &lib.descriptors {
+            self.add(d.methods.len() == MAX_METHODS, "1,024 methods in an interface");
+            self.add(d.constants.len() == MAX_CONSTANTS, "1,024 constants in an interface");
+            let most = d.methods.iter().map(|method| method.arguments.len()).max();
+            self.add(most == Some(255), "255 arguments");
+        }
+    }
+
+    fn inheritance(&mut self, lib: &Typelib) {
+        let parent = |entry: &Entry| entry.descriptor.map_or(0, |d| lib.descriptors[d].parent);
+        let parents: Vec<usize> = lib.entries.iter().map(|e| parent(e).into()).collect();
+        let mut levels = vec![None; parents.len() + 1];
+        levels[0] = Some(0);
+        let most = (1..=parents.len()).map(|index| level(&parents, &mut levels, index)).max();
+        // The first level is the entry itself.
+        let most = most.unwrap_or(0).saturating_sub(1);
+        self.add((1..=2).contains(&most), "inheritance over 1 or 2 levels");
+        self.add(most >= 3, "inheritance over 3 or more levels");
+        self.add(most >= 8, "inheritance over 8 or more levels");
+        let mut seen = HashSet::new();
+        for &index in parents.iter().filter(|index| **index != 0) {
+            self.add(!seen.insert(index), "two entries inherit from one");
+            let Entry { iid, descriptor, .. } = &lib.entries[index - 1];
+            let zero = *iid == [0; 16];
+            self.add(zero, "a parent unresolved with zero IID");
+            self.add(!zero && descriptor.is_none(), "a parent unresolved with an IID");
+        }
+    }
+
+    fn arrays(&mut self, lib: &Typelib) {
+        let methods = lib.descriptors.iter().flat_map(|d| &d.methods);
+        let parameters = methods.flat_map(|m| m.arguments.iter().chain([&m.result]));
+        let most = parameters.map(|p| p.of.arrays.len()).max().unwrap_or(0);
+        self.add(most == 1, "an array");
+        self.add(most > 1, "nested arrays");
+        self.add(most == MAX_ARRAYS, "nested arrays to depth 8");
+    }
+
+    fn records(&mut self, mut records: Vec<Record>) {
+        records.sort_by_key(|record| (record.from, record.to, record.is_name));
+        for pair in records.windows(2) {
+            let same = pair[0].from == pair[1].from && pair[0].is_name == pair[1].is_name;
+            self.add(same && pair[0].is_name, "shared names");
+            self.add(same && !pair[0].is_name, "shared descriptors");
+        }
+        records.dedup_by_key(|record| (record.from, record.is_name));
+        let (names, descriptors): (Vec<_>, Vec<_>) = records.iter().partition(|r| r.is_name);
+        self.add(overlap(&names), "overlapping names");
+        self.add(overlap(&descriptors), "overlapping descriptors");
+        let inside = |name: &&Record| {
+            let before = descriptors.partition_point(|d| d.from <= name.from);
+            before > 0 && descriptors[before - 1].to > name.from
+        };
+        self.add(names.iter().any(inside), "a name inside a descriptor");
+    }
+
+    fn gaps(&mut self, lib: &Accepted, records: &mut [Record]) {
+        records.sort_unstable_by_key(|record| record.from);
+        let mut end = lib.pool;
+        for record in records {
+            self.add(record.from > end, "unused bytes in the pool");
+            end = end.max(record.to);
+        }
+        self.add(lib.file.len() > end, "unused bytes in the pool");
+        let after_annotations = if lib.n == 0 { lib.pool } else { lib.directory };
+        // Up to three bytes come from the directory's place.
+        let gap = after_annotations - annotations_end(lib.file);
+        self.add(gap > 3, "a gap before the directory");
+        let after_directory = lib.directory + ENTRY * lib.n;
+        self.add(lib.n > 0 && lib.pool > after_directory, "a gap before the pool");
+        self.add(lib.file[HEADER] & 0x80 == 0, "several annotations");
+    }
+}
+
+/// Entries from this one upward, itself included; chains end.
+fn level(parents: &[usize], levels: &mut [Option<usize>], index: usize) -> usize {
+    let mut path = Vec::new();
+    let mut at = index;
+    while levels[at].is_none() {
+        path.push(at);
+        at = parents[at - 1];
+    }
+    let mut level = levels[at].unwrap_or(0);
+    for at in path.into_iter().rev() {
+        level += 1;
+        levels[at] = Some(level);
+    }
+    level
+}
+
+/// Whether two of these, which come by their first bytes, have a byte in common.
+fn overlap(records: &[&Record]) -> bool {
+    records.windows(2).any(|pair| pair[0].to > pair[1].from)
+}
+
+/// What two accepted files that link have to do with each other.
+pub fn between(first: &Typelib, second: &Typelib) -> Vec<&'static str> {
+    let mut all = Shapes { all: BTreeSet::new() };
+    let keys: HashMap<_, _> = second.entries.iter().map(|e| (model::key(e), e)).collect();
+    let mut common = 0;
+    for entry in &first.entries {
+        let Some(other) = keys.get(&model::key(entry)) else { continue };
+        common += 1;
+        let none = [0; 16];
+        all.add((entry.iid == none) != (other.iid == none), "an IID from one file");
+        let resolved = (entry.descriptor.is_some(), other.descriptor.is_some());
+        all.add(resolved == (true, true), "a descriptor in both files");
+        all.add(resolved.0 != resolved.1, "a descriptor from one file");
+    }
+    let (n, m) = (first.entries.len(), second.entries.len());
+    all.add(common == 0 && n > 0 && m > 0, "no key in common");
+    all.add(common > 0 && common < n && common < m, "keys in one file only, and in both");
+    let resolves = |lib: &Typelib, index: usize| lib.entries[index - 1].descriptor.is_some();
+    for index in 1..=n {
+        let Some(open) = model::chain(first, index).1 else { continue };
+        let key = model::key(&first.entries[open - 1]);
+        let there = second.entries.iter().position(|entry| model::key(entry) == key);
+        let met = there.is_some_and(|i| resolves(second, i + 1));
+        all.add(met && open != index, "a chain that goes on in the other file");
+    }
+    all.all.into_iter().collect()
+}
+
+/// The values that stand in a file's fields, by field.
+pub fn values(lib: &Typelib, mut take: impl FnMut(&'static str, u64)) {
+    for d in &lib.descriptors {
+        take("interface flags", d.flags.into());
+        for method in &d.methods {
+            take("method flags", method.flags.into());
+            take("numbers of arguments", method.arguments.len() as u64);
+            for argument in &method.arguments {
+                take("argument flags", argument.flags.into());
+            }
+            take("result flags", method.result.flags.into());
+            for parameter in method.arguments.iter().chain([&method.result]) {
+                let of = &parameter.of;
+                for prefix in of.arrays.iter().map(|array| array[0]).chain([of.leaf]) {
+                    take("type prefixes", prefix.into());
+                }
+            }
+        }
+        for constant in &d.constants {
+            take("constant types", constant.kind.into());
+        }
+    }
+}
