@@ -1,7 +1,6 @@
 //! Links the static library that exports the calls.
 
-use std::env;
-use std::path::Path;
+use std::{env, path::Path};
 
 fn main() {
     let manifest = env::var("CARGO_MANIFEST_DIR").expect("cargo gives the manifest's folder");

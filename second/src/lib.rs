@@ -26,8 +26,7 @@ pub mod making;
 pub mod program;
 pub mod tally;
 
-use std::process::ExitCode;
-use std::sync::Mutex;
+use std::{process::ExitCode, sync::Mutex};
 
 /// Tells how a comparison ended.
 pub fn ended(good: std::io::Result<bool>) -> ExitCode {

@@ -37,7 +37,7 @@ impl Counts {
 
 /// The counts of one part of a run.
 pub struct Tally {
-    part: &'static str,
+    pub part: &'static str,
     rows: HashMap<Row, Counts>,
 }
 
@@ -68,10 +68,6 @@ pub fn hash(files: &[&[u8]]) -> u64 {
 impl Tally {
     pub fn new(part: &'static str) -> Tally {
         Tally { part, rows: HashMap::new() }
-    }
-
-    pub fn part(&self) -> &'static str {
-        self.part
     }
 
     /// Many at once, of which nothing else is known.
@@ -151,12 +147,8 @@ impl Tally {
             let names = ["", " places", " files", " ways"];
             let least = least.iter().zip(names).filter(|(least, _)| **least > 0);
             let least: Vec<_> = least.map(|(least, name)| format!("{least}{name}")).collect();
-            let line = format!(
-                "{:<20}{:<39}{count:>9}{places:>8}{files:>8}{ways:>6}   {}",
-                row.0,
-                row.1,
-                least.join(", ")
-            );
+            let (about, what) = (format!("{:<20}{:<39}", row.0, row.1), least.join(", "));
+            let line = format!("{about}{count:>9}{places:>8}{files:>8}{ways:>6}   {what}");
             println!("{}", line.trim_end());
         }
         println!();

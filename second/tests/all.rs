@@ -2,18 +2,13 @@
 //! file; and that a planted difference is found, made smaller and kept.
 
 use second::library::cases::{read, replay, shown, Asked, Case};
-use second::library::questions::Found;
-use second::library::{checks, links, questions, Program, Session, OWN};
-use second::line::{compare::tells, listing, process};
-use second::making::builder::*;
-use second::making::generate::{entries, marked, rich, single};
-use second::program::check::check;
-use second::program::listing::program;
-use second::program::questions::{Lookup, Slot};
+use second::library::{checks, links, questions, questions::Found, Program, Session, OWN};
+use second::line::{compare::tells, listing, process, Folder};
+use second::making::{builder::*, generate::marked, generate::rich};
+use second::program::{check::check, listing::program, questions::Lookup, questions::Slot};
 use second::tally::{Came, Tally};
 use second::{floors, program::Answer};
-use std::fs;
-use std::path::{Path, PathBuf};
+use std::{fs, path::Path};
 
 /// A table's lines, without empty ones and comments.
 fn lines(table: &str) -> impl Iterator<Item = &str> {
@@ -55,9 +50,9 @@ fn marked_files() {
 fn readings_of_the_check() {
     let [p1, p2, p3] = marked();
     let number = Parameter::new(0, Type::with(POINTER | INTERFACE_IS, [9, 0, 0]));
-    let bad = Method::new(0, b"m", vec![number], Parameter::new(0, Type::simple(0)));
-    let of = |methods: Vec<Method>| single(Descriptor { methods, ..Descriptor::default() }).bytes();
-    let two = Typelib { entries: entries(2), ..Typelib::default() }.bytes();
+    let bad = Method::new(0, b"m", vec![number], Parameter::simple(0, 0));
+    let of = |methods: Vec<Method>| Typelib::single(Descriptor::of(methods)).bytes();
+    let two = Typelib::plain(2).bytes();
     let constructors = ["a", "b"].map(|name| Method::plain(CONSTRUCTOR, name.as_bytes()));
     let files = [
         ("p1", p1),
@@ -92,7 +87,7 @@ fn readings_of_the_check() {
 /// Entries 2 to 4 in a complete chain, 4 the lowest. 5 unresolved, 6 below it, 7 below 6. 1, 8 and
 /// 9 unresolved, 1 without IID.
 fn tree() -> Vec<u8> {
-    let mut lib = Typelib { entries: entries(9), ..Typelib::default() };
+    let mut lib = Typelib::plain(9);
     lib.entries[0].iid = [0; 16];
     lib.entries[7].set_key("ab", "c");
     lib.entries[8].set_key("", "abc");
@@ -113,8 +108,7 @@ fn tree() -> Vec<u8> {
         (6, 5, methods(&[(0, "a")]), constants(&[("K", 1, 0xffff)])),
         (7, 6, methods(&[(0, "f")]), vec![]),
     ] {
-        let d = lib.add(Descriptor { parent, methods, constants, flags: 0 });
-        lib.entries[index - 1].descriptor = Some(d);
+        lib.resolve(index - 1, Descriptor { parent, methods, constants, flags: 0 });
     }
     lib.bytes()
 }
@@ -156,9 +150,8 @@ fn file(entries: &str) -> Vec<u8> {
     for entry in entries.split(' ') {
         let words: Vec<&str> = entry.split(':').collect();
         let mut new = Entry::new(words[1].parse().unwrap(), words[0]);
-        new.descriptor = words.get(2).map(|parent| {
-            lib.add(Descriptor { parent: parent.parse().unwrap(), ..Descriptor::default() })
-        });
+        let parent = words.get(2).map(|parent| parent.parse().unwrap());
+        new.descriptor = parent.map(|parent| lib.add(Descriptor::below(parent)));
         lib.entries.push(new);
     }
     lib.bytes()
@@ -198,7 +191,7 @@ fn normal_forms() {
     assert_eq!(written(&[&of(&mut keys.iter().rev())]), Ok(of(&mut keys.iter())));
     // Names stand after the whole descriptor, repeated; buffers keep their other bytes.
     let methods = vec![Method::plain(GETTER, b"A"), Method::plain(SETTER, b"A")];
-    let lib = single(Descriptor { methods, ..Descriptor::default() });
+    let lib = Typelib::single(Descriptor::of(methods));
     let shared = Typelib { sharing: Sharing::Overlap, ..lib }.bytes();
     let form = written(&[&shared]).unwrap();
     assert!(form.ends_with(b"A\0A\0"));
@@ -234,25 +227,9 @@ fn listings() {
     }
 }
 
-/// A folder that goes away with its test.
-struct Folder(PathBuf);
-
-impl Folder {
-    fn new(name: &str) -> Folder {
-        let name = format!("second-{name}-{}", std::process::id());
-        Folder(std::env::temp_dir().join(name))
-    }
-}
-
-impl Drop for Folder {
-    fn drop(&mut self) {
-        let _ = fs::remove_dir_all(&self.0);
-    }
-}
-
 /// Runs a part with a program that is wrong on purpose: the one case that is kept, made smaller.
 fn planted(part: &'static str, run: fn(&mut Session), wrong: Program) -> Case {
-    let folder = Folder::new(part);
+    let folder = Folder::usual().unwrap();
     let mut session = Session::new(part, 2, wrong, &folder.0);
     run(&mut session);
     assert!(session.differs);

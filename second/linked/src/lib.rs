@@ -1,10 +1,8 @@
 //! The calls of the checked library through its C interface.
 
 use second::library::Program;
-use second::program::format::Refusal;
-use second::program::link::LinkRefusal;
 use second::program::questions::{Constant, Kind, Lookup, Method, Slot};
-use second::program::Answer;
+use second::program::{link::LinkRefusal, Answer, Refusal};
 
 // Bytes are lent as a pointer and a length, and so is the room for the answer's numbers.
 type In = *const u8;
@@ -60,6 +58,20 @@ impl Numbers {
             _ => None,
         };
         answer.unwrap_or(Lookup::Refused(NONSENSE))
+    }
+
+    /// The length that was written, or the refusal.
+    fn written<E, const N: usize>(
+        &self,
+        refused: impl Fn([u64; N]) -> E,
+        nonsense: E,
+    ) -> Result<usize, E> {
+        let answer = match self.0[0] {
+            0 => self.named().map(|[_, length]| Ok(length as usize)),
+            3 => self.named().map(|numbers| Err(refused(numbers))),
+            _ => None,
+        };
+        answer.unwrap_or(Err(nonsense))
     }
 
     fn interface(&self) -> Option<usize> {
@@ -120,13 +132,10 @@ fn key(f: &[u8], space: &[u8], name: &[u8]) -> Lookup<usize> {
 
 fn method(f: &[u8], index: u64, name: &[u8], kind: Kind) -> Lookup<Method> {
     let (n, n_len) = (name.as_ptr(), name.len());
-    let kind = match kind {
-        Kind::Getter => 0,
-        Kind::Setter => 1,
-        Kind::Plain => 2,
-    };
+    // In the interface's order.
+    let k = Kind::ALL.iter().position(|one| *one == kind).expect("a kind") as u8;
     let call =
-        |a, room| unsafe { saniotka_method(f.as_ptr(), f.len(), index, n, n_len, kind, a, room) };
+        |a, room| unsafe { saniotka_method(f.as_ptr(), f.len(), index, n, n_len, k, a, room) };
     Numbers::of(call).looked_up(Numbers::method)
 }
 
@@ -145,27 +154,16 @@ fn constant(f: &[u8], index: u64, name: &[u8]) -> Lookup<Constant> {
 fn normalise(f: &[u8], out: &mut [u8]) -> Result<usize, Refusal> {
     let (o, o_len) = (out.as_mut_ptr(), out.len());
     let call = |a, room| unsafe { saniotka_normal(f.as_ptr(), f.len(), o, o_len, a, room) };
-    let answer = Numbers::of(call);
-    let answer = match answer.0[0] {
-        0 => answer.named().map(|[_, length]| Ok(length as usize)),
-        3 => answer.named().map(|[_, number, place]| Err(refusal(number, place))),
-        _ => None,
-    };
-    answer.unwrap_or(Err(NONSENSE))
+    let refused = |[_, number, place]: [u64; 3]| refusal(number, place);
+    Numbers::of(call).written(refused, NONSENSE)
 }
 
 fn link(a: &[u8], b: &[u8], out: &mut [u8]) -> Result<usize, LinkRefusal> {
     let (o, o_len) = (out.as_mut_ptr(), out.len());
     let (p, p_len, q, q_len) = (a.as_ptr(), a.len(), b.as_ptr(), b.len());
     let call = |a, room| unsafe { saniotka_link(p, p_len, q, q_len, o, o_len, a, room) };
-    let answer = Numbers::of(call);
-    let answer = match answer.0[0] {
-        0 => answer.named().map(|[_, length]| Ok(length as usize)),
-        3 => answer.named().map(|[_, which, number, place]| {
-            let which = u8::try_from(which).unwrap_or(u8::MAX);
-            Err((which, refusal(number, place)))
-        }),
-        _ => None,
+    let refused = |[_, which, number, place]: [u64; 4]| {
+        (u8::try_from(which).unwrap_or(u8::MAX), refusal(number, place))
     };
-    answer.unwrap_or(Err((0, NONSENSE)))
+    Numbers::of(call).written(refused, (0, NONSENSE))
 }

@@ -6,8 +6,7 @@
 //! listing is, 1,024 for over 500 MB.
 
 use second::line::{listing, process::Program};
-use std::path::Path;
-use std::process::ExitCode;
+use std::{path::Path, process::ExitCode};
 
 fn main() -> ExitCode {
     let arguments: Vec<_> = std::env::args().skip(1).collect();

@@ -6,8 +6,7 @@
 //! Without names of parts all are run. `long` runs with ten seeds.
 
 use second::line::{process::Program, run, PARTS};
-use std::path::Path;
-use std::process::ExitCode;
+use std::{path::Path, process::ExitCode};
 
 fn main() -> ExitCode {
     let mut arguments = std::env::args().skip(1);

@@ -6,7 +6,7 @@ use crate::program::format::MAX_FILE;
 /// A buffer's length by what is needed, which is not 0.
 pub struct Room {
     pub name: &'static str,
-    length: fn(usize, &mut Rng) -> usize,
+    pub length: fn(usize, &mut Rng) -> usize,
 }
 
 /// Those that are too short, except where nothing is written; those that do; and those that are the
@@ -27,10 +27,6 @@ pub static ROOMS: [Room; 9] = [
 ];
 
 impl Room {
-    pub fn length(&self, needed: usize, rng: &mut Rng) -> usize {
-        (self.length)(needed, rng)
-    }
-
     pub fn short(rng: &mut Rng) -> &'static Room {
         rng.pick(&ROOMS[..3])
     }

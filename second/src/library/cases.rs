@@ -3,16 +3,10 @@
 
 use super::buffers::{lent, strayed, GUARD};
 use super::questions::{Found, Question, Reply};
-use super::shrink::shrink;
-use super::{Program, OWN};
-use crate::program::format::Refusal;
-use crate::program::link::LinkRefusal;
-use crate::program::questions::Kind;
-use crate::program::Answer;
+use super::{shrink::shrink, Program, OWN};
+use crate::program::{link::LinkRefusal, questions::Kind, Answer, Refusal};
 use crate::tally::hash;
-use std::path::{Path, PathBuf};
-use std::time::Duration;
-use std::{fs, io};
+use std::{fs, io, path::Path, path::PathBuf, time::Duration};
 
 /// Where differences are kept.
 pub const FOLDER: &str = concat!(env!("CARGO_MANIFEST_DIR"), "/cases");

@@ -1,12 +1,8 @@
 //! Checks of every generated file, good and damaged.
 
-use super::cases::{shown, Asked};
-use super::Session;
-use crate::making::damage::{everything, Made};
-use crate::making::{model, shape};
-use crate::program::check::check;
-use crate::program::format::Refusal;
-use crate::program::Answer;
+use super::{cases::shown, cases::Asked, Session};
+use crate::making::{damage::everything, damage::Made, model, shape};
+use crate::program::{check::check, Answer, Refusal};
 use crate::tally::{hash, Came, Tally, REFUSAL, REFUSED};
 use std::collections::{HashMap, HashSet};
 

@@ -2,36 +2,14 @@
 //! linking.
 
 use super::buffers::{lent, Room, GUARD, ROOMS};
-use super::cases::Asked;
-use super::{Session, OWN};
-use crate::making::builder::Typelib;
-use crate::making::rng::Rng;
-use crate::making::{damage, generate, hostile, model, pairs, shape};
-use crate::program::check::check;
-use crate::program::format::{refusal, Refusal, MAX_FILE};
-use crate::program::link::LinkRefusal;
+use super::{cases::Asked, Session, OWN};
+use crate::making::{builder::Typelib, damage, generate, hostile, model, pairs, rng::Rng, shape};
+use crate::program::{check::check, link::LinkRefusal, refusal, Refusal, MAX_FILE};
 use crate::tally::{hash, numbered, Came, LINK, REFUSAL};
 use std::collections::HashMap;
 
 /// What a call wrote, or its refusal.
 type Written = Result<Vec<u8>, LinkRefusal>;
-
-/// Whether two links in the two orders agree as they must.
-fn swapped(one: &Written, two: &Written) -> bool {
-    match (one, two) {
-        (Ok(one), Ok(two)) => one == two,
-        (Err(one), Err(two)) => one.0 == two.0 && one.1.number == two.1.number,
-        _ => false,
-    }
-}
-
-/// Whether two ways to group agree as they must.
-fn grouped(left: &Written, right: &Written) -> bool {
-    match (left, right) {
-        (Ok(left), Ok(right)) => left == right,
-        (left, right) => left.is_err() && right.is_err(),
-    }
-}
 
 /// A file, with its model where it is accepted.
 struct File {
@@ -43,10 +21,6 @@ impl File {
     fn new(bytes: Vec<u8>) -> File {
         let model = check(&bytes).map(|_| model::read(&bytes));
         File { bytes, model }
-    }
-
-    fn of(lib: &Typelib) -> File {
-        File::new(lib.bytes())
     }
 }
 
@@ -91,14 +65,6 @@ impl Run<'_> {
         self.session.tally.came(about, what, came);
     }
 
-    fn found(&mut self, made: &str, asked: Asked, files: &[&File]) {
-        self.session.found(made, asked, &bytes(files));
-    }
-
-    fn broken(&mut self, law: &str, files: &[&File]) {
-        self.session.broken(law, &bytes(files));
-    }
-
     /// A file made by a generator. What it shows is counted.
     fn file(&mut self, way: &'static str, lib: &Typelib) -> File {
         self.of_bytes(way, lib.bytes())
@@ -108,9 +74,8 @@ impl Run<'_> {
         let file = File::new(bytes);
         if let Ok(lib) = &file.model {
             let came = Came { way: Some(way), ..together(&[&file]) };
-            for shape in shape::shapes(&file.bytes, lib) {
-                self.came("shape", shape, came);
-            }
+            let shapes = shape::shapes(&file.bytes, lib);
+            shapes.into_iter().for_each(|shape| self.came("shape", shape, came));
         }
         file
     }
@@ -124,7 +89,10 @@ impl Run<'_> {
     /// Has both programs write and compares answers and buffers, byte by byte, guards and files
     /// included.
     fn call(&mut self, files: &[&File], room: usize) -> Written {
-        let about = if files.len() == 1 { "normal forms" } else { "links" };
+        let (about, asked) = match files.len() {
+            1 => ("normal forms", Asked::Normal(room)),
+            _ => ("links", Asked::Link(room)),
+        };
         self.add("all", about);
         let from = self.rng.below(1_000);
         let before = &self.noise[from..from + room + 2 * GUARD];
@@ -134,13 +102,24 @@ impl Run<'_> {
         let (own, mut out) = lent(before, room, |out| OWN.write(&bytes, out));
         let (other, out_then) = lent(before, room, |out| self.session.other.write(&copies, out));
         if other != own || out_then != out || copies != bytes {
-            let asked = if files.len() == 1 { Asked::Normal(room) } else { Asked::Link(room) };
-            self.found(about, asked, files);
+            self.session.found(about, asked, &bytes);
         }
         own.map(|length| {
             out.truncate(GUARD + length);
             out.split_off(GUARD)
         })
+    }
+
+    /// Counts a law of linking that holds. Files of which it does not are told of and kept: both
+    /// programs have answered alike, so that there is nothing to make smaller.
+    fn law(&mut self, law: &str, holds: bool, what: &'static str, files: &[&File], came: Came) {
+        match holds || self.differs() {
+            true => self.came("law", what, came),
+            false => {
+                println!("the law of {law} does not hold");
+                self.session.found(law, Asked::Link(MAX_FILE), &bytes(files));
+            }
+        }
     }
 
     /// Counts a call with a buffer of this kind.
@@ -170,7 +149,7 @@ impl Run<'_> {
         }
     }
 
-    /// One link with a buffer of this kind. What comes is told.
+    /// One link with a buffer of this kind, which must be so long. What comes is told.
     fn link(
         &mut self,
         order: &'static str,
@@ -178,20 +157,17 @@ impl Run<'_> {
         needed: usize,
         room: &'static Room,
     ) -> Written {
-        let length = room.length(needed, &mut self.rng);
+        let length = (room.length)(needed, &mut self.rng);
         let answer = self.call(&files, length);
         let about = match &answer {
-            Ok(_) => {
-                self.add("linked", order);
-                "linked"
-            }
-            Err((0, refusal)) => {
-                let about = LINK[refusal.number as usize];
-                self.session.tally.add_at(about, order, refusal.place as u64);
-                about
-            }
+            Ok(_) => "linked",
+            Err((0, refusal)) => LINK[refusal.number as usize],
+            Err(_) => "link, file",
+        };
+        match &answer {
+            Ok(_) => self.add(about, order),
+            Err((0, refusal)) => self.session.tally.add_at(about, order, refusal.place as u64),
             Err((which, refusal)) => {
-                let about = "link, file";
                 // The places are the numbers of the refusals here.
                 self.session.tally.add_at(about, order, refusal.number.into());
                 let whose = match (which, &files[1].model) {
@@ -202,9 +178,8 @@ impl Run<'_> {
                 self.add(about, whose);
                 let came = Came { place: numbered_by(&answer), ..together(&files) };
                 self.came("file refused", whose, came);
-                about
             }
-        };
+        }
         self.count_room(about, &files, (room, length), &answer);
         answer
     }
@@ -216,7 +191,8 @@ impl Run<'_> {
             return;
         }
         self.add("made", made);
-        self.came("all", "pairs of files", Came { way: Some(made), ..together(&[a, b]) });
+        let came = Came { way: Some(made), ..together(&[a, b]) };
+        self.came("all", "pairs of files", came);
         let [one, two] = [(FORWARD, [a, b]), (BACKWARD, [b, a])].map(|(order, files)| {
             let needed = self.needed(&files);
             let room = match self.rng.below(100) {
@@ -229,20 +205,11 @@ impl Run<'_> {
             let _ = self.link(order, files, needed, room);
             answer
         });
-        if a.model.is_ok() && b.model.is_ok() && !self.differs() {
-            self.swapped(made, [a, b], &one, &two);
-        }
-    }
-
-    /// Counts what came in both orders, where it agrees as it must.
-    fn swapped(&mut self, made: &'static str, files: [&File; 2], one: &Written, two: &Written) {
-        let came = Came { way: Some(made), ..together(&files) };
-        if !swapped(one, two) {
-            return self.broken("swapping", &files);
-        }
-        match (one, two) {
-            (Err((_, one)), Err((_, two))) => {
-                self.came("law", "swapping: number", came);
+        let (Ok(first), Ok(second), false) = (&a.model, &b.model, self.differs()) else { return };
+        match (&one, &two) {
+            (Err((which, one)), Err((other, two))) => {
+                let same = which == other && one.number == two.number;
+                self.law("swapping", same, "swapping: number", &[a, b], came);
                 let about = REFUSAL[one.number as usize];
                 self.came(about, "in both orders", came);
                 for (order, place) in ORDERS.into_iter().zip([one.place, two.place]) {
@@ -250,13 +217,14 @@ impl Run<'_> {
                 }
             }
             _ => {
-                self.came("law", "swapping: length and bytes", came);
-                self.again(files, one.as_deref().unwrap_or(&[]));
-                if let (Ok(a), Ok(b)) = (&files[0].model, &files[1].model) {
-                    for what in shape::between(a, b) {
-                        self.came("pair", what, came);
-                    }
-                }
+                self.law("swapping", one == two, "swapping: length and bytes", &[a, b], came);
+                // What a link wrote is accepted, and its own normal form.
+                let file = File::new(one.unwrap_or_default());
+                let same = self.call(&[&file], file.bytes.len()).as_ref() == Ok(&file.bytes);
+                let alone = together(&[&file]);
+                self.law("reading back", same, "its own normal form", &[a, b], alone);
+                let between = shape::between(first, second);
+                between.into_iter().for_each(|what| self.came("pair", what, came));
             }
         }
     }
@@ -283,27 +251,12 @@ impl Run<'_> {
         let left = left.and_then(|ab| self.call(&[&File::new(ab), c], room));
         let right = self.call(&[b, c], room);
         let right = right.and_then(|bc| self.call(&[a, &File::new(bc)], room));
-        if self.differs() {
-            return;
-        }
-        if !grouped(&left, &right) {
-            return self.broken("grouping", &files);
-        }
         let came = Came { place: numbered_by(&left), way: Some(made), ..together(&files) };
-        let same = left.is_ok();
-        self.came("law", if same { "grouping: same bytes" } else { "grouping: neither" }, came);
+        let what = if left.is_ok() { "grouping: same bytes" } else { "grouping: neither" };
+        self.law("grouping", left.ok() == right.ok(), what, &files, came);
         if room == MAX_FILE {
             self.came("law", "grouping: buffers of 1,048,576", came);
         }
-    }
-
-    /// What a link wrote is accepted, and its own normal form.
-    fn again(&mut self, files: [&File; 2], bytes: &[u8]) {
-        let file = File::new(bytes.to_vec());
-        if self.call(&[&file], bytes.len()) != Ok(bytes.to_vec()) {
-            return self.broken("reading back", &files);
-        }
-        self.came("law", "its own normal form", together(&[&file]));
     }
 
     /// A file with itself and with an empty one: as normalising.
@@ -313,20 +266,14 @@ impl Run<'_> {
         }
         let room = *self.rng.pick(&[0, 36, 200, 2_000, 20_000, 20_000, MAX_FILE]);
         let normal = self.call(&[a], room);
-        let empty = File::of(&pairs::empty(&mut self.rng));
+        let empty = File::new(pairs::empty(&mut self.rng).bytes());
         let came = together(&[a]);
-        if self.call(&[a, a], room) != normal {
-            return self.broken("itself", &[a]);
-        }
+        let same = self.call(&[a, a], room) == normal;
+        self.law("itself", same, "itself", &[a], came);
         self.add("law", "self");
-        self.came("law", "itself", came);
-        for files in [[a, &empty], [&empty, a]] {
-            if self.call(&files, room) != normal {
-                return self.broken("empty", &[a, &empty]);
-            }
-        }
+        let same = [[a, &empty], [&empty, a]].map(|files| self.call(&files, room) == normal);
+        self.law("empty", same == [true; 2], "with an empty file", &[a, &empty], came);
         self.add("law", "empty");
-        self.came("law", "with an empty file", came);
         if room == MAX_FILE {
             self.came("law", "itself, empty: buffers of 1,048,576", came);
         }
@@ -334,54 +281,44 @@ impl Run<'_> {
 
     /// Two files have the same normal form exactly where they mean the same.
     fn same_form(&mut self, a: &File, b: &File) {
-        let (Ok(first), Ok(second)) = (&a.model, &b.model) else { return };
-        let same = model::same_meaning(first, second);
-        if self.differs() {
-            return;
-        }
+        let (Ok(first), Ok(second), false) = (&a.model, &b.model, self.differs()) else { return };
         let forms = (self.call(&[a], MAX_FILE / 4), self.call(&[b], MAX_FILE / 4));
         let (Ok(one), Ok(two)) = &forms else { return };
-        if (one == two) != same {
-            return self.broken("meaning", &[a, b]);
-        }
+        let same = model::same_meaning(first, second);
         let what = if same { "same meaning, same bytes" } else { "other meaning, other bytes" };
-        self.came("law", what, together(&[a, b]));
+        self.law("meaning", (one == two) == same, what, &[a, b], together(&[a, b]));
     }
 
     /// A file's normal form, with several buffers.
-    fn normal<'r>(&mut self, file: &File, rooms: impl IntoIterator<Item = &'r Room>)
-    where
-        'r: 'static,
-    {
+    fn normal(&mut self, file: &File, rooms: &[&'static Room]) {
         if self.differs() {
             return;
         }
         let needed = self.needed(&[file]);
         for room in rooms {
-            let length = room.length(needed, &mut self.rng);
+            let length = (room.length)(needed, &mut self.rng);
             let answer = self.call(&[file], length);
             let about = match &answer {
-                Ok(bytes) => {
-                    self.add("normal", "written");
-                    if *bytes != file.bytes {
-                        self.add("normal", "changed");
-                    }
-                    "normal"
-                }
-                Err((_, refusal)) if file.model.is_err() => {
-                    let number = refusal.number.into();
-                    self.session.tally.add_at("normal, file", "refused", number);
-                    "normal, file"
-                }
-                Err((_, refusal)) => {
-                    if refusal.number == refusal::FORM_SIZE {
-                        let place = Some(refusal.place as u64);
-                        let about = REFUSAL[refusal::FORM_SIZE as usize];
-                        self.came(about, "of a normal form", Came { place, ..together(&[file]) });
-                    }
-                    NORMAL[refusal.number as usize]
-                }
+                Ok(_) => "normal",
+                Err(_) if file.model.is_err() => "normal, file",
+                Err((_, refusal)) => NORMAL[refusal.number as usize],
             };
+            match &answer {
+                Ok(bytes) => {
+                    self.add(about, "written");
+                    if *bytes != file.bytes {
+                        self.add(about, "changed");
+                    }
+                }
+                Err((_, why)) if file.model.is_err() => {
+                    self.session.tally.add_at(about, "refused", why.number.into());
+                }
+                Err((_, Refusal { number: refusal::FORM_SIZE, place })) => {
+                    let came = Came { place: Some(*place as u64), ..together(&[file]) };
+                    self.came(REFUSAL[refusal::FORM_SIZE as usize], "of a normal form", came);
+                }
+                Err(_) => {}
+            }
             self.count_room(about, &[file], (room, length), &answer);
         }
     }
@@ -409,12 +346,13 @@ pub fn run(session: &mut Session) {
 
 /// Files and pairs about the greatest sizes.
 fn edges(run: &mut Run, rng: &mut Rng) {
+    let all = ROOMS.each_ref();
     for (made, a, b) in [pairs::wide(rng), pairs::long()].concat() {
         let (a, b) = (run.file(made, &a), run.file(made, &b));
         run.pair(made, &a, &b);
         run.all_rooms(&a, &b);
-        run.normal(&a, &ROOMS);
-        run.normal(&b, &ROOMS);
+        run.normal(&a, &all);
+        run.normal(&b, &all);
         run.self_and_empty(&a);
     }
     for n in 1..=16 {
@@ -424,18 +362,18 @@ fn edges(run: &mut Run, rng: &mut Rng) {
         for pair in [[&a, &b], [&a, &c], [&b, &c], [&a, &a]] {
             run.pair("records that overlap", pair[0], pair[1]);
         }
-        run.normal(&a, &ROOMS);
-        run.normal(&b, &ROOMS);
+        run.normal(&a, &all);
+        run.normal(&b, &all);
         run.self_and_empty(&a);
         run.self_and_empty(&b);
     }
     // Little bytes, a long normal form.
     for n in 2..6 {
         let file = run.of_bytes("records that many share", hostile::long_listing(n));
-        run.normal(&file, &ROOMS);
+        run.normal(&file, &all);
     }
     for (made, files) in pairs::edge_triples() {
-        let [a, b, c] = files.each_ref().map(File::of);
+        let [a, b, c] = files.each_ref().map(|lib| File::new(lib.bytes()));
         run.triple(made, MAX_FILE, [&a, &b, &c]);
         run.triple(made, MAX_FILE, [&c, &a, &b]);
     }
@@ -454,8 +392,8 @@ fn refused(run: &mut Run, rng: &mut Rng, seed: u64) {
             return;
         }
         let file = File::new(made.bytes.to_vec());
-        run.normal(&file, [Room::short(rng), Room::wide(rng)]);
-        let partner = File::of(&pairs::view(&pairs::world(rng), rng));
+        run.normal(&file, &[Room::short(rng), Room::wide(rng)]);
+        let partner = File::new(pairs::view(&pairs::world(rng), rng).bytes());
         run.pair("with a file for the check", &file, &partner);
         let Err(Refusal { number, .. }) = file.model else { return };
         run.pair("both refused", &file, &last_refused);
@@ -464,18 +402,17 @@ fn refused(run: &mut Run, rng: &mut Rng, seed: u64) {
         *met += 1;
         if *met <= 3 {
             run.all_rooms(&file, &partner);
-            run.normal(&file, &ROOMS);
+            run.normal(&file, &ROOMS.each_ref());
         }
         last_refused = file;
     });
 }
 
-/// The buffers of a triple: mostly shorter ones, that take less time.
-fn room_of(round: usize) -> usize {
-    match round % 10 {
-        0 => MAX_FILE,
-        _ => 131_072,
-    }
+/// Files in one of three orders, and the buffers of a triple: mostly shorter ones, that take less
+/// time.
+fn triple(run: &mut Run, made: &'static str, round: usize, orders: [[&File; 3]; 3]) {
+    let room = if round.is_multiple_of(10) { MAX_FILE } else { 131_072 };
+    run.triple(made, room, orders[round % 3]);
 }
 
 /// Files of one small world, and conflicts between them.
@@ -486,10 +423,10 @@ fn small(run: &mut Run, rng: &mut Rng, round: usize) {
     let [a, b, c] = &files;
     run.pair("one world", a, b);
     for file in &files {
-        run.normal(file, [Room::short(rng), Room::wide(rng)]);
+        run.normal(file, &[Room::short(rng), Room::wide(rng)]);
     }
     if round.is_multiple_of(2) {
-        run.triple("one world", room_of(round), [a, b, c]);
+        triple(run, "one world", round, [[a, b, c]; 3]);
         run.self_and_empty(a);
         let laid = run.file("laid out again", &pairs::relaid(&views[0], rng));
         run.same_form(a, &laid);
@@ -511,20 +448,12 @@ fn conflicts(run: &mut Run, rng: &mut Rng, round: usize, views: &[Typelib; 3], f
         }
     }
     if let Some(other) = conflicting.first() {
-        let room = room_of(round);
-        match round % 3 {
-            0 => run.triple("a conflict", room, [a, other, c]),
-            1 => run.triple("a conflict", room, [other, c, a]),
-            _ => run.triple("a conflict", room, [c, a, other]),
-        }
+        triple(run, "a conflict", round, [[a, other, c], [other, c, a], [c, a, other]]);
         run.same_form(b, other);
     }
     let mut other = views[1].clone();
-    let mut conflicts = 0;
-    for _ in 0..6 {
-        conflicts += usize::from(pairs::conflict(&views[0], &mut other, rng).is_some());
-    }
-    if conflicts > 1 {
+    let put_in = (0..6).filter_map(|_| pairs::conflict(&views[0], &mut other, rng)).count();
+    if put_in > 1 {
         let other = run.file("two conflicts put in", &other);
         run.pair("two conflicts", a, &other);
     }
@@ -536,12 +465,7 @@ fn chains(run: &mut Run, rng: &mut Rng, round: usize, c: &File) {
     let (a, b) = (run.file("endless", &first), run.file("endless", &second));
     run.pair("an endless chain", &a, &b);
     if round.is_multiple_of(4) {
-        let room = room_of(round);
-        match round % 3 {
-            0 => run.triple("an endless chain", room, [&a, &b, c]),
-            1 => run.triple("an endless chain", room, [&a, c, &b]),
-            _ => run.triple("an endless chain", room, [c, &b, &a]),
-        }
+        triple(run, "an endless chain", round, [[&a, &b, c], [&a, c, &b], [c, &b, &a]]);
     }
     let (mut first, mut second) = (first, second);
     if pairs::conflict(&first, &mut second, rng).is_some()

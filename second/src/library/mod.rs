@@ -8,15 +8,11 @@ pub mod questions;
 pub mod shrink;
 
 use crate::in_parallel;
-use crate::program::format::{Refusal, MAX_FILE};
-use crate::program::link::{link, LinkRefusal};
-use crate::program::normal::normalise;
-use crate::program::questions::{Constant, Kind, Lookup, Method};
-use crate::program::{check, questions as asked, Answer};
+use crate::program::questions::{of as asked, Constant, Kind, Lookup, Method};
+use crate::program::{check, link::link, link::LinkRefusal, normal::normalise, Answer, Refusal};
 use crate::tally::Tally;
 use cases::{Asked, Case};
-use std::path::{Path, PathBuf};
-use std::time::Instant;
+use std::{path::Path, path::PathBuf, time::Instant};
 
 /// The calls of a program.
 #[derive(Clone, Copy)]
@@ -33,11 +29,11 @@ pub struct Program {
 
 pub const OWN: Program = Program {
     check: check::check,
-    iid: asked::interface_by_iid,
-    key: asked::interface_by_key,
-    method: asked::method_by_name,
-    slot: asked::method_by_slot,
-    constant: asked::constant,
+    iid: |file, iid| asked(file, |lib| lib.interface_by_iid(iid)),
+    key: |file, namespace, name| asked(file, |lib| lib.interface_by_key(namespace, name)),
+    method: |file, index, name, kind| asked(file, |lib| lib.method_by_name(index, name, kind)),
+    slot: |file, index, slot| asked(file, |lib| lib.method_by_slot(index, slot)),
+    constant: |file, index, name| asked(file, |lib| lib.constant(index, name)),
     normalise,
     link,
 };
@@ -57,13 +53,6 @@ impl Session {
     pub fn new(part: &'static str, seed: u64, other: Program, folder: &Path) -> Session {
         let (folder, tally) = (folder.to_path_buf(), Tally::new(part));
         Session { seed, other, folder, tally, differs: false }
-    }
-
-    /// Tells of files of which a law of linking does not hold, and keeps them. Both programs have
-    /// answered alike, so that there is nothing to make smaller.
-    pub fn broken(&mut self, law: &str, files: &[&[u8]]) {
-        println!("the law of {law} does not hold");
-        self.found(law, Asked::Link(MAX_FILE), files);
     }
 
     /// Tells of a difference, makes it smaller and keeps it.
@@ -115,7 +104,7 @@ pub fn run(chosen: &Chosen, other: Program) -> bool {
                 println!("seed {seed} does not pass");
                 return false;
             }
-            println!("{}, seed {seed}: {seconds:.1} s", session.tally.part());
+            println!("{}, seed {seed}: {seconds:.1} s", session.tally.part);
             whole.join(session.tally);
         }
     }

@@ -1,11 +1,9 @@
 //! Questions to many files: generated, asked of both programs, and counted.
 
-use super::cases::Asked;
-use super::{Session, OWN};
-use crate::making::builder::*;
-use crate::making::damage::everything;
-use crate::making::rng::Rng;
-use crate::making::{generate, hostile, model, pairs, shape};
+use super::{cases::Asked, Session, OWN};
+use crate::making::{
+    builder::*, damage::everything, generate, hostile, model, pairs, rng::Rng, shape,
+};
 use crate::program::check::check;
 use crate::program::questions::{Constant as Value, Kind, Lookup, Method as Place, Slot};
 use crate::tally::{hash, Came, Tally, REFUSAL};
@@ -32,26 +30,31 @@ pub type Reply = Lookup<Found>;
 
 type Made = (&'static str, Question);
 
-/// A name that is not an identifier, and why.
-fn bad_name(rng: &mut Rng, good: &[u8]) -> (&'static str, Vec<u8>) {
+/// What is wrong with a name, and with a namespace.
+const BAD: [[&str; 2]; 4] = [
+    ["20: name empty"; 2],
+    ["20: name too long", "20: namespace too long"],
+    ["20: name with a zero byte", "20: namespace with a zero byte"],
+    ["20: name with a bad byte", "20: namespace with a bad byte"],
+];
+
+/// A name that is not an identifier, and what is wrong with it.
+fn bad_name(rng: &mut Rng, good: &[u8]) -> ([&'static str; 2], Vec<u8>) {
     let mut name = good.to_vec();
-    match rng.below(4) {
-        0 => ("20: name empty", Vec::new()),
-        1 => {
-            name.resize((MAX_IDENTIFIER + 1) * (1 + rng.below(2)), b'a');
-            ("20: name too long", name)
-        }
+    let how = rng.below(4);
+    match how {
+        0 => name.clear(),
+        1 => name.resize((MAX_IDENTIFIER + 1) * (1 + rng.below(2)), b'a'),
         2 => {
             name.truncate(MAX_IDENTIFIER - 1);
             name.insert(rng.below(name.len() + 1), 0);
-            ("20: name with a zero byte", name)
         }
         _ => {
             let at = rng.below(name.len());
             name[at] = *rng.pick(b" -.:/@[`{\x7f\x80\xc3\xff\x01");
-            ("20: name with a bad byte", name)
         }
     }
+    (BAD[how], name)
 }
 
 fn bad_index(rng: &mut Rng, n: u64) -> u64 {
@@ -85,26 +88,18 @@ fn iid_question(lib: &Typelib, rng: &mut Rng) -> Made {
         true => generate::iid(rng.number()).to_vec(),
         false => rng.pick(&lib.entries).iid.to_vec(),
     };
-    match rng.below(10) {
-        0..4 => ("an entry's IID", Question::Iid(iid)),
-        4 | 5 => {
-            iid[rng.below(16)] ^= 1 << rng.below(8);
-            ("nearly an entry's IID", Question::Iid(iid))
-        }
-        6 => ("20: IID zero", Question::Iid(vec![0; 16])),
-        7 => {
-            iid.pop();
-            ("20: IID of 15 bytes", Question::Iid(iid))
-        }
-        8 => {
-            iid.insert(rng.below(2) * 16, 0);
-            ("20: IID of 17 bytes", Question::Iid(iid))
-        }
+    let (made, ()) = match rng.below(10) {
+        0..4 => ("an entry's IID", ()),
+        4 | 5 => ("nearly an entry's IID", iid[rng.below(16)] ^= 1 << rng.below(8)),
+        6 => ("20: IID zero", iid = vec![0; 16]),
+        7 => ("20: IID of 15 bytes", _ = iid.pop()),
+        8 => ("20: IID of 17 bytes", iid.insert(rng.below(2) * 16, 0)),
         _ => {
-            iid.resize(*rng.pick(&[0, 1, 8, 32, 272, 65_552]), 1);
-            ("20: IID of another length", Question::Iid(iid))
+            let length = *rng.pick(&[0, 1, 8, 32, 272, 65_552]);
+            ("20: IID of another length", iid.resize(length, 1))
         }
-    }
+    };
+    (made, Question::Iid(iid))
 }
 
 fn key_question(lib: &Typelib, rng: &mut Rng) -> Made {
@@ -128,24 +123,14 @@ fn key_question(lib: &Typelib, rng: &mut Rng) -> Made {
         }
         8 => {
             let good = if space.is_empty() { &name } else { &space };
-            let (what, bad) = bad_name(rng, good);
-            match bad.is_empty() {
-                true => ("20: name empty", Question::Key(space, bad)),
-                false => (bad_namespace(what), Question::Key(bad, name)),
-            }
+            let ([_, what], bad) = bad_name(rng, good);
+            let (space, name) = if bad.is_empty() { (space, bad) } else { (bad, name) };
+            (what, Question::Key(space, name))
         }
         _ => {
-            let (what, bad) = bad_name(rng, &name);
+            let ([what, _], bad) = bad_name(rng, &name);
             (what, Question::Key(space, bad))
         }
-    }
-}
-
-fn bad_namespace(what: &str) -> &'static str {
-    match what {
-        "20: name too long" => "20: namespace too long",
-        "20: name with a zero byte" => "20: namespace with a zero byte",
-        _ => "20: namespace with a bad byte",
     }
 }
 
@@ -170,24 +155,22 @@ fn named<'l, T>(
 /// The name itself for the most part.
 fn name(rng: &mut Rng, [own, near]: [&'static str; 2], name: &[u8]) -> (&'static str, Vec<u8>) {
     match rng.below(20) {
-        0 => bad_name(rng, name),
+        0 => {
+            let ([what, _], name) = bad_name(rng, name);
+            (what, name)
+        }
         1 | 2 => (near, near_name(rng, name)),
         _ => (own, name.to_vec()),
     }
 }
 
 fn method_question(lib: &Typelib, rng: &mut Rng) -> Made {
-    let n = lib.entries.len();
-    if n == 0 || rng.percent(8) {
-        let index = bad_index(rng, n as u64);
-        return ("20: index", Question::Method(index, b"a".to_vec(), *rng.pick(&Kind::ALL)));
-    }
     let (index, method) = named(lib, rng, |d| &d.methods);
     let Some(method) = method else {
         let name = generate::identifier(rng, 3);
         return ("any name", Question::Method(index, name, *rng.pick(&Kind::ALL)));
     };
-    let mut kind = *Kind::ALL.iter().find(|kind| model::is_kind(method.flags, **kind)).unwrap();
+    let mut kind = *Kind::ALL.iter().find(|kind| kind.is(method.flags)).unwrap();
     if rng.percent(20) {
         kind = *rng.pick(&Kind::ALL);
     }
@@ -196,11 +179,7 @@ fn method_question(lib: &Typelib, rng: &mut Rng) -> Made {
 }
 
 fn slot_question(lib: &Typelib, rng: &mut Rng) -> Made {
-    let n = lib.entries.len();
-    if n == 0 || rng.percent(8) {
-        return ("20: index", Question::Slot(bad_index(rng, n as u64), rng.below(3) as u64));
-    }
-    let index = rng.range(1, n);
+    let index = rng.range(1, lib.entries.len());
     let (resolved, _) = model::chain(lib, index);
     let count = |i: &usize| model::descriptor(lib, *i).methods.len() as u64;
     let total: u64 = resolved.iter().map(count).sum();
@@ -208,10 +187,7 @@ fn slot_question(lib: &Typelib, rng: &mut Rng) -> Made {
     let (what, slot) = match rng.below(12) {
         0 => ("the total", total),
         1 => ("past the total", total + 1 + rng.below(3) as u64),
-        2 => {
-            let far = *rng.pick(&[1 << 16, 1 << 32, 1 << 63]);
-            ("far past the total", far + below)
-        }
+        2 => ("far past the total", *rng.pick(&[1 << 16, 1 << 32, 1 << 63]) + below),
         3 => ("the largest number", u64::MAX - rng.below(2) as u64),
         4 if total > 0 => ("the last slot", total - 1),
         _ => ("a slot", below),
@@ -220,10 +196,6 @@ fn slot_question(lib: &Typelib, rng: &mut Rng) -> Made {
 }
 
 fn constant_question(lib: &Typelib, rng: &mut Rng) -> Made {
-    let n = lib.entries.len();
-    if n == 0 || rng.percent(8) {
-        return ("20: index", Question::Constant(bad_index(rng, n as u64), b"a".to_vec()));
-    }
     let (index, constant) = named(lib, rng, |d| &d.constants);
     let Some(constant) = constant else {
         return ("any name", Question::Constant(index, generate::identifier(rng, 3)));
@@ -235,7 +207,18 @@ fn constant_question(lib: &Typelib, rng: &mut Rng) -> Made {
 
 /// A question of each kind in turn.
 pub fn question(lib: &Typelib, rng: &mut Rng, turn: usize) -> Made {
-    match turn % 5 {
+    let n = lib.entries.len();
+    let kind = turn % 5;
+    if kind > 1 && (n == 0 || rng.percent(8)) {
+        let index = bad_index(rng, n as u64);
+        let question = match kind {
+            2 => Question::Method(index, b"a".to_vec(), *rng.pick(&Kind::ALL)),
+            3 => Question::Slot(index, rng.below(3) as u64),
+            _ => Question::Constant(index, b"a".to_vec()),
+        };
+        return ("20: index", question);
+    }
+    match kind {
         0 => iid_question(lib, rng),
         1 => key_question(lib, rng),
         2 => method_question(lib, rng),
@@ -275,11 +258,6 @@ fn ask(session: &mut Session, rng: &mut Rng, file: &File, count: usize) {
 
 /// How many steps up the owner of what was found stands.
 fn steps(lib: &Typelib, question: &Question, found: Found) -> Option<usize> {
-    let (Question::Method(index, ..) | Question::Slot(index, _) | Question::Constant(index, _)) =
-        question
-    else {
-        return None;
-    };
     let is_owner = |index: usize| match (found, question) {
         (Found::Method(place), _) => place.owner == index,
         (_, Question::Constant(_, name)) => {
@@ -287,21 +265,22 @@ fn steps(lib: &Typelib, question: &Question, found: Found) -> Option<usize> {
         }
         _ => false,
     };
-    model::chain(lib, *index as usize).0.into_iter().position(is_owner)
+    model::chain(lib, about(question).1? as usize).0.into_iter().position(is_owner)
 }
 
-fn about(question: &Question) -> &'static str {
+/// The row of a question, and the index that it is about.
+fn about(question: &Question) -> (&'static str, Option<u64>) {
     match question {
-        Question::Iid(_) => "IID",
-        Question::Key(..) => "key",
-        Question::Method(..) => "method",
-        Question::Slot(..) => "slot",
-        Question::Constant(..) => "constant",
+        Question::Iid(_) => ("IID", None),
+        Question::Key(..) => ("key", None),
+        Question::Method(index, ..) => ("method", Some(*index)),
+        Question::Slot(index, _) => ("slot", Some(*index)),
+        Question::Constant(index, _) => ("constant", Some(*index)),
     }
 }
 
 fn count(tally: &mut Tally, file: &File, made: &'static str, question: &Question, reply: Reply) {
-    let about = about(question);
+    let (about, asked) = about(question);
     tally.add("all", "questions");
     if file.is_accepted {
         tally.add("all", "questions of accepted files");
@@ -322,12 +301,7 @@ fn count(tally: &mut Tally, file: &File, made: &'static str, question: &Question
         Lookup::Undetermined(index) => {
             let place = Some(index as u64);
             row("undetermined", place);
-            let itself = match question {
-                Question::Method(asked, ..)
-                | Question::Slot(asked, _)
-                | Question::Constant(asked, _) => Some(*asked) == place,
-                _ => false,
-            };
+            let itself = asked == place;
             row(if itself { "undetermined, itself" } else { "undetermined, an ancestor" }, place);
         }
         Lookup::Found(found) => {

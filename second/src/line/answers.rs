@@ -1,12 +1,9 @@
 //! What each command of `xpt` must answer, by this program's functions, and a question's words.
 
-use crate::library::cases::{kind_word, shown};
-use crate::library::questions::{Found, Question};
-use crate::library::OWN;
+use crate::library::{cases::kind_word, cases::shown, questions::Found, questions::Question, OWN};
 use crate::making::rng::Rng;
-use crate::program::format::{refusal, Refusal, MAX_FILE};
-use crate::program::listing::list;
 use crate::program::questions::{Constant, Lookup, Method, Slot};
+use crate::program::{listing::list, refusal, Refusal, MAX_FILE};
 use std::sync::Arc;
 
 pub type Bytes = Arc<[u8]>;

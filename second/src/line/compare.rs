@@ -1,14 +1,11 @@
 //! Runs a script's commands by the program that is compared, in a batch or each alone, and holds
 //! what comes of them against what must come.
 
-use super::answers::Bytes;
-use super::process::{Program, Ran};
 use super::script::{Law, Script, Step, Told, SUBFOLDER};
+use super::{answers::Bytes, process::Program, process::Ran};
 use crate::program::format::refusal::is_of_file;
 use crate::tally::Tally;
-use std::collections::BTreeMap;
-use std::path::Path;
-use std::{fs, io};
+use std::{collections::BTreeMap, fs, io, path::Path};
 
 /// What differs, with the files that show it.
 #[derive(Debug)]
@@ -114,9 +111,8 @@ fn laws_hold(script: &Script, tally: &mut Tally) -> Result<(), Difference> {
             (left, right) => {
                 let text = format!("a law does not hold: {same}");
                 let difference = Difference { text, files: Vec::new() };
-                return Err(difference
-                    .with("left", left.as_deref())
-                    .with("right", right.as_deref()));
+                let difference = difference.with("left", left.as_deref());
+                return Err(difference.with("right", right.as_deref()));
             }
         }
     }
@@ -188,11 +184,7 @@ fn answers_stand(
 
 /// The steps' lines. The last one has no newline where it can be seen without.
 fn input(steps: &[&Step], tally: &mut Tally) -> Vec<u8> {
-    let mut input: Vec<u8> = Vec::new();
-    for step in steps {
-        input.extend(step.line());
-        input.push(b'\n');
-    }
+    let mut input: Vec<u8> = steps.iter().flat_map(|s| [s.line(), vec![b'\n']].concat()).collect();
     if !steps.len().is_multiple_of(2) && !input.ends_with(b"\n\n") {
         input.pop();
         tally.add("line", "last without a newline");

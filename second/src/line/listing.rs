@@ -1,19 +1,12 @@
 //! The listing program beside this one: what it prints for many inputs, each through a pipe.
 
-use super::compare::Difference;
-use super::process::Program;
-use super::report;
+use super::{compare::Difference, process::Program, report};
 use crate::in_parallel;
 use crate::library::shrink::shrink;
-use crate::making::builder::*;
-use crate::making::rng::Rng;
-use crate::making::{damage, generate, hostile};
-use crate::program::check::check;
-use crate::program::listing::{program as list, MAX_INPUT};
+use crate::making::{builder::*, damage, generate, hostile, rng::Rng};
+use crate::program::{check::check, listing::program as list, listing::MAX_INPUT};
 use crate::tally::{Tally, NUMBER};
-use std::io;
-use std::path::Path;
-use std::time::Duration;
+use std::{io, path::Path, time::Duration};
 
 /// How an input was made, and the input.
 type Input = (&'static str, Vec<u8>);
@@ -95,7 +88,7 @@ fn marked() -> Vec<Vec<u8>> {
 /// Inputs about the greatest length, and one whose listing takes 540 KB for each of its entries.
 fn edges(rng: &mut Rng, entries: usize) -> Vec<Input> {
     let (family, empty) = (generate::family(rng), Typelib::default());
-    let filled = |lib: &Typelib, length: usize| generate::filled_to(lib, length).bytes();
+    let filled = |lib: &Typelib, length: usize| lib.filled_to(length).bytes();
     let at_most = filled(&family, MAX_INPUT);
     let mut short = at_most.clone();
     short[23] ^= 1;
@@ -132,9 +125,7 @@ fn inputs(seed: u64, count: usize, entries: usize) -> Vec<Input> {
         };
         all.push(("good", lib.bytes()));
     }
-    for n in 1..=16 {
-        all.push(("overlapping heads", generate::overlapping_heads(rng, n)));
-    }
+    all.extend((1..=16).map(|n| ("overlapping heads", generate::overlapping_heads(rng, n))));
     all.extend(hostile::chains().map(|chain| ("a chain of 1,024", chain)));
     let one_in = 2_800_000 / (count / 2).max(1);
     let mut seen = vec![0; NUMBER.len()];

@@ -95,24 +95,10 @@ const NO_KINDS: [&str; 9] =
 
 /// A first word that is none of the commands. The last two are for batches only.
 fn unknown_command(rng: &mut Rng, alone: bool, _: &str) -> Vec<u8> {
-    const WORDS: [&str; 14] = [
-        "Check",
-        "CHECK",
-        "chec",
-        "checks",
-        "xpt check",
-        "lists",
-        "constant",
-        "methods",
-        "\u{e9}\u{fe}",
-        "check\t",
-        "-check",
-        "normalise",
-        "batch",
-        "check\0",
-    ];
-    let fit = if alone { &WORDS[..WORDS.len() - 2] } else { &WORDS };
-    format!("{} F", rng.pick(fit)).into()
+    const WORDS: &str = "Check|CHECK|chec|checks|xpt check|lists|constant|methods|\u{e9}\u{fe}\
+        |check\t|-check|normalise|batch|check\0";
+    let words: Vec<&str> = WORDS.split('|').collect();
+    format!("{} F", rng.pick(&words[..words.len() - if alone { 2 } else { 0 }])).into()
 }
 
 fn not_hexadecimal(rng: &mut Rng, _: bool, _: &str) -> Vec<u8> {

@@ -18,8 +18,7 @@ use process::Program;
 use script::Script;
 use std::path::{Path, PathBuf};
 use std::sync::atomic::{AtomicUsize, Ordering};
-use std::time::Instant;
-use std::{fs, io};
+use std::{fs, io, time::Instant};
 use supply::{part, Supply};
 
 /// Up to so many files of each kind for the check.
@@ -36,7 +35,7 @@ const REWRITTEN: usize = 4;
 const ALONE: usize = 4;
 
 /// A folder of its own, removed in the end.
-struct Folder(PathBuf);
+pub struct Folder(pub PathBuf);
 
 impl Folder {
     fn new(parent: &Path) -> io::Result<Folder> {
@@ -47,7 +46,7 @@ impl Folder {
         Ok(Folder(folder))
     }
 
-    fn usual() -> io::Result<Folder> {
+    pub fn usual() -> io::Result<Folder> {
         Folder::new(&std::env::temp_dir())
     }
 
@@ -71,8 +70,7 @@ impl Drop for Folder {
 
 /// The k-th of all batches: all commands mixed.
 fn batch(s: &mut Script, supply: &Supply, k: usize) {
-    let one = stories::good(&mut s.rng);
-    let one = s.place(one);
+    let one = stories::placed(s);
     for (_, bytes) in part(&supply.checked, k, BATCHES) {
         stories::checked(s, bytes, &one);
     }
@@ -118,8 +116,7 @@ fn alone(s: &mut Script, supply: &Supply, k: usize) {
         supply.pairs(k).iter().for_each(|[a, b]| stories::pair(s, a, b));
         return;
     }
-    let one = stories::good(&mut s.rng);
-    let one = s.place(one);
+    let one = stories::placed(s);
     let bytes = stories::good(&mut s.rng);
     stories::asked(s, bytes, 12);
     stories::every_answer(s);

@@ -5,8 +5,7 @@ use crate::library::questions::Question;
 use crate::making::rng::Rng;
 use crate::program::format::{refusal, Refusal};
 use crate::tally::{LINK, NUMBER};
-use std::collections::{BTreeMap, HashMap};
-use std::path::PathBuf;
+use std::{collections::BTreeMap, collections::HashMap, path::PathBuf};
 
 /// A file's path in the folder, and the word that names it in commands.
 #[derive(Clone, Debug)]
@@ -54,6 +53,7 @@ pub const SUBFOLDER: &str = "sub";
 /// Longer lines may be refused.
 pub const LONGEST_LINE: usize = 65_535;
 
+#[derive(Default)]
 pub struct Script {
     pub folder: PathBuf,
     seed: u64,
@@ -74,18 +74,8 @@ pub struct Script {
 
 impl Script {
     pub fn new(folder: PathBuf, alone: bool, seed: u64) -> Script {
-        Script {
-            folder,
-            seed,
-            rng: Rng::new(seed),
-            alone,
-            files: BTreeMap::new(),
-            links: Vec::new(),
-            stories: vec![Vec::new()],
-            laws: Vec::new(),
-            now: HashMap::new(),
-            names: 0,
-        }
+        let (rng, stories) = (Rng::new(seed), vec![Vec::new()]);
+        Script { folder, seed, rng, alone, stories, ..Script::default() }
     }
 
     // Files.
@@ -344,10 +334,8 @@ fn spelling(step: &Step) -> Option<Count> {
 
 /// Takes steps from these stories by chance, each story's in order.
 fn mix<'s>(stories: &[&'s [Step]], rng: &mut Rng, steps: &mut Vec<&'s Step>) {
-    let mut turns: Vec<usize> = Vec::new();
-    for (i, story) in stories.iter().enumerate() {
-        turns.extend(std::iter::repeat_n(i, story.len()));
-    }
+    let lengths = stories.iter().map(|story| story.len()).enumerate();
+    let mut turns: Vec<usize> = lengths.flat_map(|(i, length)| vec![i; length]).collect();
     rng.shuffle(&mut turns);
     let mut rest: Vec<_> = stories.iter().map(|story| story.iter()).collect();
     steps.extend(turns.into_iter().filter_map(|i| rest[i].next()));

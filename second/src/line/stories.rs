@@ -1,16 +1,9 @@
 //! Stories: commands that belong together, about generated files.
 
-use super::answers::Bytes;
-use super::malformed;
-use super::script::{Law, Name, Script};
-use crate::library::links::{BACKWARD, FORWARD};
-use crate::library::questions::{question, Question};
-use crate::making::builder::*;
-use crate::making::rng::Rng;
-use crate::making::{generate, hostile, model, pairs};
-use crate::program::check::check;
-use crate::program::listing::MAX_INPUT;
-use crate::program::questions::Kind;
+use super::{answers::Bytes, malformed, script::Law, script::Name, script::Script};
+use crate::library::{cases::Asked, links::BACKWARD, links::FORWARD, questions::question};
+use crate::making::{builder::*, generate, hostile, model, pairs, rng::Rng};
+use crate::program::{check::check, listing::MAX_INPUT};
 
 /// A good file of any shape.
 pub fn good(rng: &mut Rng) -> Vec<u8> {
@@ -30,6 +23,12 @@ pub fn good(rng: &mut Rng) -> Vec<u8> {
         10 => pairs::empty(rng).bytes(),
         _ => generate::family(rng).bytes(),
     }
+}
+
+/// Such a file in the folder.
+pub fn placed(script: &mut Script) -> Name {
+    let bytes = good(&mut script.rng);
+    script.place(bytes)
 }
 
 /// Questions of a file, and now and then its check and its listing.
@@ -66,36 +65,18 @@ pub fn every_answer(script: &mut Script) {
     let constants = kinds.map(|(name, kind, value)| Constant::new(name, kind, value)).to_vec();
     let methods =
         vec![Method::plain(0, b"m"), Method::plain(GETTER, b"g"), Method::plain(SETTER, b"g")];
-    let mut lib = Typelib { entries: generate::entries(3), ..Typelib::default() };
+    let mut lib = Typelib::plain(3);
     lib.entries[2].namespace = Some(b"N".to_vec());
     // The second is below the first, which is unresolved.
     for (i, parent) in [(1, 1), (2, 0)] {
         let (methods, constants) = (methods.clone(), constants.clone());
-        let d = lib.add(Descriptor { parent, methods, constants, flags: 0 });
-        lib.entries[i].descriptor = Some(d);
-    }
-    let mut asked = vec![
-        Question::Iid(generate::iid(2).to_vec()),
-        Question::Iid(generate::iid(9).to_vec()),
-        Question::Iid(vec![0; 16]),
-        Question::Iid(vec![1; 15]),
-    ];
-    for (space, name) in [("", "E0"), ("N", "E2"), ("N", "E0"), ("N-", "E2")] {
-        asked.push(Question::Key(space.into(), name.into()));
-    }
-    for index in [0, 1, 2, 3, 4] {
-        for (name, kind) in
-            [(b"m", Kind::Plain), (b"g", Kind::Getter), (b"g", Kind::Setter), (b"x", Kind::Plain)]
-        {
-            asked.push(Question::Method(index, name.to_vec(), kind));
-        }
-        asked.extend([0, 2, 3].map(|slot| Question::Slot(index, slot)));
-        asked.extend([b"a", b"b", b"c", b"d", b"x"].map(|k| Question::Constant(index, k.to_vec())));
+        lib.resolve(i, Descriptor { parent, methods, constants, flags: 0 });
     }
     let file = script.place(lib.bytes());
-    for question in &asked {
+    for line in include_str!("every_answer.txt").lines() {
+        let Some(Asked::Question(question)) = Asked::parse(line) else { panic!("{line}") };
         script.story();
-        script.ask(&file, question);
+        script.ask(&file, &question);
     }
 }
 
@@ -270,8 +251,8 @@ pub fn rewritten(script: &mut Script, bad: &Bytes) {
 
 /// A file that is its own output.
 pub fn in_place(script: &mut Script) {
-    let (a, b) = (good(&mut script.rng), good(&mut script.rng));
-    let (a, b) = (script.place(a), script.place(b));
+    let files = [0; 2].map(|_| good(&mut script.rng));
+    let [a, b] = files.map(|bytes| script.place(bytes));
     script.story();
     script.check(&a);
     script.normal(&a, &a);
@@ -304,9 +285,7 @@ pub fn by_other_names(script: &mut Script) {
 
 /// An output beside files with the names that a temporary one may have.
 pub fn among_others(script: &mut Script) {
-    let a = good(&mut script.rng);
-    let a = script.place(a);
-    let out = output(script);
+    let (a, out) = (placed(script), output(script));
     for ending in [".tmp", ".temp", "~", ".new", ".part", ".bak", ".0"] {
         script.place_at(&format!("{}{ending}", out.path), *b"not a typelib");
         let (folder, name) = out.path.rsplit_once('/').unwrap_or(("", &out.path));
@@ -346,7 +325,7 @@ pub fn long_lines(script: &mut Script) {
 /// Large files, with how they count.
 pub fn large(rng: &mut Rng) -> Vec<(&'static str, Bytes)> {
     let family = generate::family(rng);
-    let filled = |lib: &Typelib, length: usize| generate::filled_to(lib, length).bytes();
+    let filled = |lib: &Typelib, length: usize| lib.filled_to(length).bytes();
     let mut short = filled(&family, MAX_FILE);
     short[23] ^= 1;
     let empty = Typelib::default();
@@ -378,8 +357,7 @@ pub fn large(rng: &mut Rng) -> Vec<(&'static str, Bytes)> {
 /// A large file by all commands.
 pub fn large_file(script: &mut Script, what: &'static str, bytes: &Bytes) {
     let file = script.place(bytes.clone());
-    let small = good(&mut script.rng);
-    let small = script.place(small);
+    let small = placed(script);
     script.story();
     script.check(&file);
     script.count("file", what);

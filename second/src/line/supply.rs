@@ -1,13 +1,8 @@
 //! Generated files that many scripts take from.
 
-use super::answers::Bytes;
-use super::stories;
-use crate::making::rng::Rng;
-use crate::making::{damage, pairs};
-use crate::program::check::check;
-use crate::program::format::{Refusal, MAX_FILE};
-use crate::program::link::link;
-use crate::program::Answer;
+use super::{answers::Bytes, stories};
+use crate::making::{damage, pairs, rng::Rng};
+use crate::program::{check::check, link::link, Answer, Refusal, MAX_FILE};
 use std::collections::BTreeMap;
 
 pub struct Supply {

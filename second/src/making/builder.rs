@@ -33,7 +33,7 @@ impl Entry {
     }
 }
 
-#[derive(Clone, Default)]
+#[derive(Clone, Default, PartialEq)]
 pub struct Descriptor {
     pub parent: u16,
     pub methods: Vec<Method>,
@@ -41,7 +41,7 @@ pub struct Descriptor {
     pub flags: u8,
 }
 
-#[derive(Clone)]
+#[derive(Clone, PartialEq)]
 pub struct Method {
     pub flags: u8,
     pub name: Vec<u8>,
@@ -49,14 +49,14 @@ pub struct Method {
     pub result: Parameter,
 }
 
-#[derive(Clone)]
+#[derive(Clone, PartialEq)]
 pub struct Parameter {
     pub flags: u8,
     pub of: Type,
 }
 
 /// Arrays from the outermost in, each with prefix, size and length, and what they are of.
-#[derive(Clone)]
+#[derive(Clone, PartialEq)]
 pub struct Type {
     pub arrays: Vec<[u8; 3]>,
     pub leaf: u8,
@@ -64,7 +64,7 @@ pub struct Type {
     pub tail: [u8; 3],
 }
 
-#[derive(Clone)]
+#[derive(Clone, PartialEq)]
 pub struct Constant {
     pub name: Vec<u8>,
     pub kind: u8,
@@ -73,7 +73,7 @@ pub struct Constant {
 
 impl Type {
     pub fn simple(leaf: u8) -> Type {
-        Type { arrays: Vec::new(), leaf, tail: [0; 3] }
+        Type::with(leaf, [0; 3])
     }
 
     pub fn with(leaf: u8, tail: [u8; 3]) -> Type {
@@ -94,15 +94,15 @@ impl Type {
         let tag = self.leaf & TAG;
         &self.tail[..tail(tag) + usize::from(tag == ARRAY)]
     }
-
-    fn size(&self) -> usize {
-        3 * self.arrays.len() + 1 + self.tail().len()
-    }
 }
 
 impl Parameter {
     pub fn new(flags: u8, of: Type) -> Parameter {
         Parameter { flags, of }
+    }
+
+    pub fn simple(flags: u8, leaf: u8) -> Parameter {
+        Parameter::new(flags, Type::simple(leaf))
     }
 }
 
@@ -113,12 +113,7 @@ impl Method {
 
     /// Without arguments, of no result.
     pub fn plain(flags: u8, name: &[u8]) -> Method {
-        Method::new(flags, name, Vec::new(), Parameter::new(0, Type::simple(VOID)))
-    }
-
-    pub fn size(&self) -> usize {
-        let parameters = self.arguments.iter().chain([&self.result]);
-        6 + parameters.map(|p| 1 + p.of.size()).sum::<usize>()
+        Method::new(flags, name, Vec::new(), Parameter::simple(0, VOID))
     }
 }
 
@@ -126,17 +121,23 @@ impl Constant {
     pub fn new(name: &[u8], kind: u8, value: u32) -> Constant {
         Constant { name: name.to_vec(), kind, value }
     }
-
-    fn value_size(&self) -> usize {
-        value_size(self.kind).unwrap_or(2)
-    }
 }
 
 impl Descriptor {
+    /// With nothing of its own.
+    pub fn below(parent: usize) -> Descriptor {
+        Descriptor { parent: parent as u16, ..Descriptor::default() }
+    }
+
+    pub fn of(methods: Vec<Method>) -> Descriptor {
+        Descriptor { methods, ..Descriptor::default() }
+    }
+
+    /// Its bytes, without its names.
     pub fn size(&self) -> usize {
-        let methods = self.methods.iter().map(Method::size).sum::<usize>();
-        let constants = self.constants.iter().map(|c| 5 + c.value_size()).sum::<usize>();
-        4 + methods + 2 + constants + 1
+        let mut writer = Writer::new(0, 0);
+        writer.descriptor(self, std::iter::repeat(0));
+        writer.bytes.len()
     }
 
     fn names(&self) -> impl Iterator<Item = &[u8]> {
@@ -273,12 +274,17 @@ impl Built {
         self.directory + ENTRY * i
     }
 
+    /// Lets the pointer in a field lead to a place in the pool.
+    pub fn point(&mut self, field: usize, place: usize) {
+        let pointer = (place - self.pool + 1) as u32;
+        self.bytes[field..field + 4].copy_from_slice(&pointer.to_be_bytes());
+    }
+
     /// The end of the annotations' room.
     pub fn limit(&self) -> usize {
-        if self.n == 0 {
-            self.pool
-        } else {
-            self.directory
+        match self.n {
+            0 => self.pool,
+            _ => self.directory,
         }
     }
 }
@@ -302,15 +308,8 @@ impl Writer {
     }
 
     fn put(&mut self, field: Field, bytes: &[u8], more: u8) {
-        let spot = Spot {
-            field,
-            at: self.at(),
-            length: bytes.len(),
-            of: self.of,
-            method: self.method,
-            more,
-        };
-        self.spots.push(spot);
+        let (at, length, of, method) = (self.at(), bytes.len(), self.of, self.method);
+        self.spots.push(Spot { field, at, length, of, method, more });
         self.bytes.extend_from_slice(bytes);
     }
 
@@ -324,16 +323,13 @@ impl Writer {
         }
         self.put(prefix, &[of.leaf], of.arrays.len() as u8);
         let tag = of.leaf & TAG;
-        match (tag, of.tail()) {
-            (INTERFACE, index) => self.put(Field::Index, index, 0),
-            (_, tail) => {
-                for number in tail.iter().take(2) {
-                    self.put(Field::Number, &[*number], tag);
-                }
-                if let Some(element) = tail.get(2) {
-                    self.put(prefix, &[*element], of.arrays.len() as u8 + 1);
-                }
-            }
+        let tail = of.tail();
+        if tag == INTERFACE {
+            return self.put(Field::Index, tail, 0);
+        }
+        tail.iter().take(2).for_each(|number| self.put(Field::Number, &[*number], tag));
+        if let Some(element) = tail.get(2) {
+            self.put(prefix, &[*element], of.arrays.len() as u8 + 1);
         }
     }
 
@@ -360,7 +356,8 @@ impl Writer {
             self.put(Field::ConstantName, &pointers.next().unwrap().to_be_bytes(), 0);
             self.put(Field::ConstantType, &[constant.kind], 0);
             let value = constant.value.to_be_bytes();
-            self.put(Field::ConstantValue, &value[4 - constant.value_size()..], 0);
+            let size = value_size(constant.kind).unwrap_or(2);
+            self.put(Field::ConstantValue, &value[4 - size..], 0);
         }
         let flags = self.at();
         self.put(Field::InterfaceFlags, &[d.flags], 0);
@@ -405,9 +402,8 @@ impl Typelib {
     pub fn build(&self) -> Built {
         let mut junk = Rng::new(self.junk);
         let zero = self.junk == 0;
-        let mut filler = |bytes: &mut Vec<u8>, length: usize| {
-            let new = bytes.len() + length;
-            bytes.resize_with(new, || if zero { 0 } else { junk.byte() });
+        let mut filler = |bytes: &mut Vec<u8>, end: usize| {
+            bytes.resize_with(end, || if zero { 0 } else { junk.byte() });
         };
         let n = self.entries.len();
         let mut bytes = vec![0; HEADER];
@@ -416,12 +412,11 @@ impl Typelib {
         let mut directory = 0;
         if n > 0 {
             directory = bytes.len().next_multiple_of(4) + 4 * self.directory_gap;
-            let gap = directory - bytes.len();
-            filler(&mut bytes, gap);
+            filler(&mut bytes, directory);
             bytes.resize(directory + ENTRY * n, 0);
         }
-        filler(&mut bytes, self.pool_gap);
-        let pool_at = bytes.len();
+        let pool_at = bytes.len() + self.pool_gap;
+        filler(&mut bytes, pool_at);
 
         let mut users = vec![usize::MAX; self.descriptors.len()];
         for (i, entry) in self.entries.iter().enumerate().rev() {
@@ -463,17 +458,36 @@ impl Typelib {
         spots.extend(inner);
         identifier_spots(&mut spots, &pool, pool_at, &bytes);
         bytes.extend_from_slice(&pool.bytes);
-        filler(&mut bytes, self.tail);
+        let length = bytes.len() + self.tail;
+        filler(&mut bytes, length);
 
-        bytes[..16].copy_from_slice(&MAGIC);
-        bytes[16] = 1;
-        bytes[17] = self.minor;
-        bytes[18..20].copy_from_slice(&(n as u16).to_be_bytes());
-        let length = bytes.len() as u32;
-        bytes[20..24].copy_from_slice(&length.to_be_bytes());
-        bytes[24..28].copy_from_slice(&(directory as u32).to_be_bytes());
-        bytes[28..32].copy_from_slice(&(pool_at as u32).to_be_bytes());
+        let count = (n as u16).to_be_bytes();
+        let words = [length, directory, pool_at].map(|word| (word as u32).to_be_bytes());
+        let header = [&MAGIC[..], &[1, self.minor], &count, words.as_flattened()].concat();
+        bytes[..HEADER].copy_from_slice(&header);
         Built { bytes, spots, n, directory, pool: pool_at, placed }
+    }
+
+    /// Entries `E0`, `E1`, .. with IIDs from 1, unresolved.
+    pub fn plain(count: usize) -> Typelib {
+        let entry = |i: usize| Entry::new(i as u64 + 1, &format!("E{i}"));
+        Typelib { entries: (0..count).map(entry).collect(), ..Typelib::default() }
+    }
+
+    /// One entry with IID 1 and name `A`, directory at 36, pool at 64.
+    pub fn single(descriptor: Descriptor) -> Typelib {
+        let entry = Entry { descriptor: Some(0), ..Entry::new(1, "A") };
+        Typelib { entries: vec![entry], descriptors: vec![descriptor], ..Typelib::default() }
+    }
+
+    /// Resolves an entry, by position, with a descriptor of its own.
+    pub fn resolve(&mut self, i: usize, descriptor: Descriptor) {
+        self.entries[i].descriptor = Some(self.add(descriptor));
+    }
+
+    /// Appends unused bytes up to the given length.
+    pub fn filled_to(&self, length: usize) -> Typelib {
+        Typelib { tail: self.tail + length - self.bytes().len(), ..self.clone() }
     }
 
     pub fn bytes(&self) -> Vec<u8> {
@@ -518,24 +532,20 @@ impl Typelib {
             first_name.push(names.len());
             names.extend(descriptor.names());
         }
-        let descriptor_names = |d: usize| {
-            let count = self.descriptors[d].names().count();
-            (first_name[d]..first_name[d] + count).map(Record::Name)
+        let with_names = |d: usize| {
+            let names = first_name[d]..first_name[d] + self.descriptors[d].names().count();
+            std::iter::once(Record::Descriptor(d)).chain(names.map(Record::Name))
         };
         let mut name = 0;
         for (i, entry) in self.entries.iter().enumerate() {
             let count = 1 + usize::from(entry.namespace.is_some());
             records.extend((name..name + count).map(Record::Name));
             name += count;
-            if let Some(d) = entry.descriptor.filter(|&d| users[d] == i) {
-                records.push(Record::Descriptor(d));
-                records.extend(descriptor_names(d));
-            }
+            let own = entry.descriptor.filter(|&d| users[d] == i);
+            records.extend(own.into_iter().flat_map(with_names));
         }
-        for d in (0..users.len()).filter(|&d| users[d] == usize::MAX) {
-            records.push(Record::Descriptor(d));
-            records.extend(descriptor_names(d));
-        }
+        let unused = (0..users.len()).filter(|&d| users[d] == usize::MAX);
+        records.extend(unused.flat_map(with_names));
         let is_name = |record: &Record| matches!(record, Record::Name(_));
         let mut rng = Rng::new(self.junk + 77);
         match self.order {
@@ -560,7 +570,8 @@ impl Typelib {
         let mut stands = HashMap::new();
         for record in records {
             if self.record_gap > 0 {
-                filler(&mut pool.bytes, rng.below(self.record_gap + 1));
+                let end = pool.bytes.len() + rng.below(self.record_gap + 1);
+                filler(&mut pool.bytes, end);
             }
             match record {
                 Record::Name(id) => {

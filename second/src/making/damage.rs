@@ -1,11 +1,8 @@
 //! Damaged typelibs. Where the damage is made on purpose its refusal is known from how it was
 //! made and handed on with the file; elsewhere only the two checks are compared.
 
-use super::builder::*;
-use super::faults::{faults, lowest_endless, number};
-use super::generate::{self, entries, fitting, single};
-use super::pairs;
-use super::rng::Rng;
+use super::faults::{faults, lowest_endless, number, put, Fault};
+use super::{builder::*, generate, generate::fitting, pairs, rng::Rng};
 use crate::program::Answer;
 
 /// Takes a file, its answer where that is known, and how it was made.
@@ -32,18 +29,22 @@ struct Bases<'a> {
 impl Bases<'_> {
     /// What comes is built from models, one for each file.
     fn each(&mut self, make: impl FnOnce(&mut Sink)) {
-        make(&mut |bytes: &[u8], known: Option<Answer>, how: &'static str| {
-            self.count += 1;
-            (self.sink)(&Made { bytes, known, how, base: self.count });
-        });
+        make(&mut |bytes, known, how| self.one(|sink| sink(bytes, known, how)));
     }
 
     /// What comes is made from one good file.
     fn one(&mut self, make: impl FnOnce(&mut Sink)) {
         self.count += 1;
         let base = self.count;
-        make(&mut |bytes: &[u8], known: Option<Answer>, how: &'static str| {
-            (self.sink)(&Made { bytes, known, how, base });
+        make(&mut |bytes, known, how| (self.sink)(&Made { bytes, known, how, base }));
+    }
+
+    /// A good typelib, and what else is made from it.
+    fn good(&mut self, lib: &Typelib, how: &'static str, make: impl FnOnce(&[u8], &mut Sink)) {
+        let bytes = lib.bytes();
+        self.one(|sink| {
+            sink(&bytes, Some(Ok(lib.entries.len())), how);
+            make(&bytes, sink);
         });
     }
 }
@@ -52,27 +53,21 @@ fn refused(number: u32, place: usize) -> Option<Answer> {
     Some(Err(Refusal { number, place }))
 }
 
-/// The answer to a file that is good, or refused with 16 at this place.
+/// The answer to a file of one interface that is good, or refused with 16 at this place.
 fn good_or_rule(good: bool, place: usize) -> Option<Answer> {
-    if good {
-        Some(Ok(1))
-    } else {
-        refused(refusal::RULE, place)
+    match good {
+        true => Some(Ok(1)),
+        false => refused(refusal::RULE, place),
     }
 }
 
-fn put(bytes: &mut [u8], at: usize, new: &[u8]) {
-    bytes[at..at + new.len()].copy_from_slice(new);
-}
-
 fn set_length(bytes: &mut [u8]) {
-    let length = (bytes.len() as u32).to_be_bytes();
-    put(bytes, 20, &length);
+    put(bytes, 20, &(bytes.len() as u32).to_be_bytes());
 }
 
 /// One interface with these methods.
 fn with_methods(methods: Vec<Method>) -> Typelib {
-    single(Descriptor { methods, ..Descriptor::default() })
+    Typelib::single(Descriptor::of(methods))
 }
 
 /// Known faults alone, up to `singles`, and `pairs` times two at once: the one met first is given.
@@ -83,22 +78,18 @@ pub fn single_and_paired(lib: &Typelib, seed: u64, singles: usize, pairs: usize,
     let mut bytes = good.clone();
     let mut rng = Rng::new(seed);
     rng.shuffle(&mut all);
-    for fault in all.iter().take(singles) {
-        fault.apply(&mut bytes);
-        sink(&bytes, Some(Err(fault.refusal)), fault.what);
-        fault.undo(&mut bytes, good);
-    }
+    let mut made = |faults: &[&Fault], how: &'static str| {
+        faults.iter().for_each(|fault| fault.apply(&mut bytes));
+        let first = faults.iter().min_by_key(|fault| fault.rank).expect("a fault");
+        sink(&bytes, Some(Err(first.refusal)), how);
+        faults.iter().for_each(|fault| fault.undo(&mut bytes, good));
+    };
+    all.iter().take(singles).for_each(|fault| made(&[fault], fault.what));
     for _ in 0..pairs {
         let (a, b) = (rng.pick(&all), rng.pick(&all));
-        if !a.is_apart(b) {
-            continue;
+        if a.is_apart(b) {
+            made(&[a, b], "two faults");
         }
-        a.apply(&mut bytes);
-        b.apply(&mut bytes);
-        let first = if a.rank <= b.rank { a } else { b };
-        sink(&bytes, Some(Err(first.refusal)), "two faults");
-        a.undo(&mut bytes, good);
-        b.undo(&mut bytes, good);
     }
 }
 
@@ -137,8 +128,7 @@ pub fn cut_last_record(lib: &Typelib, sink: &mut Sink) {
     for d in 0..lib.descriptors.len() {
         let order = Order::NamesFirst;
         let built = Typelib { order, last: Some(d), ..lib.clone() }.build();
-        let good = &built.bytes;
-        let placed = &built.placed[d];
+        let (good, placed) = (&built.bytes, &built.placed[d]);
         if placed.entry == usize::MAX {
             continue;
         }
@@ -152,34 +142,40 @@ pub fn cut_last_record(lib: &Typelib, sink: &mut Sink) {
     }
     let built = Typelib { order: Order::NamesLast, ..lib }.build();
     let end = built.bytes.len();
-    for spot in built.spots.iter().filter(|spot| spot.field == Field::Identifier) {
-        if spot.at + spot.length + 1 == end {
-            let field = built.spots[spot.of].at;
-            cut(&built.bytes, spot.at, field, "13 name cut away");
-            for length in spot.at + 1..end {
-                cut(&built.bytes, length, field, "11 unfinished");
-            }
+    let is_last = |s: &&Spot| s.field == Field::Identifier && s.at + s.length + 1 == end;
+    for spot in built.spots.iter().filter(is_last) {
+        let field = built.spots[spot.of].at;
+        cut(&built.bytes, spot.at, field, "13 name cut away");
+        (spot.at + 1..end).for_each(|length| cut(&built.bytes, length, field, "11 unfinished"));
+    }
+}
+
+/// Hands on the file with other bytes at a place, wherever they fit.
+fn patching<'a, 'b>(
+    good: &'a [u8],
+    sink: &'a mut Sink<'b>,
+) -> impl FnMut(usize, &[u8], &'static str) + use<'a, 'b> {
+    let mut bytes = good.to_vec();
+    move |at, new, how| {
+        if let Some(old) = good.get(at..at + new.len()) {
+            put(&mut bytes, at, new);
+            sink(&bytes, None, how);
+            put(&mut bytes, at, old);
         }
     }
 }
 
 /// Every value of every byte.
 pub fn all_bytes(good: &[u8], sink: &mut Sink) {
-    let mut bytes = good.to_vec();
-    for at in 0..good.len() {
-        for new in 0..=255 {
-            if new != good[at] {
-                bytes[at] = new;
-                sink(&bytes, None, "one byte");
-            }
-        }
-        bytes[at] = good[at];
+    let mut each = patching(good, sink);
+    for (at, old) in good.iter().enumerate() {
+        (0..=255).filter(|new| new != old).for_each(|new| each(at, &[new], "one byte"));
     }
 }
 
 /// Some values of every byte, and edge values in every 2 and 4 bytes.
 pub fn edges(good: &[u8], sink: &mut Sink) {
-    let mut bytes = good.to_vec();
+    let mut each = patching(good, sink);
     let pool = u32::from_be_bytes(good[28..32].try_into().unwrap());
     let length = good.len() as u32;
     let rest = length - pool;
@@ -187,21 +183,13 @@ pub fn edges(good: &[u8], sink: &mut Sink) {
     let short = [0, 1, n, n + 1, 255, 256, 1024, 1025, 0x7fff, 0x8000, 0xffff];
     let mut long = vec![0, 1, rest.wrapping_sub(1), rest, rest + 1, pool, length, length + 1];
     long.extend([0x7fff_ffff, 0x8000_0000, 0xffff_fffc, 0xffff_ffff]);
-    for at in 0..good.len() {
-        let old = good[at];
-        let mut each = |what: &'static str, new: &[u8]| {
-            if at + new.len() <= good.len() {
-                put(&mut bytes, at, new);
-                sink(&bytes, None, what);
-                put(&mut bytes, at, &good[at..at + new.len()]);
-            }
-        };
+    for (at, &old) in good.iter().enumerate() {
         for new in [0, 0x7f, 0x80, 0xff, old.wrapping_add(1), old.wrapping_sub(1)] {
-            each("edge byte", &[new]);
+            each(at, &[new], "edge byte");
         }
-        (0..8).for_each(|bit| each("one bit", &[old ^ 1 << bit]));
-        short.iter().for_each(|new| each("edge of 2 bytes", &new.to_be_bytes()));
-        long.iter().for_each(|new| each("edge of 4 bytes", &new.to_be_bytes()));
+        (0..8).for_each(|bit| each(at, &[old ^ 1 << bit], "one bit"));
+        short.iter().for_each(|new| each(at, &new.to_be_bytes(), "edge of 2 bytes"));
+        long.iter().for_each(|new| each(at, &new.to_be_bytes(), "edge of 4 bytes"));
     }
 }
 
@@ -212,9 +200,9 @@ pub fn cuts(good: &[u8], sink: &mut Sink) {
             0..HEADER => refused(refusal::TOO_SHORT, length),
             _ => refused(refusal::LENGTH, 20),
         };
-        sink(&good[..length], expected, "cut");
+        let mut bytes = good[..length].to_vec();
+        sink(&bytes, expected, "cut");
         if length >= HEADER {
-            let mut bytes = good[..length].to_vec();
             set_length(&mut bytes);
             sink(&bytes, None, "cut, length set");
         }
@@ -229,17 +217,11 @@ pub fn cuts(good: &[u8], sink: &mut Sink) {
 /// Every pointer leads to every place of the pool.
 pub fn pointers(built: &Built, sink: &mut Sink) {
     use Field::*;
-    let mut bytes = built.bytes.clone();
-    let length = (bytes.len() - built.pool) as u32;
-    for spot in &built.spots {
-        let pointer = [EntryName, EntryNamespace, EntryDescriptor, MethodName, ConstantName];
-        if pointer.contains(&spot.field) {
-            for new in 0..=length + 1 {
-                put(&mut bytes, spot.at, &new.to_be_bytes());
-                sink(&bytes, None, "pointer");
-            }
-            bytes.copy_from_slice(&built.bytes);
-        }
+    let mut each = patching(&built.bytes, sink);
+    let length = (built.bytes.len() - built.pool) as u32;
+    let pointers = [EntryName, EntryNamespace, EntryDescriptor, MethodName, ConstantName];
+    for spot in built.spots.iter().filter(|spot| pointers.contains(&spot.field)) {
+        (0..=length + 1).for_each(|new| each(spot.at, &new.to_be_bytes(), "pointer"));
     }
 }
 
@@ -251,14 +233,13 @@ pub fn scrambled(good: &[u8], rounds: usize, rng: &mut Rng, sink: &mut Sink) {
             if bytes.len() <= 40 {
                 break;
             }
-            let at = rng.range(32, bytes.len() - 1);
+            let last = bytes.len() - 1;
+            let at = rng.range(32, last);
             match rng.below(8) {
                 0 => bytes.insert(at, rng.byte()),
-                1 => {
-                    bytes.remove(at);
-                }
+                1 => _ = bytes.remove(at),
                 2 => {
-                    let from = rng.range(32, bytes.len() - 1);
+                    let from = rng.range(32, last);
                     let length = rng.range(1, 8).min(bytes.len() - at.max(from));
                     bytes.copy_within(from..from + length, at);
                 }
@@ -266,10 +247,7 @@ pub fn scrambled(good: &[u8], rounds: usize, rng: &mut Rng, sink: &mut Sink) {
                 4 => bytes[at] = bytes[at].wrapping_add(1),
                 5 => bytes[at] ^= 1 << rng.below(8),
                 6 => bytes[at] = rng.byte() & rng.byte() & rng.byte(),
-                _ => {
-                    let other = rng.range(32, bytes.len() - 1);
-                    bytes.swap(at, other);
-                }
+                _ => bytes.swap(at, rng.range(32, last)),
             }
         }
         set_length(&mut bytes);
@@ -298,13 +276,10 @@ fn too_long(rng: &mut Rng, bases: &mut Bases) {
         bytes.resize(MAX_FILE + 300, rng.byte());
         bases.one(|sink| {
             for over in [1, 2, 3, rng.range(4, 300)] {
+                let expected = refused(refusal::TOO_LONG, MAX_FILE);
                 for field in [short, MAX_FILE, MAX_FILE + over] {
                     put(&mut bytes, 20, &(field as u32).to_be_bytes());
-                    sink(
-                        &bytes[..MAX_FILE + over],
-                        refused(refusal::TOO_LONG, MAX_FILE),
-                        "2 too long",
-                    );
+                    sink(&bytes[..MAX_FILE + over], expected, "2 too long");
                 }
             }
         });
@@ -357,9 +332,7 @@ pub fn headers(rng: &mut Rng, sink: &mut Sink) {
 pub fn short_annotations(sink: &mut Sink) {
     let alphabet = [0x00, 0x80, 0x01, 0x81, 0x02, 0x7f, 0xff];
     for n in [0, 1] {
-        let lib =
-            Typelib { entries: entries(n), directory_gap: 1, pool_gap: 4, ..Typelib::default() };
-        let built = lib.build();
+        let built = Typelib { directory_gap: 1, pool_gap: 4, ..Typelib::plain(n) }.build();
         let mut bytes = built.bytes.clone();
         let room = built.limit() - 32;
         for tail in [0x00, 0x80, 0x41] {
@@ -392,13 +365,10 @@ fn one_prefix(minor: u8, flags: u8, depth: usize, prefix: u8, in_result: bool, s
     let tag = prefix & TAG;
     let of = Type::nested(depth, 2, prefix, fitting(tag, 1, 2));
     let outer = of.prefix();
-    let (argument, result) = match in_result {
-        true => (Type::simple(0), of),
-        false => (of, Type::simple(VOID)),
-    };
-    let types = [argument, Type::simple(POINTER | IID), Type::simple(UINT32)];
-    let arguments = types.map(|of| Parameter::new(IN, of)).to_vec();
-    let method = Method::new(flags, b"f", arguments, Parameter::new(0, result));
+    let mut method = Method::plain(flags, b"f");
+    method.arguments = [0, POINTER | IID, UINT32].map(|leaf| Parameter::simple(IN, leaf)).to_vec();
+    let it = if in_result { &mut method.result } else { &mut method.arguments[0] };
+    it.of = of;
     let built = Typelib { minor, ..with_methods(vec![method]) }.build();
     let field = if in_result { Field::ResultPrefix } else { Field::ArgumentPrefix };
     let it = |spot: &&Spot| spot.field == field && usize::from(spot.more) == depth;
@@ -430,22 +400,23 @@ pub fn numbers(sink: &mut Sink) {
                 INTERFACE_IS => (named_tag == IID && pointer, 2),
                 _ => (named_tag == UINT32 && !pointer, 1),
             };
-            let others = |of: Type| {
-                vec![
-                    Parameter::new(IN | OUT, of),
-                    Parameter::new(IN, Type::simple(UINT32)),
-                    Parameter::new(IN, Type::simple(POINTER | IID)),
-                    Parameter::new(OUT, Type::with(named, fitting(named_tag, 2, 1))),
-                ]
-            };
+            let arguments = vec![
+                Parameter::simple(IN | OUT, 1),
+                Parameter::simple(IN, UINT32),
+                Parameter::simple(IN, POINTER | IID),
+                Parameter::new(OUT, Type::with(named, fitting(named_tag, 2, 1))),
+            ];
             let both = [(3, fits), (fits, 3), (3, 3)];
             for (first, second) in both.into_iter().filter(|b| tag != INTERFACE_IS || b.0 == 3) {
                 for depth in [0, 1, 3, 7] {
                     let of = Type::nested(depth, 1, POINTER | tag, [first, second, 0]);
-                    let (void, int) = (Type::simple(VOID), Type::simple(1));
-                    for (flags, argument, result) in [(0, of.clone(), void), (NOT_XPCOM, int, of)] {
-                        let result = Parameter::new(0, result);
-                        let method = Method::new(flags, b"f", others(argument), result);
+                    for flags in [0, NOT_XPCOM] {
+                        let void = Parameter::simple(0, VOID);
+                        let mut method = Method::new(flags, b"f", arguments.clone(), void);
+                        match flags {
+                            0 => method.arguments[0].of = of.clone(),
+                            _ => method.result.of = of.clone(),
+                        }
                         let built = with_methods(vec![Method::plain(0, b"e"), method]).build();
                         let expected = good_or_rule(good, built.placed[0].methods[1]);
                         sink(&built.bytes, expected, "numbers");
@@ -466,8 +437,8 @@ pub fn wide_numbers(sink: &mut Sink) {
                     true => (POINTER | IID, Type::with(POINTER | INTERFACE_IS, [number, 0, 0])),
                     false => (UINT32, Type::with(POINTER | 22, [named as u8, number, 0])),
                 };
-                let mut arguments = vec![Parameter::new(IN, Type::simple(1)); count];
-                arguments[named] = Parameter::new(IN, Type::simple(target));
+                let mut arguments = vec![Parameter::simple(IN, 1); count];
+                arguments[named] = Parameter::simple(IN, target);
                 let method = Method::new(0, b"f", arguments, Parameter::new(RETVAL, of));
                 let built = with_methods(vec![method]).build();
                 let good = usize::from(number) == named;
@@ -480,7 +451,7 @@ pub fn wide_numbers(sink: &mut Sink) {
 
 /// IIDs that differ in one byte first, whatever follows it.
 pub fn iids(sink: &mut Sink) {
-    let good = Typelib { entries: entries(2), ..Typelib::default() }.build();
+    let good = Typelib::plain(2).build();
     let mut bytes = good.bytes.clone();
     for at in 0..16 {
         for (a, b) in [(0, 1), (1, 0), (0x7f, 0x80), (0x80, 0x7f), (0, 0xff), (0xff, 0), (5, 5)] {
@@ -505,9 +476,9 @@ pub fn iids(sink: &mut Sink) {
 pub fn without_iid(sink: &mut Sink) {
     for n in [1, 2, 5, 30] {
         for (position, directory_gap) in (0..n).flat_map(|i| [(i, 0), (i, 3)]) {
-            let mut lib = Typelib { entries: entries(n), directory_gap, ..Typelib::default() };
+            let mut lib = Typelib { directory_gap, ..Typelib::plain(n) };
             lib.entries[..=position].iter_mut().for_each(|entry| entry.iid = [0; 16]);
-            lib.entries[position].descriptor = Some(lib.add(Descriptor::default()));
+            lib.resolve(position, Descriptor::default());
             let built = lib.build();
             sink(&built.bytes, refused(refusal::NO_IID, built.entry(position) + 24), "12 zero IID");
         }
@@ -555,14 +526,11 @@ fn accessor_row(row: &[(u8, &[u8])], sharing: Sharing, sink: &mut Sink) {
     let methods = row.iter().map(|&(flags, name)| Method::plain(flags, name)).collect();
     let built = Typelib { sharing, ..with_methods(methods) }.build();
     let constructors = row.iter().filter(|(flags, _)| flags & CONSTRUCTOR != 0).count();
-    let mut good = constructors <= 1;
-    for (i, (first, name)) in row.iter().enumerate() {
-        for (j, (second, other)) in row.iter().enumerate() {
-            if first & GETTER != 0 && second & SETTER != 0 && name == other && j != i + 1 {
-                good = false;
-            }
-        }
-    }
+    let is_pair = |i: usize, j: usize| {
+        row[i].0 & GETTER != 0 && row[j].0 & SETTER != 0 && row[i].1 == row[j].1
+    };
+    let each = || 0..row.len();
+    let good = constructors <= 1 && each().all(|i| each().all(|j| j == i + 1 || !is_pair(i, j)));
     sink(&built.bytes, good_or_rule(good, built.placed[0].at), "row of accessors");
 }
 
@@ -572,8 +540,7 @@ pub fn long_names(lib: &Typelib, sink: &mut Sink) {
     let count = names(&mut lib).len();
     for i in 0..count {
         for length in [MAX_IDENTIFIER, MAX_IDENTIFIER + 1, MAX_IDENTIFIER + 2, 511, 512] {
-            let name = vec![b'q'; length];
-            let old = std::mem::replace(names(&mut lib)[i], name);
+            let old = std::mem::replace(names(&mut lib)[i], vec![b'q'; length]);
             let built = lib.build();
             let long = |spot: &&Spot| spot.field == Field::Identifier && spot.length == length;
             let too_long = length > MAX_IDENTIFIER;
@@ -603,12 +570,12 @@ fn names(lib: &mut Typelib) -> Vec<&mut Vec<u8>> {
 
 /// Counts one too large, with as many records as they say.
 pub fn sizes(sink: &mut Sink) {
-    let too_many = Typelib { entries: entries(MAX_INTERFACES + 1), ..Typelib::default() };
-    sink(&too_many.bytes(), refused(refusal::COUNT, 18), "7 count");
+    let too_many = Typelib::plain(MAX_INTERFACES + 1).bytes();
+    sink(&too_many, refused(refusal::COUNT, 18), "7 count");
     for sharing in [Sharing::None, Sharing::Equal] {
         let methods = with_methods(vec![Method::plain(0, b"m"); MAX_METHODS + 1]);
         let constants = vec![Constant::new(b"k", 1, 7); MAX_CONSTANTS + 1];
-        let constants = single(Descriptor { constants, ..Descriptor::default() });
+        let constants = Typelib::single(Descriptor { constants, ..Descriptor::default() });
         for (lib, field, what) in [
             (methods, Field::MethodCount, "17 methods"),
             (constants, Field::ConstantCount, "17 constants"),
@@ -620,15 +587,15 @@ pub fn sizes(sink: &mut Sink) {
     }
     for depth in 7..=20 {
         for position in 0..4 {
-            let mut arguments = vec![Parameter::new(IN, Type::simple(UINT32)); 4];
-            let deep = Type::nested(depth, 0, 3, [0; 3]);
-            let mut result = Type::nested(8, 0, 3, [0; 3]);
+            let deep =
+                |flags: u8, depth: usize| Parameter::new(flags, Type::nested(depth, 0, 3, [0; 3]));
+            let arguments = vec![Parameter::simple(IN, UINT32); 4];
+            let mut method = Method::new(0, b"deep", arguments, deep(RETVAL, 8));
             match position {
-                0 => result = deep,
-                _ => arguments[position] = Parameter::new(OUT, deep),
+                0 => method.result = deep(RETVAL, depth),
+                _ => method.arguments[position] = deep(OUT, depth),
             }
-            let result = Parameter::new(RETVAL, result);
-            let built = with_methods(vec![Method::new(0, b"deep", arguments, result)]).build();
+            let built = with_methods(vec![method]).build();
             let ninth = built.spots.iter().find(|spot| {
                 matches!(spot.field, Field::ArgumentPrefix | Field::ResultPrefix)
                     && usize::from(spot.more) == MAX_ARRAYS
@@ -654,7 +621,7 @@ pub fn keys(rng: &mut Rng, sink: &mut Sink) {
         patterns.push((0..length).map(|_| rng.below(kinds)).collect());
     }
     for pattern in patterns {
-        let mut lib = Typelib { entries: entries(pattern.len()), ..Typelib::default() };
+        let mut lib = Typelib::plain(pattern.len());
         lib.sharing = *rng.pick(&[Sharing::None, Sharing::Equal, Sharing::Overlap]);
         lib.directory_gap = rng.below(3);
         let zeros = rng.below(pattern.len() + 1);
@@ -708,14 +675,12 @@ pub fn chains(rng: &mut Rng, sink: &mut Sink) {
 
 fn chain(parents: &[usize], sink: &mut Sink) {
     let n = parents.len();
-    let mut lib = Typelib { entries: entries(n), ..Typelib::default() };
+    let mut lib = Typelib::plain(n);
     let mut ends = parents.to_vec();
     for (i, &parent) in parents.iter().enumerate() {
-        if parent <= n {
-            let d = lib.add(Descriptor { parent: parent as u16, ..Descriptor::default() });
-            lib.entries[i].descriptor = Some(d);
-        } else {
-            ends[i] = 0;
+        match parent <= n {
+            true => lib.resolve(i, Descriptor::below(parent)),
+            false => ends[i] = 0,
         }
     }
     let built = lib.build();
@@ -726,7 +691,7 @@ fn chain(parents: &[usize], sink: &mut Sink) {
 
 /// Descriptors of bytes drawn at random, mostly small.
 pub fn random_pools(rounds: usize, rng: &mut Rng, sink: &mut Sink) {
-    let built = single(Descriptor::default()).build();
+    let built = Typelib::single(Descriptor::default()).build();
     for _ in 0..rounds {
         let mut bytes = built.bytes[..built.pool].to_vec();
         bytes.extend_from_slice(b"A\0");
@@ -747,11 +712,7 @@ pub fn everything(seed: u64, sink: &mut dyn FnMut(&Made)) {
     // Other numbers with every seed.
     let bases = &mut Bases { sink, count: seed.wrapping_mul(1 << 32) };
     marked(bases);
-    bases.each(|sink| {
-        for lib in generate::special() {
-            sink(&lib.bytes(), Some(Ok(lib.entries.len())), "special");
-        }
-    });
+    generate::special().iter().for_each(|lib| bases.good(lib, "special", |_, _| {}));
     bases.each(|sink| too_short(rng, sink));
     too_long(rng, bases);
     bases.one(|sink| headers(rng, sink));
@@ -788,20 +749,14 @@ fn marked(bases: &mut Bases) {
 /// Good files of all sizes, some of them scrambled.
 fn good(rng: &mut Rng, bases: &mut Bases) {
     for round in 0..12_000 {
-        let size = match round % 8 {
-            0..6 => generate::SMALL,
-            6 => generate::MEDIUM,
-            _ if round % 80 == 7 => generate::LARGE,
+        let size = match round % 80 {
+            7 => generate::LARGE,
+            k if k % 8 < 6 => generate::SMALL,
             _ => generate::MEDIUM,
         };
+        let scrambles = if round % 4 == 0 { 20 } else { 0 };
         let lib = generate::random(rng, size);
-        let bytes = lib.bytes();
-        bases.one(|sink| {
-            sink(&bytes, Some(Ok(lib.entries.len())), "random");
-            if round % 4 == 0 {
-                scrambled(&bytes, 20, rng, sink);
-            }
-        });
+        bases.good(&lib, "random", |bytes, sink| scrambled(bytes, scrambles, rng, sink));
     }
 }
 
@@ -812,7 +767,7 @@ fn related(rng: &mut Rng, bases: &mut Bases) {
             0 => (pairs::view(&pairs::world(rng), rng), "view of a world"),
             _ => (generate::family(rng), "family"),
         };
-        bases.each(|sink| sink(&lib.bytes(), Some(Ok(lib.entries.len())), how));
+        bases.good(&lib, how, |_, _| {});
     }
     for round in 0..60 {
         let bytes = generate::overlapping_heads(rng, 1 + round % 16);
@@ -842,18 +797,16 @@ fn all_faults(rng: &mut Rng, bases: &mut Bases) {
         (0, Order::Shuffled),
     ] {
         let lib = generate::rich(minor, order);
-        let built = lib.build();
-        bases.one(|sink| {
-            sink(&built.bytes, Some(Ok(7)), "rich");
+        bases.good(&lib, "rich", |bytes, sink| {
             single_and_paired(&lib, 7, usize::MAX, 20_000, sink);
             cut_last_record(&lib, sink);
             long_names(&lib, sink);
-            cuts(&built.bytes, sink);
-            scrambled(&built.bytes, 5_000, rng, sink);
-            edges(&built.bytes, sink);
+            cuts(bytes, sink);
+            scrambled(bytes, 5_000, rng, sink);
+            edges(bytes, sink);
             if order == Order::NamesFirst {
-                all_bytes(&built.bytes, sink);
-                pointers(&built, sink);
+                all_bytes(bytes, sink);
+                pointers(&lib.build(), sink);
             }
         });
     }
@@ -901,22 +854,16 @@ fn far_faults(rng: &mut Rng, bases: &mut Bases) {
         Typelib { record_gap: 40_000, junk: 4, ..generate::rich(0, Order::Shuffled) },
         Typelib { pool_gap: to_the_end, ..rich },
     ] {
-        bases.one(|sink| {
-            sink(&lib.bytes(), Some(Ok(7)), "far");
-            single_and_paired(&lib, 5, 1_500, 500, sink);
-        });
+        bases.good(&lib, "far", |_, sink| single_and_paired(&lib, 5, 1_500, 500, sink));
     }
     let text = |length: usize| vec![b'~'; length];
     for (first, second) in [(300, 65_535), (65_535, 256)] {
         let annotations = vec![Annotation::Texts(text(first), text(second)), Annotation::Empty];
-        let lib = Typelib { annotations, entries: entries(2), ..Typelib::default() };
+        let lib = Typelib { annotations, ..Typelib::plain(2) };
         bases.one(|sink| single_and_paired(&lib, 6, 300, 100, sink));
     }
     for count in [200, 1023, MAX_INTERFACES] {
         let lib = generate::wide(rng, count);
-        bases.one(|sink| {
-            sink(&lib.bytes(), Some(Ok(count)), "wide");
-            single_and_paired(&lib, 3, 400, 400, sink);
-        });
+        bases.good(&lib, "wide", |_, sink| single_and_paired(&lib, 3, 400, 400, sink));
     }
 }

@@ -1,8 +1,7 @@
 //! Single faults in a good file, field by field. What a fault is called starts with the number of
 //! the refusal that it must give, if no other is met before.
 
-use super::builder::*;
-use super::rng::Rng;
+use super::{builder::*, rng::Rng};
 
 /// When a fault is met in reading: step, entry, place, and the order at one place.
 type Rank = (u8, usize, usize, u8);
@@ -27,18 +26,17 @@ pub struct Fault {
     pub rank: Rank,
 }
 
+pub fn put(bytes: &mut [u8], at: usize, new: &[u8]) {
+    bytes[at..at + new.len()].copy_from_slice(new);
+}
+
 impl Fault {
     pub fn apply(&self, bytes: &mut [u8]) {
-        for (at, new) in &self.patches {
-            bytes[*at..at + new.len()].copy_from_slice(new);
-        }
+        self.patches.iter().for_each(|(at, new)| put(bytes, *at, new));
     }
 
     pub fn undo(&self, bytes: &mut [u8], good: &[u8]) {
-        for (at, new) in &self.patches {
-            let range = *at..at + new.len();
-            bytes[range.clone()].copy_from_slice(&good[range]);
-        }
+        self.patches.iter().for_each(|(at, new)| put(bytes, *at, &good[*at..at + new.len()]));
     }
 
     /// The ranges that another fault must leave alone.
@@ -89,60 +87,51 @@ struct Collector<'a> {
     all: Vec<Fault>,
 }
 
+type What = &'static str;
+
+/// Where a fault is refused, and when it is met.
+type Where = (usize, Rank);
+
+/// Counts over a limit.
+fn over(most: usize) -> [usize; 6] {
+    [most + 1, most + 2, 2048, 0x7fff, 0x8000, 0xffff]
+}
+
 impl Collector<'_> {
-    fn add(
-        &mut self,
-        what: &'static str,
-        place: usize,
-        rank: Rank,
-        patches: Vec<Patch>,
-    ) -> &mut Fault {
+    fn add(&mut self, what: What, (place, rank): Where, patches: Vec<Patch>) -> &mut Fault {
         let refusal = Refusal { number: number(what), place };
         self.all.push(Fault { what, refusal, patches, needs: Vec::new(), rank });
         self.all.last_mut().expect("it was just added")
     }
 
     /// These values in a field of so many bytes, which is the refusal's place.
-    fn field(
-        &mut self,
-        what: &'static str,
-        (at, length): (usize, usize),
-        rank: Rank,
-        values: impl IntoIterator<Item = usize>,
-    ) {
+    fn field(&mut self, what: What, here: Where, length: usize, values: &[usize]) {
         for value in values {
-            let bytes = (value as u32).to_be_bytes()[4 - length..].to_vec();
-            self.add(what, at, rank, vec![(at, bytes)]);
+            let bytes = (*value as u32).to_be_bytes()[4 - length..].to_vec();
+            self.add(what, here, vec![(here.0, bytes)]);
         }
     }
 
     /// These values in a field of one byte.
-    fn byte(
-        &mut self,
-        what: &'static str,
-        at: usize,
-        rank: Rank,
-        values: impl IntoIterator<Item = u8>,
-    ) {
-        self.field(what, (at, 1), rank, values.into_iter().map(usize::from));
+    fn byte(&mut self, what: What, here: Where, values: impl IntoIterator<Item = u8>) {
+        values.into_iter().for_each(|value| self.field(what, here, 1, &[value.into()]));
     }
 
     fn header(&mut self) {
         let b = self.built;
         for at in 0..MAGIC.len() {
             let old = b.bytes[at];
-            self.byte("3 magic", at, (3, at, 0, 0), [old ^ 1, old ^ 0x80, old.wrapping_add(32)]);
+            self.byte("3 magic", (at, (3, at, 0, 0)), [old ^ 1, old ^ 0x80, old.wrapping_add(32)]);
         }
-        self.byte("4 major", 16, (4, 0, 0, 0), [0, 2, 3, 0x81, 255]);
+        self.byte("4 major", (16, (4, 0, 0, 0)), [0, 2, 3, 0x81, 255]);
         let minors = [MAX_MINOR + 1, MAX_MINOR + 2, 0x80, 0x81, 255];
-        self.byte("5 minor", 17, (5, 0, 0, 0), minors);
+        self.byte("5 minor", (17, (5, 0, 0, 0)), minors);
         let length = b.bytes.len();
         let lengths = [0, 32, length - 1, length + 1, length | 1 << 31, length + (1 << 16), !0];
-        self.field("6 length", (20, 4), (6, 0, 0, 0), lengths);
-        let counts = [MAX_INTERFACES + 1, MAX_INTERFACES + 2, 2048, 0x7fff, 0x8000, 0xffff];
-        self.field("7 count", (18, 2), (7, 0, 0, 0), counts);
+        self.field("6 length", (20, (6, 0, 0, 0)), 4, &lengths);
+        self.field("7 count", (18, (7, 0, 0, 0)), 2, &over(MAX_INTERFACES));
         let pools = [0, 1, 31, 32, length + 1, length + 28, 1 << 31, 0xffff_fffc, 0xffff_ffff];
-        self.field("8 pool", (28, 4), (8, 0, 0, 0), pools);
+        self.field("8 pool", (28, (8, 0, 0, 0)), 4, &pools);
         let mut bad = vec![1, 2, 4, 28, 32, 33, 34, 35, 0xffff_fffc, 0xffff_ffff, 1 << 31];
         if b.n > 0 {
             let room = ENTRY * b.n;
@@ -156,7 +145,7 @@ impl Collector<'_> {
         } else {
             bad.extend([36, 64, b.pool, length]);
         }
-        self.field("8 directory", (24, 4), (8, 1, 0, 0), bad);
+        self.field("8 directory", (24, (8, 1, 0, 0)), 4, &bad);
     }
 
     /// No annotation is marked last up to the limit.
@@ -169,7 +158,7 @@ impl Collector<'_> {
         let end = last(&annotations).map_or(HEADER, |spot| spot.at + spot.length);
         let limit = b.limit();
         let patches = vec![(at, vec![b.bytes[at] & 0x7f]), (end, vec![0; limit - end])];
-        self.add("9 none last", limit, (ANNOTATIONS, limit, 0, 0), patches);
+        self.add("9 none last", (limit, (ANNOTATIONS, limit, 0, 0)), patches);
     }
 
     fn rank_of(&self, spot: &Spot) -> Rank {
@@ -188,78 +177,68 @@ impl Collector<'_> {
     /// What can be wrong in one field.
     fn spot(&mut self, i: usize) {
         use Field::*;
-        let b = self.built;
+        let (b, n, minor) = (self.built, self.built.n, self.lib.minor);
         let spot = b.spots[i];
-        let (at, rank) = (spot.at, self.rank_of(&spot));
-        let old = b.bytes.get(at).copied().unwrap_or(0);
-        let (n, minor) = (b.n, self.lib.minor);
+        let here = (spot.at, self.rank_of(&spot));
+        let old = b.bytes.get(spot.at).copied().unwrap_or(0);
         match spot.field {
             AnnotationByte => {
                 let tags = [2, 3, 0x40, 0x7f, self.rng.range(2, 0x7f) as u8];
-                self.byte("9 tag", at, rank, tags.map(|tag| old & 0x80 | tag));
+                self.byte("9 tag", here, tags.map(|tag| old & 0x80 | tag));
             }
             AnnotationLength | AnnotationText => self.text(i),
             EntryIid => self.iid(spot.of),
-            EntryName => self.pointer(at, rank, "13 name", Some("11 absent name")),
-            EntryNamespace => self.pointer(at, rank, "13 namespace", None),
+            EntryName => self.pointer(["13 name", "11 absent name"], here),
+            EntryNamespace => self.pointer(["13 namespace", ""], here),
             EntryDescriptor if b.bytes[b.entry(spot.of)..][..16] == [0; 16] => {
-                let length = b.bytes.len() - b.pool;
-                let first = self.all.len();
+                let (first, length) = (self.all.len(), b.bytes.len() - b.pool);
                 let pointers = [1, length, length + 1, 1 << 31, 0xffff_ffff];
-                self.field("12 zero IID", (at, 4), rank, pointers.into_iter().filter(|p| *p > 0));
+                self.field("12 zero IID", here, 4, &pointers);
                 self.all[first..].iter_mut().for_each(|f| f.needs.push(b.entry(spot.of)));
             }
             EntryDescriptor => {
-                self.pointer(at, (DESCRIPTORS, spot.of, 0, 0), "13 descriptor", None)
+                self.pointer(["13 descriptor", ""], (spot.at, (DESCRIPTORS, spot.of, 0, 0)))
             }
-            Identifier => self.identifier(spot, rank),
-            Parent => {
-                self.field("15 parent", (at, 2), rank, [n + 1, n + 2, 0x7fff, 0x8000, 0xffff])
-            }
-            MethodCount | ConstantCount => {
-                let (what, most) = match spot.field {
-                    MethodCount => ("17 methods", MAX_METHODS),
-                    _ => ("17 constants", MAX_CONSTANTS),
-                };
-                self.field(what, (at, 2), rank, [most + 1, most + 2, 2048, 0x7fff, 0x8000, 0xffff]);
-            }
+            Identifier => self.identifier(spot, here.1),
+            Parent => self.field("15 parent", here, 2, &[n + 1, n + 2, 0x7fff, 0x8000, 0xffff]),
+            MethodCount => self.field("17 methods", here, 2, &over(MAX_METHODS)),
+            ConstantCount => self.field("17 constants", here, 2, &over(MAX_CONSTANTS)),
             MethodFlags => {
                 let reserved = bits(RESERVED_IN_METHOD).chain([RESERVED_IN_METHOD]);
-                self.byte("14 method flags", at, rank, reserved.map(|bit| old | bit));
+                self.byte("14 method flags", here, reserved.map(|bit| old | bit));
             }
-            MethodName => self.pointer(at, rank, "13 method name", Some("11 absent method name")),
-            ConstantName => {
-                self.pointer(at, rank, "13 constant name", Some("11 absent constant name"))
-            }
+            MethodName => self.pointer(["13 method name", "11 absent method name"], here),
+            ConstantName => self.pointer(["13 constant name", "11 absent constant name"], here),
             ArgumentCount | ConstantValue => {}
-            ArgumentFlags | ResultFlags => {
-                let (reserved, rule, bad) = match spot.field {
-                    ArgumentFlags => {
-                        ("14 argument flags", "16 retval without out", vec![old & !OUT | RETVAL])
-                    }
-                    _ => {
-                        let bad = vec![old | IN, old | OUT, old | IN | OUT];
-                        ("14 result flags", "16 result in or out", bad)
-                    }
-                };
-                let mask = reserved_in_parameter(minor);
-                for bit in bits(mask).chain([mask]) {
-                    self.byte(reserved, at, rank, [old | bit, bad[0] | bit]);
-                }
-                self.byte(rule, at, rank, bad);
+            ArgumentFlags => {
+                let names = ["14 argument flags", "16 retval without out"];
+                self.parameter_flags(names, here, &[old & !OUT | RETVAL]);
             }
-            ArgumentPrefix | ResultPrefix => self.prefix(spot, rank),
-            Index => self.field("15 index", (at, 2), rank, [0, n + 1, n + 2, 0x8000, 0xffff]),
+            ResultFlags => {
+                let names = ["14 result flags", "16 result in or out"];
+                self.parameter_flags(names, here, &[old | IN, old | OUT, old | IN | OUT]);
+            }
+            ArgumentPrefix | ResultPrefix => self.prefix(spot, here),
+            Index => self.field("15 index", here, 2, &[0, n + 1, n + 2, 0x8000, 0xffff]),
             Number => self.number(spot),
             ConstantType => {
                 let types = [0, 3, 4, 7, 8, 0x11, 0x21, 0x41, 0x81, 0x82, 0x85, 0x86, 255];
-                self.byte("16 constant type", at, rank, types);
+                self.byte("16 constant type", here, types);
             }
             InterfaceFlags => {
                 let reserved = bits(reserved_in_interface(minor));
-                self.byte("14 interface flags", at, rank, reserved.map(|bit| old | bit));
+                self.byte("14 interface flags", here, reserved.map(|bit| old | bit));
             }
         }
+    }
+
+    /// Reserved bits, in flags that are good and in the first of those that break a rule.
+    fn parameter_flags(&mut self, [reserved, rule]: [What; 2], here: Where, bad: &[u8]) {
+        let (old, mask) = (self.built.bytes[here.0], reserved_in_parameter(self.lib.minor));
+        for bit in bits(mask).chain([mask]) {
+            self.byte(reserved, here, [old | bit, bad[0] | bit]);
+        }
+        self.byte(rule, here, bad.iter().copied());
     }
 
     /// The length of an annotation's text, or its bytes.
@@ -269,10 +248,10 @@ impl Collector<'_> {
         let Spot { field, at, length, of, .. } = b.spots[i];
         let is = |s: &Spot, field: Field| s.field == field && s.of == of;
         let first = b.spots.iter().find(|s| is(s, AnnotationByte)).unwrap().at;
-        let rank = (ANNOTATIONS, first, 0, 0);
+        let here = (first, (ANNOTATIONS, first, 0, 0));
         if field == AnnotationText {
             for at in at..at + length {
-                self.add("9 text byte", first, rank, vec![(at, vec![b.bytes[at] | 0x80])]);
+                self.add("9 text byte", here, vec![(at, vec![b.bytes[at] | 0x80])]);
             }
             return;
         }
@@ -285,17 +264,17 @@ impl Collector<'_> {
         }
         for new in lengths.into_iter().filter(|new| *new <= 0xffff) {
             let patch = (at, (new as u16).to_be_bytes().to_vec());
-            self.add("9 text length", first, rank, vec![patch]);
+            self.add("9 text length", here, vec![patch]);
         }
     }
 
-    fn pointer(&mut self, at: usize, rank: Rank, out: &'static str, absent: Option<&'static str>) {
-        let (file, pool) = (self.built.bytes.len(), self.built.pool);
-        let length = file - pool;
-        let leads_out = [length + 1, length + 2, file + 1, 1 << 31, 0xffff_ffff];
-        self.field(out, (at, 4), rank, leads_out);
-        if let Some(absent) = absent {
-            self.field(absent, (at, 4), rank, [0]);
+    /// A pointer that leads out of the pool, and one that is absent where that is a fault.
+    fn pointer(&mut self, [out, absent]: [What; 2], here: Where) {
+        let file = self.built.bytes.len();
+        let length = file - self.built.pool;
+        self.field(out, here, 4, &[length + 1, length + 2, file + 1, 1 << 31, 0xffff_ffff]);
+        if !absent.is_empty() {
+            self.field(absent, here, 4, &[0]);
         }
     }
 
@@ -303,118 +282,89 @@ impl Collector<'_> {
         let b = self.built;
         let at = b.entry(i);
         let own = &b.bytes[at..at + 16];
-        let rank = (DIRECTORY, i, 0, 0);
-        let mut equal = Vec::new();
-        let mut falls = Vec::new();
+        let mut changes = Vec::new();
+        let mut after_zero = true;
         if i > 0 {
-            let before = b.bytes[at - ENTRY..][..16].to_vec();
-            if before != [0; 16] {
-                equal.push((at, before.clone()));
-                falls.push((at, vec![0; 16]));
-                // One lower in the last byte that can fall.
-                let mut lower = before.clone();
-                let k = lower.iter().rposition(|&b| b > 0).unwrap();
-                lower[k] -= 1;
-                falls.push((at, lower));
-            }
-            if own != [0; 16] {
-                equal.push((at - ENTRY, own.to_vec()));
-            }
-            if own[0] != 0xff {
-                falls.push((at - ENTRY, vec![0xff; 16]));
-            }
+            let above = at - ENTRY;
+            let before = b.bytes[above..][..16].to_vec();
+            after_zero = before == [0; 16];
+            // One lower in the last byte that can fall.
+            let mut lower = before.clone();
+            lower.iter_mut().rfind(|byte| **byte > 0).into_iter().for_each(|byte| *byte -= 1);
             // Bytes compare as unsigned.
-            if own[0] < 0x80 && before[0] < 0x80 {
-                let mut high = before.clone();
-                high[0] = 0x80;
-                falls.push((at - ENTRY, high));
-            }
+            let high = [&[0x80], &before[1..]].concat();
+            changes = vec![
+                ("10 equal", !after_zero, at, before.clone()),
+                ("10 equal", own != [0; 16], above, own.to_vec()),
+                ("10 falls", !after_zero, at, vec![0; 16]),
+                ("10 falls", !after_zero, at, lower),
+                ("10 falls", own[0] != 0xff, above, vec![0xff; 16]),
+                ("10 falls", own[0] < 0x80 && before[0] < 0x80, above, high),
+            ];
         }
-        for (what, patches) in [("10 equal", equal), ("10 falls", falls)] {
-            for patch in patches {
-                self.add(what, at, rank, vec![patch]).needs = vec![at - ENTRY, at];
-            }
+        for (what, _, place, new) in changes.into_iter().filter(|change| change.1) {
+            let here = (at, (DIRECTORY, i, 0, 0));
+            self.add(what, here, vec![(place, new)]).needs = vec![at - ENTRY, at];
         }
-        let after_zero = i == 0 || b.bytes[at - ENTRY..][..16] == [0; 16];
         if own != [0; 16] && after_zero && self.lib.entries[i].descriptor.is_some() {
-            let patch = vec![(at, vec![0; 16])];
-            self.add("12 IID made zero", at + 24, (DIRECTORY, i, 3, 0), patch);
+            let here = (at + 24, (DIRECTORY, i, 3, 0));
+            self.add("12 IID made zero", here, vec![(at, vec![0; 16])]);
         }
     }
 
     fn identifier(&mut self, spot: Spot, rank: Rank) {
         let field = self.built.spots[spot.of].at;
         let bad = [b'-', b'.', b' ', b'/', b':', b'@', b'[', b'`', b'{', 0x7f, 0x80, 0xc1, 0xff, 1];
-        let mut patches = Vec::new();
-        for k in 0..=spot.length {
-            patches.push((spot.at + k, vec![*self.rng.pick(&bad)]));
+        let ends = spot.at..=spot.at + spot.length;
+        let mut patches: Vec<_> = ends.map(|at| (at, *self.rng.pick(&bad))).collect();
+        patches.extend(bad.map(|byte| (spot.at + self.rng.below(spot.length), byte)));
+        for (at, byte) in patches {
+            self.add("11 bad byte", (field, rank), vec![(at, vec![byte])]).needs = vec![field];
         }
-        for byte in bad {
-            patches.push((spot.at + self.rng.below(spot.length), vec![byte]));
-        }
-        for patch in patches {
-            self.add("11 bad byte", field, rank, vec![patch]).needs = vec![field];
-        }
-        self.add("11 empty", field, rank, vec![(spot.at, vec![0])]).needs = vec![field];
+        self.add("11 empty", (field, rank), vec![(spot.at, vec![0])]).needs = vec![field];
     }
 
-    fn prefix(&mut self, spot: Spot, rank: Rank) {
-        let at = spot.at;
-        let old = self.built.bytes[at];
-        let minor = self.lib.minor;
+    fn prefix(&mut self, spot: Spot, here: Where) {
+        let (old, minor) = (self.built.bytes[spot.at], self.lib.minor);
         let bits = self.rng.byte() & !TAG;
         for tag in LAST_TAG + 1..=TAG {
-            self.byte("14 tag", at, rank, [tag | bits, tag | old & !TAG]);
+            self.byte("14 tag", here, [tag | bits, tag | old & !TAG]);
         }
         if is_reserved(ASTRING, minor) {
-            let prefixes = [0, 0x80, 0x40, 0xe0].map(|bits| ASTRING | bits);
-            self.byte("14 tag 15 in minor 0", at, rank, prefixes);
+            self.byte("14 tag 15 in minor 0", here, [0, 0x80, 0x40, 0xe0].map(|b| ASTRING | b));
         }
         let prefixes = [UNIQUE, REFERENCE, UNIQUE | REFERENCE].map(|bits| old & TAG | bits);
-        self.byte("16 unique or reference", at, rank, prefixes);
+        self.byte("16 unique or reference", here, prefixes);
         for tag in (0..=LAST_TAG).filter(|tag| needs_pointer(*tag)) {
-            self.byte("16 pointer needed", at, rank, [tag, tag | bits & !POINTER]);
+            self.byte("16 pointer needed", here, [tag, tag | bits & !POINTER]);
         }
         if usize::from(spot.more) == MAX_ARRAYS {
-            let prefixes = [0x80, 0xa0, 0xc0, 0xe0].map(|bits| ARRAY | bits);
-            self.byte("17 ninth array", at, rank, prefixes);
+            self.byte("17 ninth array", here, [0x80, 0xa0, 0xc0, 0xe0].map(|b| ARRAY | b));
         }
         // A result of another type where only void and uint32 may stand.
-        let methods = &self.lib.descriptors[spot.of].methods;
-        if spot.field == Field::ResultPrefix {
-            let method = &methods[spot.method];
-            if method.flags & NOT_XPCOM == 0 && method.result.flags & RETVAL == 0 {
-                let types =
-                    [0, 4, 5, 7, 10, 12, 14, 0x80, 0x86, 0x8d, 0x8e, 0x90, 0x91, 0xe6, 0xcd];
-                let astring = (!is_reserved(ASTRING, minor)).then_some(ASTRING);
-                self.method_fault("16 result rule", spot, types.into_iter().chain(astring));
-            }
+        let method = &self.lib.descriptors[spot.of].methods[spot.method];
+        let free = method.flags & NOT_XPCOM != 0 || method.result.flags & RETVAL != 0;
+        if spot.field == Field::ResultPrefix && !free {
+            let types = [0, 4, 5, 7, 10, 12, 14, 0x80, 0x86, 0x8d, 0x8e, 0x90, 0x91, 0xe6, 0xcd];
+            let astring = (!is_reserved(ASTRING, minor)).then_some(ASTRING);
+            types.into_iter().chain(astring).for_each(|of| self.rule("16 result rule", spot, of));
         }
     }
 
     /// A byte that is 16 at the method's first, met after its result.
-    fn method_fault(
-        &mut self,
-        what: &'static str,
-        spot: Spot,
-        values: impl IntoIterator<Item = u8>,
-    ) {
+    fn rule(&mut self, what: What, spot: Spot, value: u8) {
         let placed = &self.built.placed[spot.of];
         let rank = (DESCRIPTORS, placed.entry, placed.methods[spot.method + 1], 0);
-        for value in values {
-            self.add(what, placed.methods[spot.method], rank, vec![(spot.at, vec![value])]);
-        }
+        self.add(what, (placed.methods[spot.method], rank), vec![(spot.at, vec![value])]);
     }
 
     fn number(&mut self, spot: Spot) {
         let arguments = &self.lib.descriptors[spot.of].methods[spot.method].arguments;
         let count = arguments.len();
-        let large = [count, count + 1, 128, 255].into_iter().filter(|new| *new >= count);
-        self.method_fault(
-            "16 number too big",
-            spot,
-            large.filter(|new| *new < 256).map(|new| new as u8),
-        );
+        for new in [count, count + 1, 128, 255].into_iter().filter(|new| (count..256).contains(new))
+        {
+            self.rule("16 number too big", spot, new as u8);
+        }
         for (number, argument) in arguments.iter().enumerate() {
             let prefix = argument.of.prefix();
             let (tag, pointer) = (prefix & TAG, prefix & POINTER != 0);
@@ -423,7 +373,7 @@ impl Collector<'_> {
                 _ => ("16 number names no size", tag == UINT32 && !pointer),
             };
             if !fits {
-                self.method_fault(what, spot, [number as u8]);
+                self.rule(what, spot, number as u8);
             }
         }
     }
@@ -435,7 +385,8 @@ impl Collector<'_> {
             for _ in 0..3 {
                 let from = b.entry(self.rng.below(i)) + 16;
                 let patch = vec![(b.entry(i) + 16, b.bytes[from..][..8].to_vec())];
-                self.add("18 key", b.entry(i), (KEYS, i, 0, 0), patch).needs = vec![from, from + 4];
+                let here = (b.entry(i), (KEYS, i, 0, 0));
+                self.add("18 key", here, patch).needs = vec![from, from + 4];
             }
         }
     }
@@ -445,7 +396,7 @@ impl Collector<'_> {
         let b = self.built;
         let placed = &b.placed[d];
         let methods = &self.lib.descriptors[d].methods;
-        let (at, rank) = (placed.at, (DESCRIPTORS, placed.entry, placed.flags, 2));
+        let here = (placed.at, (DESCRIPTORS, placed.entry, placed.flags, 2));
         let count = methods.len();
         let flags = |i: usize, more: u8| (placed.methods[i], vec![methods[i].flags | more]);
         let name = |i: usize| placed.methods[i] + 1;
@@ -456,22 +407,21 @@ impl Collector<'_> {
             if method.flags & NOT_XPCOM != 0 && method.result.flags & RETVAL == 0 && !plain {
                 let patch = vec![(placed.methods[i], vec![method.flags & !NOT_XPCOM])];
                 let rank = (DESCRIPTORS, placed.entry, placed.methods[i + 1], 0);
-                self.add("16 result rule, flag", placed.methods[i], rank, patch);
+                self.add("16 result rule, flag", (placed.methods[i], rank), patch);
             }
-            let patch = vec![flags(i, GETTER | SETTER)];
-            self.add("16 getter and setter in one", at, rank, patch);
+            self.add("16 getter and setter in one", here, vec![flags(i, GETTER | SETTER)]);
         }
         for i in 0..count {
             for j in (0..count).filter(|j| *j != i) {
                 let both = vec![flags(i, CONSTRUCTOR), flags(j, CONSTRUCTOR)];
-                self.add("16 two constructors", at, rank, both);
+                self.add("16 two constructors", here, both);
                 if j != i + 1 {
                     let pair = vec![flags(i, GETTER), flags(j, SETTER), rename(j, i)];
-                    self.add("16 getter pair apart", at, rank, pair).needs = vec![name(i)];
+                    self.add("16 getter pair apart", here, pair).needs = vec![name(i)];
                 } else if j + 1 < count {
                     let mut three = vec![flags(i, GETTER), flags(j, GETTER), flags(j + 1, SETTER)];
                     three.extend([rename(j, i), rename(j + 1, i)]);
-                    self.add("16 getter, getter, setter", at, rank, three).needs = vec![name(i)];
+                    self.add("16 getter, getter, setter", here, three).needs = vec![name(i)];
                 }
             }
         }
@@ -482,10 +432,8 @@ impl Collector<'_> {
         let b = self.built;
         let entries = &self.lib.entries;
         let used = |d: &usize| b.placed[*d].entry != usize::MAX;
-        let mut trials: Vec<(usize, usize)> = Vec::new();
-        for d in (0..b.placed.len()).filter(used) {
-            trials.extend((0..b.n).map(|i| (d, i)));
-        }
+        let each = (0..b.placed.len()).filter(used);
+        let mut trials: Vec<_> = each.flat_map(|d| (0..b.n).map(move |i| (d, i))).collect();
         self.rng.shuffle(&mut trials);
         for (d, i) in trials.into_iter().take(500) {
             let mut changed: Vec<u16> = self.lib.descriptors.iter().map(|d| d.parent).collect();
@@ -496,7 +444,7 @@ impl Collector<'_> {
                 let own = entries[i].descriptor == Some(d);
                 let what = if own { "19 own parent" } else { "19 cycle" };
                 let patch = vec![(b.placed[d].at, changed[d].to_be_bytes().to_vec())];
-                self.add(what, b.entry(lowest), (CHAINS, lowest, 0, 0), patch);
+                self.add(what, (b.entry(lowest), (CHAINS, lowest, 0, 0)), patch);
             }
         }
     }
@@ -504,14 +452,6 @@ impl Collector<'_> {
 
 /// The lowest entry whose chain is longer than there are entries.
 pub fn lowest_endless(parents: &[usize]) -> Option<usize> {
-    (0..parents.len()).find(|&i| {
-        let mut index = i + 1;
-        for _ in 0..=parents.len() {
-            if index == 0 {
-                return false;
-            }
-            index = parents[index - 1];
-        }
-        true
-    })
+    let up = |index: usize| if index == 0 { 0 } else { parents[index - 1] };
+    (0..parents.len()).find(|&i| (0..=parents.len()).fold(i + 1, |index, _| up(index)) != 0)
 }

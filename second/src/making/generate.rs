@@ -1,8 +1,6 @@
 //! Good typelibs of every shape, from fixed seeds.
 
-use super::builder::*;
-use super::model::KeyOf;
-use super::rng::Rng;
+use super::{builder::*, model::KeyOf, rng::Rng};
 use std::collections::{HashMap, HashSet};
 
 /// The largest counts of a random typelib.
@@ -74,14 +72,14 @@ fn iids(rng: &mut Rng, count: usize) -> Vec<[u8; 16]> {
 }
 
 /// What the types of one method may use.
-struct Scope<'a> {
+struct Scope {
     minor: u8,
     n: usize,
-    iids: &'a [u8],
-    sizes: &'a [u8],
+    iids: Vec<u8>,
+    sizes: Vec<u8>,
 }
 
-impl Scope<'_> {
+impl Scope {
     /// Pointer, unique and reference as the tag allows.
     fn prefix(&self, rng: &mut Rng, tag: u8) -> u8 {
         if !needs_pointer(tag) && rng.percent(60) {
@@ -106,7 +104,7 @@ impl Scope<'_> {
             let depth = if rng.percent(20) { 8 } else { rng.range(1, 4) };
             for _ in 0..depth {
                 let prefix = self.prefix(rng, ARRAY);
-                arrays.push([prefix, *rng.pick(self.sizes), *rng.pick(self.sizes)]);
+                arrays.push([prefix, *rng.pick(&self.sizes), *rng.pick(&self.sizes)]);
             }
         }
         let tag = loop {
@@ -117,8 +115,8 @@ impl Scope<'_> {
         };
         let tail = match tag {
             INTERFACE => index_tail(rng.range(1, self.n)),
-            INTERFACE_IS => [*rng.pick(self.iids), 0, 0],
-            SIZED_STRING | SIZED_WSTRING => [*rng.pick(self.sizes), *rng.pick(self.sizes), 0],
+            INTERFACE_IS => [*rng.pick(&self.iids), 0, 0],
+            SIZED_STRING | SIZED_WSTRING => [*rng.pick(&self.sizes), *rng.pick(&self.sizes), 0],
             _ => [0; 3],
         };
         Type { arrays, leaf: self.prefix(rng, tag), tail }
@@ -133,36 +131,23 @@ fn argument_flags(rng: &mut Rng, minor: u8) -> u8 {
     flags
 }
 
-pub fn method(
-    rng: &mut Rng,
-    minor: u8,
-    n: usize,
-    flags: u8,
-    name: &[u8],
-    arguments: usize,
-) -> Method {
+/// A method of a file of this minor version and so many entries.
+fn method(rng: &mut Rng, (minor, n): (u8, usize), flags: u8, name: &[u8], most: usize) -> Method {
     // Some arguments are there to be named by the numbers of others, before or after them.
-    let mut kinds = Vec::new();
-    let (mut iids, mut sizes) = (Vec::new(), Vec::new());
-    for number in 0..arguments as u8 {
-        let kind = rng.below(5);
-        match kind {
-            0 => iids.push(number),
-            1 => sizes.push(number),
-            _ => {}
-        }
-        kinds.push(kind);
-    }
-    let scope = Scope { minor, n, iids: &iids, sizes: &sizes };
-    let mut list = Vec::new();
-    for kind in kinds {
+    let kinds: Vec<usize> = (0..rng.range(0, most)).map(|_| rng.below(5)).collect();
+    let those = |kind: usize| -> Vec<u8> {
+        (0..kinds.len()).filter(|i| kinds[*i] == kind).map(|i| i as u8).collect()
+    };
+    let scope = Scope { minor, n, iids: those(0), sizes: those(1) };
+    let argument = |kind: &usize| {
         let of = match kind {
             0 => Type::simple(IID | POINTER | (rng.byte() & (UNIQUE | REFERENCE))),
             1 => Type::simple(UINT32),
             _ => scope.of(rng),
         };
-        list.push(Parameter::new(argument_flags(rng, minor), of));
-    }
+        Parameter::new(argument_flags(rng, minor), of)
+    };
+    let list = kinds.iter().map(argument).collect();
     let mut result_flags = rng.byte() & rng.byte() & !(IN | OUT | reserved_in_parameter(minor));
     if rng.percent(50) {
         result_flags = 0;
@@ -172,15 +157,15 @@ pub fn method(
     Method::new(flags, name, list, Parameter::new(result_flags, of))
 }
 
+/// A descriptor for a file of this minor version and so many entries.
 fn descriptor(
     rng: &mut Rng,
-    minor: u8,
-    n: usize,
+    of: (u8, usize),
     size: Size,
     words: &[Vec<u8>],
-    parent: u16,
+    parent: usize,
 ) -> Descriptor {
-    let mut d = Descriptor { parent, ..Descriptor::default() };
+    let mut d = Descriptor::below(parent);
     // What each accessor name is used for: GETTER, SETTER or both as a pair.
     let mut used: HashMap<Vec<u8>, u8> = HashMap::new();
     let mut constructor = rng.percent(30);
@@ -188,31 +173,22 @@ fn descriptor(
     while d.methods.len() < count {
         let name = rng.pick(words).clone();
         let mut flags = rng.byte() & rng.byte() & (NOT_XPCOM | HIDDEN);
-        let kind = rng.below(6);
-        let before = used.get(&name).copied().unwrap_or(0);
-        let mut pair = false;
-        match kind {
-            0 if before & SETTER == 0 => flags |= GETTER,
-            1 if before & GETTER == 0 => flags |= SETTER,
-            2 if before == 0 => {
-                flags |= GETTER;
-                pair = true;
-            }
-            _ => {}
-        }
+        let before = used.entry(name.clone()).or_default();
+        let (own, after) = match rng.below(6) {
+            0 if *before & SETTER == 0 => (GETTER, 0),
+            1 if *before & GETTER == 0 => (SETTER, 0),
+            2 if *before == 0 => (GETTER, SETTER),
+            _ => (0, 0),
+        };
+        *before |= own | after;
+        flags |= own;
         if constructor && rng.percent(30) {
             flags |= CONSTRUCTOR;
             constructor = false;
         }
-        if flags & (GETTER | SETTER) != 0 {
-            *used.entry(name.clone()).or_default() |= flags & (GETTER | SETTER);
-        }
-        let arguments = rng.range(0, size.arguments);
-        d.methods.push(method(rng, minor, n, flags, &name, arguments));
-        if pair {
-            *used.entry(name.clone()).or_default() |= SETTER;
-            let arguments = rng.range(0, 2);
-            d.methods.push(method(rng, minor, n, SETTER, &name, arguments));
+        d.methods.push(method(rng, of, flags, &name, size.arguments));
+        if after != 0 {
+            d.methods.push(method(rng, of, after, &name, 2));
         }
     }
     for _ in 0..rng.range(0, size.constants) {
@@ -220,7 +196,7 @@ fn descriptor(
         let name = &words[rng.below(words.len())];
         d.constants.push(Constant::new(name, *rng.pick(&CONSTANT_TYPES), value));
     }
-    d.flags = rng.byte() & !reserved_in_interface(minor);
+    d.flags = rng.byte() & !reserved_in_interface(of.0);
     d
 }
 
@@ -230,14 +206,11 @@ pub fn annotations(rng: &mut Rng) -> Vec<Annotation> {
         (0..length).map(|_| rng.byte() & 0x7f).collect()
     };
     let count = if rng.percent(60) { 1 } else { rng.range(1, 5) };
-    let mut list = Vec::new();
-    for _ in 0..count {
-        list.push(match rng.percent(60) {
-            true => Annotation::Empty,
-            false => Annotation::Texts(text(rng), text(rng)),
-        });
-    }
-    list
+    let one = |_| match rng.percent(60) {
+        true => Annotation::Empty,
+        false => Annotation::Texts(text(rng), text(rng)),
+    };
+    (0..count).map(one).collect()
 }
 
 /// A random layout without contents.
@@ -278,15 +251,15 @@ fn populate(
             }
         };
         let iid = if i < zeros { [0; 16] } else { ids[i - zeros] };
-        let mut descriptor = None;
-        if i >= zeros && rng.percent(resolved) {
-            if descriptors == 0 || rng.percent(own) {
-                descriptors += 1;
-                descriptor = Some(descriptors - 1);
+        let descriptor = (i >= zeros && rng.percent(resolved)).then(|| {
+            let is_new = descriptors == 0 || rng.percent(own);
+            descriptors += usize::from(is_new);
+            if is_new {
+                descriptors - 1
             } else {
-                descriptor = Some(rng.below(descriptors));
+                rng.below(descriptors)
             }
-        }
+        });
         lib.entries.push(Entry { iid, name, namespace, descriptor });
     }
     let mut renumbered: Vec<usize> = (0..descriptors).collect();
@@ -313,11 +286,8 @@ pub fn random(rng: &mut Rng, size: Size) -> Typelib {
     for d in 0..populate(&mut lib, rng, [zeros, n], [85, 85], key) {
         let may_be = |i: &usize| lib.entries[i - 1].descriptor.is_none_or(|other| other < d);
         let parents: Vec<usize> = (1..=n).filter(may_be).collect();
-        let parent = match parents.is_empty() || rng.percent(40) {
-            true => 0,
-            false => *rng.pick(&parents) as u16,
-        };
-        lib.descriptors.push(descriptor(rng, minor, n, size, &words, parent));
+        let parent = if parents.is_empty() || rng.percent(40) { 0 } else { *rng.pick(&parents) };
+        lib.descriptors.push(descriptor(rng, (minor, n), size, &words, parent));
     }
     lib
 }
@@ -369,28 +339,10 @@ pub fn family(rng: &mut Rng) -> Typelib {
             kind if kind < 85 => those(&|other| other.is_some_and(|other| other + 1 == d)),
             _ => those(&|other| other.is_some_and(|other| other < d)),
         };
-        let parent = if candidates.is_empty() { 0 } else { *rng.pick(&candidates) as u16 };
-        lib.descriptors.push(descriptor(rng, minor, n, size, &words, parent));
+        let parent = if candidates.is_empty() { 0 } else { *rng.pick(&candidates) };
+        lib.descriptors.push(descriptor(rng, (minor, n), size, &words, parent));
     }
     lib
-}
-
-/// One entry with IID 1 and name `A`, directory at 36, pool at 64.
-pub fn single(descriptor: Descriptor) -> Typelib {
-    let entry = Entry { descriptor: Some(0), ..Entry::new(1, "A") };
-    Typelib { entries: vec![entry], descriptors: vec![descriptor], ..Typelib::default() }
-}
-
-/// Entries `E0`, `E1`, .. with IIDs from 1, unresolved.
-pub fn entries(count: usize) -> Vec<Entry> {
-    (0..count).map(|i| Entry::new(i as u64 + 1, &format!("E{i}"))).collect()
-}
-
-/// Appends unused bytes up to the given length.
-pub fn filled_to(lib: &Typelib, length: usize) -> Typelib {
-    let mut filled = lib.clone();
-    filled.tail += length - lib.bytes().len();
-    filled
 }
 
 /// P1, P2 and P3 of document 01.
@@ -398,15 +350,15 @@ pub fn marked() -> [Vec<u8>; 3] {
     let p1 = Typelib { pool_gap: 3, ..Typelib::default() }.bytes();
     let p2 = Typelib { entries: vec![Entry::new(0, "Tank")], ..Typelib::default() }.bytes();
     let constants = vec![Constant::new(b"K", 1, 0xfffe)];
-    let p3 = single(Descriptor { constants, flags: 0x80, ..Descriptor::default() }).bytes();
-    [p1, p2, p3]
+    let p3 = Descriptor { constants, flags: 0x80, ..Descriptor::default() };
+    [p1, p2, Typelib::single(p3).bytes()]
 }
 
 /// A typelib with every kind of field in few bytes.
 pub fn rich(minor: u8, order: Order) -> Typelib {
-    let argument = |flags: u8, of: Type| Parameter::new(flags, of);
-    let void = || Parameter::new(0, Type::simple(VOID));
-    let mut lib = Typelib { minor, order, entries: entries(7), ..Typelib::default() };
+    let (argument, simple) = (Parameter::new, Parameter::simple);
+    let void = || simple(0, VOID);
+    let mut lib = Typelib { minor, order, ..Typelib::plain(7) };
     lib.annotations = vec![
         Annotation::Empty,
         Annotation::Texts(b"by hand".to_vec(), b"1.0".to_vec()),
@@ -431,21 +383,20 @@ pub fn rich(minor: u8, order: Order) -> Typelib {
     let sized = vec![
         argument(IN, Type::with(POINTER | INTERFACE_IS, [3, 0, 0])),
         argument(IN | SHARED, Type::nested(8, 2, POINTER | INTERFACE_IS, [3, 0, 0])),
-        argument(IN, Type::simple(UINT32)),
-        argument(IN, Type::simple(IID | POINTER | REFERENCE)),
+        simple(IN, UINT32),
+        simple(IN, IID | POINTER | REFERENCE),
         argument(OUT | RETVAL, Type::nested(2, 5, POINTER | INTERFACE, [0, 7, 0])),
-        argument(IN | OUT, Type::simple(UINT32)),
+        simple(IN | OUT, UINT32),
         argument(IN, Type::with(POINTER | 21, [2, 5, 0])),
         argument(OUT, Type::with(POINTER | UNIQUE | 22, [5, 5, 0])),
     ];
-    let numbers =
-        vec![argument(IN, Type::simple(UINT32)), argument(IN, Type::simple(IID | POINTER))];
+    let numbers = vec![simple(IN, UINT32), simple(IN, IID | POINTER)];
     let other = Parameter::new(0, Type::nested(8, 0, POINTER | INTERFACE_IS, [1, 0, 0]));
     let interface = Parameter::new(RETVAL, Type::with(POINTER | INTERFACE, [0, 4, 0]));
-    let value = |flags: u8| vec![argument(flags, Type::simple(10))];
+    let value = |flags: u8| vec![simple(flags, 10)];
     let methods = vec![
         Method::new(GETTER, b"size", value(OUT | RETVAL), void()),
-        Method::new(SETTER, b"size", value(IN), Parameter::new(0, Type::simple(UINT32))),
+        Method::new(SETTER, b"size", value(IN), simple(0, UINT32)),
         Method::new(0, b"fill", sized, void()),
         Method::new(NOT_XPCOM, b"pick", numbers, other),
         Method::new(CONSTRUCTOR, b"make", Vec::new(), interface),
@@ -453,7 +404,7 @@ pub fn rich(minor: u8, order: Order) -> Typelib {
     ];
     let constants = vec![Constant::new(b"K", 5, 3)];
     let child = lib.add(Descriptor { parent: 4, methods, constants, flags: 0 });
-    let above_unresolved = lib.add(Descriptor { parent: 3, flags: 0x80, ..Descriptor::default() });
+    let above_unresolved = lib.add(Descriptor { flags: 0x80, ..Descriptor::below(3) });
     for (entry, d) in [(3, root), (4, child), (5, child), (6, above_unresolved)] {
         lib.entries[entry].descriptor = Some(d);
     }
@@ -464,12 +415,11 @@ pub fn rich(minor: u8, order: Order) -> Typelib {
 pub fn wide(rng: &mut Rng, count: usize) -> Typelib {
     let size = Size { entries: 0, methods: 2, arguments: 3, constants: 1, name: 6 };
     let words: Vec<_> = (0..30).map(|_| identifier(rng, 8)).collect();
-    let mut lib = Typelib { entries: entries(count), ..Typelib::default() };
+    let mut lib = Typelib::plain(count);
     for i in 0..count {
-        let parent = rng.below(i + 1) as u16;
+        let parent = rng.below(i + 1);
         if rng.percent(80) {
-            let d = descriptor(rng, 1, count, size, &words, parent);
-            lib.entries[i].descriptor = Some(lib.add(d));
+            lib.resolve(i, descriptor(rng, (1, count), size, &words, parent));
         }
         if rng.percent(50) {
             lib.entries[i].namespace = Some(rng.pick(&words).clone());
@@ -489,57 +439,57 @@ pub fn overlapping_heads(rng: &mut Rng, count: usize) -> Vec<u8> {
     let mut methods = Vec::new();
     for i in 0..count {
         let mut arguments = Vec::new();
-        for _ in 0..rng.below(3) {
-            arguments.push(Parameter::new(argument_flags(rng, 1), Type::simple(UINT32)));
-        }
-        arguments.push(Parameter::new(0, Type::simple(0)));
-        let result = Parameter::new(0, Type::simple((count - 1 - i) as u8));
+        let before = 0..rng.below(3);
+        arguments.extend(before.map(|_| Parameter::simple(argument_flags(rng, 1), UINT32)));
+        arguments.push(Parameter::simple(0, 0));
+        let result = Parameter::simple(0, (count - 1 - i) as u8);
         let flags = NOT_XPCOM | (rng.byte() & HIDDEN);
         methods.push(Method::new(flags, &identifier(rng, 5), arguments, result));
     }
     let constants = vec![Constant::new(b"Z", 6, rng.number() as u32); rng.below(3)];
-    let outer = Descriptor { parent: 0, methods, constants, flags: 0xc0 };
-    let mut lib = Typelib { entries: entries(count + 1), ..Typelib::default() };
-    lib.entries[0].descriptor = Some(lib.add(outer));
+    let mut lib = Typelib::plain(count + 1);
+    lib.resolve(0, Descriptor { parent: 0, methods, constants, flags: 0xc0 });
     lib.order = *rng.pick(&[Order::Entries, Order::NamesFirst, Order::NamesLast]);
-    let built = lib.build();
-    let mut bytes = built.bytes.clone();
+    let mut built = lib.build();
     for i in 0..count {
-        let head = built.placed[0].methods[i + 1] - 4;
-        let pointer = (head - built.pool + 1) as u32;
-        bytes[built.entry(i + 1) + 24..][..4].copy_from_slice(&pointer.to_be_bytes());
+        built.point(built.entry(i + 1) + 24, built.placed[0].methods[i + 1] - 4);
     }
-    bytes
+    built.bytes
 }
 
 /// Entries whose names stand inside descriptors: in the values of their constants.
 pub fn names_in_descriptors(rng: &mut Rng, count: usize) -> Vec<u8> {
     assert!((1..=LETTERS.len()).contains(&count));
     let mut lib = Typelib { sharing: Sharing::None, ..layout(rng, 1) };
-    lib.entries = entries(count);
-    for (entry, letter) in lib.entries.iter_mut().zip(LETTERS) {
+    lib.entries = Typelib::plain(count).entries;
+    for (i, letter) in LETTERS.iter().enumerate().take(count) {
         let value = u32::from_be_bytes([*letter, *rng.pick(LETTERS), 0, rng.byte()]);
         let constants = vec![Constant::new(b"K", *rng.pick(&[2, 6]), value)];
-        lib.descriptors.push(Descriptor { constants, ..Descriptor::default() });
-        entry.descriptor = Some(lib.descriptors.len() - 1);
+        lib.resolve(i, Descriptor { constants, ..Descriptor::default() });
     }
-    let built = lib.build();
-    let mut bytes = built.bytes.clone();
-    let values = built.spots.iter().filter(|spot| spot.field == Field::ConstantValue);
+    let mut built = lib.build();
+    let is_value = |spot: &&Spot| spot.field == Field::ConstantValue;
+    let values: Vec<usize> = built.spots.iter().filter(is_value).map(|spot| spot.at).collect();
     let shift = rng.below(count);
-    for (i, value) in values.enumerate() {
-        let pointer = (value.at - built.pool + 1) as u32;
-        let entry = built.entry((i + shift) % count);
-        bytes[entry + 16..][..4].copy_from_slice(&pointer.to_be_bytes());
+    for (i, value) in values.into_iter().enumerate() {
+        built.point(built.entry((i + shift) % count) + 16, value);
     }
-    bytes
+    built.bytes
+}
+
+/// Each entry is the parent of the one before it, or after it.
+pub fn chain(count: usize, upward: bool) -> Typelib {
+    let mut lib = Typelib::plain(count);
+    for i in 0..count {
+        lib.resolve(i, Descriptor::below(if upward { (i + 2) % (count + 1) } else { i }));
+    }
+    lib
 }
 
 /// Good typelibs at the edges of what is allowed.
 pub fn special() -> Vec<Typelib> {
     let empty = Typelib::default();
-    let of = |entries: Vec<Entry>| Typelib { entries, ..Typelib::default() };
-    let with = |methods: Vec<Method>| single(Descriptor { methods, ..Descriptor::default() });
+    let with = |methods: Vec<Method>| Typelib::single(Descriptor::of(methods));
     // 33 bytes, and no entries with gaps, annotations and an unused pool.
     let mut all = vec![empty.clone()];
     for (tail, pool_gap) in
@@ -551,15 +501,14 @@ pub fn special() -> Vec<Typelib> {
     for (first, second) in [(0, 0), (0, 1), (1, 0), (127, 128), (65_535, 0), (300, 65_535)] {
         let annotations = vec![Annotation::Texts(text(first), text(second)), Annotation::Empty];
         all.push(Typelib { annotations: annotations.clone(), ..empty.clone() });
-        all.push(Typelib { annotations, ..of(entries(2)) });
+        all.push(Typelib { annotations, ..Typelib::plain(2) });
     }
     all.push(Typelib { annotations: vec![Annotation::Empty; 1000], ..empty.clone() });
     // The directory farther on.
-    for directory_gap in [1, 2, 7, 63, 64, 1000] {
-        all.push(Typelib { directory_gap, junk: 9, ..of(entries(3)) });
-    }
+    let farther = |directory_gap| Typelib { directory_gap, junk: 9, ..Typelib::plain(3) };
+    all.extend([1, 2, 7, 63, 64, 1000].map(farther));
     // Identifiers of 1 and 255 bytes, also as namespaces; keys that join to the same text.
-    let mut names = of(entries(6));
+    let mut names = Typelib::plain(6);
     let longest = "x".repeat(MAX_IDENTIFIER);
     let keys =
         [("", &*longest), (&longest, "x"), ("ab", "c"), ("a", "bc"), ("", "abc"), ("c", "ab")];
@@ -569,30 +518,28 @@ pub fn special() -> Vec<Typelib> {
     for sharing in [Sharing::None, Sharing::Equal, Sharing::Overlap] {
         all.push(Typelib { sharing, ..names.clone() });
     }
-    all.push(filled_to(&names, 60_000));
+    all.push(names.filled_to(60_000));
 
     // The greatest counts.
-    let mut many = of(entries(MAX_INTERFACES));
-    all.extend([many.clone(), filled_to(&many, MAX_FILE)]);
+    let mut many = Typelib::plain(MAX_INTERFACES);
+    all.extend([many.clone(), many.filled_to(MAX_FILE)]);
     many.entries[..500].iter_mut().for_each(|entry| entry.iid = [0; 16]);
     all.push(many.clone());
     for i in 500..MAX_INTERFACES {
-        let parent = if i == 500 { 7 } else { i as u16 };
-        let d = many.add(Descriptor { parent, ..Descriptor::default() });
-        many.entries[i].descriptor = Some(d);
+        many.resolve(i, Descriptor::below(if i == 500 { 7 } else { i }));
     }
     all.extend([many.clone(), Typelib { sharing: Sharing::Equal, ..many }]);
     let methods = with(vec![Method::plain(0, b"m"); MAX_METHODS]);
     let constants = vec![Constant::new(b"k", 2, 7); MAX_CONSTANTS];
-    let constants = single(Descriptor { constants, ..Descriptor::default() });
+    let constants = Typelib::single(Descriptor { constants, ..Descriptor::default() });
     for sharing in [Sharing::None, Sharing::Equal] {
         all.push(Typelib { sharing, ..methods.clone() });
         all.push(Typelib { sharing, ..constants.clone() });
     }
     let mut both = methods;
     both.descriptors[0].constants = constants.descriptors[0].constants.clone();
-    all.push(filled_to(&both, MAX_FILE));
-    all.extend([MAX_FILE, MAX_FILE - 1].map(|length| filled_to(&empty, length)));
+    all.push(both.filled_to(MAX_FILE));
+    all.extend([MAX_FILE, MAX_FILE - 1].map(|length| empty.filled_to(length)));
     all.push(Typelib { pool_gap: MAX_FILE - 33, ..empty });
 
     // Many accessors: pairs one after another, then getters and setters without partner.
@@ -624,9 +571,8 @@ pub fn special() -> Vec<Typelib> {
         let prefix = if needs_pointer(tag) { POINTER | tag } else { tag };
         let method = |depth: usize| {
             let of = Type::nested(depth, 2, prefix, fitting(tag, 1, 2));
-            let types = [of.clone(), Type::simple(POINTER | IID), Type::simple(UINT32)];
-            let mut arguments = types.map(|of| Parameter::new(IN, of)).to_vec();
-            arguments[0].flags = IN | OUT;
+            let simple = [POINTER | IID, UINT32].map(|leaf| Parameter::simple(IN, leaf));
+            let arguments = [&[Parameter::new(IN | OUT, of.clone())][..], &simple].concat();
             Method::new(NOT_XPCOM, b"f", arguments, Parameter::new(0, of))
         };
         let depths = if tag == ARRAY { 0..=7 } else { 0..=8 };
@@ -634,15 +580,7 @@ pub fn special() -> Vec<Typelib> {
     }
 
     // A long chain of parents in both directions.
-    for down in [false, true] {
-        let mut chain = of(entries(200));
-        for i in 0..200 {
-            let parent = if down { (i + 2) % 201 } else { i };
-            let d = chain.add(Descriptor { parent: parent as u16, ..Descriptor::default() });
-            chain.entries[i].descriptor = Some(d);
-        }
-        all.push(chain);
-    }
+    all.extend([false, true].map(|upward| chain(200, upward)));
     let rng = &mut Rng::new(1);
     all.extend((0..6).map(|_| random(rng, LARGE)));
     all

@@ -1,8 +1,7 @@
 //! Good files that are hard on a check, and a large ordinary one.
 
-use super::builder::*;
-use super::generate::{entries, iid, index_tail, single, LETTERS};
-use super::rng::Rng;
+use super::generate::{chain, iid, index_tail, LETTERS};
+use super::{builder::*, rng::Rng};
 
 /// A file and what is hard about it.
 pub struct Case {
@@ -12,13 +11,14 @@ pub struct Case {
 }
 
 pub fn cases() -> Vec<Case> {
+    let [up, down] = chains();
     let all = [
         ("a: 1,024 entries share one descriptor", shared_descriptor(false)),
         ("b: arrays whose numbers name the last argument", deep_arguments()),
         ("c: getters and setters of nearly one name", near_names()),
         ("d: descriptors that overlap, long methods", overlapping(true)),
-        ("e: a chain of 1,024 parents, upward", chain(true).bytes()),
-        ("e: a chain of 1,024 parents, downward", chain(false).bytes()),
+        ("e: a chain of 1,024 parents, upward", up),
+        ("e: a chain of 1,024 parents, downward", down),
         ("f: keys with a long common start", near_keys(0).bytes()),
         ("g: an ordinary file", ordinary()),
         ("h: descriptors that overlap, accessors", overlapping(false)),
@@ -44,8 +44,7 @@ fn long_name(number: usize) -> Vec<u8> {
 /// whose key is as long as can be in (i).
 fn shared_descriptor(long_key: bool) -> Vec<u8> {
     let argument = Parameter::new(IN, Type::with(POINTER | INTERFACE, [4, 0, 0]));
-    let result = Parameter::new(0, Type::simple(VOID));
-    let method = Method::new(0, b"m", vec![argument; 242], result);
+    let method = Method::new(0, b"m", vec![argument; 242], Parameter::simple(0, VOID));
     let d = Descriptor {
         methods: vec![method; MAX_METHODS],
         constants: vec![Constant::new(b"k", 2, 1); MAX_CONSTANTS],
@@ -63,16 +62,16 @@ fn shared_descriptor(long_key: bool) -> Vec<u8> {
 fn deep_method(flags: u8, name: &[u8], result: Parameter) -> Method {
     let deep = Type::nested(8, 254, POINTER | SIZED_STRING, [254, 254, 0]);
     let mut arguments = vec![Parameter::new(IN, deep); 254];
-    arguments.push(Parameter::new(IN, Type::simple(UINT32)));
+    arguments.push(Parameter::simple(IN, UINT32));
     Method::new(flags, name, arguments, result)
 }
 
 /// (b) As many such methods as fit.
 fn deep_arguments() -> Vec<u8> {
-    let method = deep_method(0, b"m", Parameter::new(0, Type::simple(VOID)));
-    let count = (MAX_FILE - 100) / method.size();
-    let methods = vec![method; count];
-    let lib = single(Descriptor { methods, ..Descriptor::default() });
+    let method = deep_method(0, b"m", Parameter::simple(0, VOID));
+    let size = Descriptor::of(vec![method.clone()]).size() - Descriptor::default().size();
+    let count = (MAX_FILE - 100) / size;
+    let lib = Typelib::single(Descriptor::of(vec![method; count]));
     Typelib { sharing: Sharing::Equal, ..lib }.bytes()
 }
 
@@ -82,11 +81,9 @@ fn deep_arguments() -> Vec<u8> {
 fn near_names() -> Vec<u8> {
     let mut methods = vec![Method::plain(GETTER, &long_name(0)); 512];
     methods.extend(vec![Method::plain(SETTER, &long_name(1)); 512]);
-    let d = Descriptor { methods, ..Descriptor::default() };
-    let mut lib = Typelib { entries: entries(MAX_INTERFACES), ..Typelib::default() };
-    lib.sharing = Sharing::Equal;
-    let fixed = Typelib { descriptors: Vec::new(), ..lib.clone() }.bytes().len();
-    let count = (MAX_FILE - fixed - 2 * (MAX_IDENTIFIER + 1)) / d.size();
+    let d = Descriptor::of(methods);
+    let mut lib = Typelib { sharing: Sharing::Equal, ..Typelib::plain(MAX_INTERFACES) };
+    let count = (MAX_FILE - lib.bytes().len() - 2 * (MAX_IDENTIFIER + 1)) / d.size();
     for (i, entry) in lib.entries.iter_mut().enumerate() {
         entry.descriptor = Some(i % count);
     }
@@ -122,22 +119,15 @@ fn overlapping(long: bool) -> Vec<u8> {
             }
         });
     }
-    let mut lib = Typelib { entries: entries(MAX_INTERFACES), ..Typelib::default() };
-    lib.sharing = Sharing::Equal;
-    let parent = ROOT as u16;
-    let outer = lib.add(Descriptor { parent, methods, ..Descriptor::default() });
-    let root = lib.add(Descriptor::default());
-    lib.entries.iter_mut().for_each(|entry| entry.descriptor = Some(outer));
-    lib.entries[ROOT - 1].descriptor = Some(root);
-    let built = lib.build();
-    let mut bytes = built.bytes.clone();
-    let heads = built.placed[outer].methods[1..].iter().map(|end| end - 4);
+    let mut lib = sharing(MAX_INTERFACES, Descriptor { methods, ..Descriptor::below(ROOT) });
+    lib.resolve(ROOT - 1, Descriptor::default());
+    let mut built = lib.build();
+    let ends = built.placed[0].methods[1..].to_vec();
     let others = (1..MAX_INTERFACES).filter(|i| *i != ROOT - 1);
-    for (i, head) in others.zip(heads) {
-        let pointer = (head - built.pool + 1) as u32;
-        bytes[built.entry(i) + 24..][..4].copy_from_slice(&pointer.to_be_bytes());
+    for (i, end) in others.zip(ends) {
+        built.point(built.entry(i) + 24, end - 4);
     }
-    bytes
+    built.bytes
 }
 
 /// A file of at most 50 KB whose listing has 540 KB for each entry: the entries share a
@@ -153,33 +143,21 @@ pub fn long_listing(count: usize) -> Vec<u8> {
 
 /// Entries that share a descriptor.
 pub fn sharing(count: usize, d: Descriptor) -> Typelib {
-    let mut lib =
-        Typelib { entries: entries(count), sharing: Sharing::Equal, ..Typelib::default() };
+    let mut lib = Typelib { sharing: Sharing::Equal, ..Typelib::plain(count) };
     lib.entries.iter_mut().for_each(|entry| entry.descriptor = Some(0));
     lib.descriptors.push(d);
     lib
 }
 
-/// Chains of 1,024 parents, upward and downward.
+/// (e) Chains of 1,024 parents, upward and downward.
 pub fn chains() -> [Vec<u8>; 2] {
-    [chain(true).bytes(), chain(false).bytes()]
-}
-
-/// (e) Each entry is the parent of the one before it, or after it.
-fn chain(upward: bool) -> Typelib {
-    let mut lib = Typelib { entries: entries(MAX_INTERFACES), ..Typelib::default() };
-    for i in 0..MAX_INTERFACES {
-        let parent = if upward { (i + 2) % (MAX_INTERFACES + 1) } else { i };
-        let d = Descriptor { parent: parent as u16, ..Descriptor::default() };
-        lib.entries[i].descriptor = Some(lib.add(d));
-    }
-    lib
+    [true, false].map(|upward| chain(MAX_INTERFACES, upward).bytes())
 }
 
 /// (f) Names of 255 letters with 253 in common and one namespace, stored anew for each. With 254
 /// in common only 64 names can differ.
 fn near_keys(namespace: usize) -> Typelib {
-    let mut lib = Typelib { entries: entries(MAX_INTERFACES), ..Typelib::default() };
+    let mut lib = Typelib::plain(MAX_INTERFACES);
     for (i, entry) in lib.entries.iter_mut().enumerate() {
         entry.name = long_name(i);
         entry.namespace = Some(long_name(namespace));
@@ -196,7 +174,7 @@ pub fn linked() -> [(&'static str, [Vec<u8>; 2]); 2] {
     }
     // Every step up leads from what one file resolves to what the other does.
     let half = |left_out: usize| {
-        let mut lib = chain(true);
+        let mut lib = chain(MAX_INTERFACES, true);
         lib.entries.iter_mut().skip(left_out).step_by(2).for_each(|entry| entry.descriptor = None);
         lib.bytes()
     };
@@ -224,8 +202,7 @@ pub fn interfaces(count: usize) -> Typelib {
         "on", "update",
     ];
     let rng = &mut Rng::new(500);
-    let mut lib = Typelib { entries: entries(count), ..Typelib::default() };
-    let n = lib.entries.len();
+    let (mut lib, n) = (Typelib::plain(count), count);
     let part = |rng: &mut Rng| *rng.pick(&PARTS);
     for i in 0..n {
         let (first, second) = (part(rng), part(rng));
@@ -237,8 +214,8 @@ pub fn interfaces(count: usize) -> Typelib {
             // Named only by others.
             continue;
         }
-        let mut d = Descriptor { flags: 0x80, ..Descriptor::default() };
-        d.parent = if rng.percent(20) { 0 } else { rng.below(i + 1) as u16 };
+        let parent = if rng.percent(20) { 0 } else { rng.below(i + 1) };
+        let mut d = Descriptor { flags: 0x80, ..Descriptor::below(parent) };
         for _ in 0..rng.below(20) {
             let name = format!("{}_{}", part(rng), part(rng)).to_uppercase();
             let value = rng.below(0x8000) as u32;
@@ -246,29 +223,26 @@ pub fn interfaces(count: usize) -> Typelib {
         }
         let count = rng.range(20, 60);
         while d.methods.len() < count {
-            let flag = if rng.percent(3) { HIDDEN } else { 0 };
-            let void = || Parameter::new(0, Type::simple(UINT32));
+            let (flag, position) = (if rng.percent(3) { HIDDEN } else { 0 }, d.methods.len());
+            let mut call = |flags: u8, name: &str, arguments: Vec<Parameter>| {
+                let result = Parameter::simple(0, UINT32);
+                d.methods.push(Method::new(flags | flag, name.as_bytes(), arguments, result));
+            };
             if rng.percent(45) {
-                let position = d.methods.len();
-                let name =
-                    format!("{}{}{}{position}", part(rng).to_lowercase(), part(rng), part(rng));
+                let start = part(rng).to_lowercase();
+                let name = format!("{start}{}{}{position}", part(rng), part(rng));
                 let of = plain_type(rng, n);
-                let value = Parameter::new(OUT | RETVAL, of.clone());
-                let getter = Method::new(GETTER | flag, name.as_bytes(), vec![value], void());
-                d.methods.push(getter);
+                call(GETTER, &name, vec![Parameter::new(OUT | RETVAL, of.clone())]);
                 if rng.percent(50) {
-                    let value = Parameter::new(IN, of);
-                    let setter = Method::new(SETTER | flag, name.as_bytes(), vec![value], void());
-                    d.methods.push(setter);
+                    call(SETTER, &name, vec![Parameter::new(IN, of)]);
                 }
             } else {
                 let third = if rng.percent(50) { part(rng) } else { "" };
                 let name = format!("{}{}{}{third}", rng.pick(&VERBS), part(rng), part(rng));
-                let arguments = ordinary_arguments(rng, n);
-                d.methods.push(Method::new(flag, name.as_bytes(), arguments, void()));
+                call(0, &name, ordinary_arguments(rng, n));
             }
         }
-        lib.entries[i].descriptor = Some(lib.add(d));
+        lib.resolve(i, d);
     }
     lib
 }
@@ -287,19 +261,17 @@ fn plain_type(rng: &mut Rng, n: usize) -> Type {
 }
 
 fn ordinary_arguments(rng: &mut Rng, n: usize) -> Vec<Parameter> {
-    let mut arguments = Vec::new();
-    for _ in 0..rng.below(7) {
-        arguments.push(Parameter::new(IN, plain_type(rng, n)));
-    }
+    let plain = 0..rng.below(7);
+    let mut arguments: Vec<_> = plain.map(|_| Parameter::new(IN, plain_type(rng, n))).collect();
     let next = arguments.len() as u8;
     match rng.below(12) {
         0 => {
-            arguments.push(Parameter::new(IN, Type::simple(POINTER | REFERENCE | IID)));
+            arguments.push(Parameter::simple(IN, POINTER | REFERENCE | IID));
             let of = Type::with(POINTER | INTERFACE_IS, [next, 0, 0]);
             arguments.push(Parameter::new(OUT | RETVAL, of));
         }
         1 => {
-            arguments.push(Parameter::new(OUT, Type::simple(UINT32)));
+            arguments.push(Parameter::simple(OUT, UINT32));
             let of = Type::nested(1, next, POINTER | 17, [0; 3]);
             arguments.push(Parameter::new(OUT | RETVAL, of));
         }

@@ -1,8 +1,6 @@
 //! A typelib's model read back from its bytes, its chains, and what its descriptors mean.
 
-use super::builder::*;
-use super::generate::index_tail;
-use crate::program::questions::Kind;
+use super::{builder::*, generate::index_tail};
 
 /// The model of an accepted file, every entry with a descriptor of its own.
 pub fn read(file: &[u8]) -> Typelib {
@@ -34,10 +32,7 @@ pub fn read(file: &[u8]) -> Typelib {
         let mut d = Descriptor { parent: take(2) as u16, ..Descriptor::default() };
         for _ in 0..take(2) {
             let mut method = Method::plain(take(1) as u8, &name(take(4)));
-            let arguments = take(1);
-            for _ in 0..arguments {
-                method.arguments.push(parameter(&mut take));
-            }
+            method.arguments = (0..take(1)).map(|_| parameter(&mut take)).collect();
             method.result = parameter(&mut take);
             d.methods.push(method);
         }
@@ -89,14 +84,6 @@ pub fn descriptor(lib: &Typelib, index: usize) -> &Descriptor {
     &lib.descriptors[lib.entries[index - 1].descriptor.unwrap()]
 }
 
-pub fn is_kind(flags: u8, kind: Kind) -> bool {
-    match kind {
-        Kind::Getter => flags & GETTER != 0,
-        Kind::Setter => flags & SETTER != 0,
-        Kind::Plain => flags & (GETTER | SETTER) == 0,
-    }
-}
-
 /// Namespace, nothing for the default, and name.
 pub type KeyOf = (Option<Vec<u8>>, Vec<u8>);
 
@@ -131,67 +118,25 @@ pub fn index_of(of: &Type) -> usize {
 /// The indexes that a descriptor holds, without a parent of 0.
 pub fn references(d: &Descriptor) -> Vec<usize> {
     let mut all = Vec::from_iter((d.parent != 0).then_some(usize::from(d.parent)));
-    for method in &d.methods {
-        for parameter in method.arguments.iter().chain([&method.result]) {
-            if parameter.of.leaf & TAG == INTERFACE {
-                all.push(index_of(&parameter.of));
-            }
-        }
-    }
+    let parameters = d.methods.iter().flat_map(|m| m.arguments.iter().chain([&m.result]));
+    let interfaces = parameters.map(|p| &p.of).filter(|of| of.leaf & TAG == INTERFACE);
+    all.extend(interfaces.map(index_of));
     all
 }
 
-/// What a descriptor means, piece by piece.
-#[derive(PartialEq, Eq)]
-enum Piece {
-    Number(usize),
-    Name(Vec<u8>),
-    Interface(KeyOf),
-}
-
-fn meaning(lib: &Typelib, d: &Descriptor) -> Vec<Piece> {
-    use Piece::{Interface, Name, Number};
-    let interface = |index: usize| Interface(key(&lib.entries[index - 1]));
-    let mut pieces = vec![Number(d.methods.len()), Number(d.flags.into())];
-    if d.parent != 0 {
-        pieces.push(interface(d.parent.into()));
-    }
-    for method in &d.methods {
-        pieces.extend([Number(method.flags.into()), Name(method.name.clone())]);
-        pieces.push(Number(method.arguments.len()));
-        for parameter in method.arguments.iter().chain([&method.result]) {
-            pieces.push(Number(parameter.flags.into()));
-            let of = &parameter.of;
-            let bytes = of.arrays.iter().flatten().chain([&of.leaf]);
-            pieces.extend(bytes.map(|byte| Number((*byte).into())));
-            match of.leaf & TAG {
-                INTERFACE => pieces.push(interface(index_of(of))),
-                tag => {
-                    let numbers = of.tail[..tail(tag)].iter();
-                    pieces.extend(numbers.map(|number| Number((*number).into())));
-                }
-            }
-        }
-    }
-    for constant in &d.constants {
-        pieces.extend([Name(constant.name.clone()), Number(constant.kind.into())]);
-        pieces.push(Number(match value_size(constant.kind) {
-            Some(2) => (constant.value & 0xffff) as usize,
-            _ => constant.value as usize,
-        }));
-    }
-    pieces
-}
-
 /// Whether two accepted files mean the same: the same entries with the same IIDs and descriptors.
+/// Both are as `read` gives them.
 pub fn same_meaning(first: &Typelib, second: &Typelib) -> bool {
-    let same = |entry: &Entry| {
-        let other = second.entries.iter().find(|other| key(other) == key(entry));
-        other.is_some_and(|other| {
-            let mine = entry.descriptor.map(|d| meaning(first, &first.descriptors[d]));
-            let theirs = other.descriptor.map(|d| meaning(second, &second.descriptors[d]));
-            entry.iid == other.iid && mine == theirs
-        })
+    let meaning = |lib: &Typelib| {
+        let mut order: Vec<usize> = (0..lib.entries.len()).collect();
+        order.sort_by_key(|i| key(&lib.entries[*i]));
+        let place = |index: usize| 1 + order.iter().position(|i| i + 1 == index).unwrap();
+        let of = |d: usize| renumbered(&lib.descriptors[d], &place);
+        let entry = |i: &usize| {
+            let entry = &lib.entries[*i];
+            (key(entry), entry.iid, entry.descriptor.map(of))
+        };
+        order.iter().map(entry).collect::<Vec<_>>()
     };
-    first.entries.len() == second.entries.len() && first.entries.iter().all(same)
+    meaning(first) == meaning(second)
 }

@@ -1,10 +1,7 @@
 //! Files to be linked. Those of one world agree with one another; then conflicts are put in.
 
-use super::builder::*;
-use super::generate::{self, entries, index_tail};
-use super::hostile::sharing;
-use super::model::{index_of, key, references, renumbered};
-use super::rng::Rng;
+use super::model::{descriptor, index_of, key, references, renumbered};
+use super::{builder::*, generate, generate::index_tail, hostile::sharing, rng::Rng};
 use crate::program::check::check;
 use crate::tally::numbered;
 use std::collections::HashMap;
@@ -12,30 +9,16 @@ use std::collections::HashMap;
 /// The typelib with its entries in another order, some left out: by position from 0.
 fn reordered(lib: &Typelib, order: &[usize]) -> Typelib {
     let mut new = vec![0; lib.entries.len() + 1];
-    for (i, old) in order.iter().enumerate() {
-        new[old + 1] = i + 1;
-    }
-    let mut out = lib.clone();
-    out.entries = order.iter().map(|old| lib.entries[*old].clone()).collect();
-    let kept: Vec<usize> = out.entries.iter().filter_map(|entry| entry.descriptor).collect();
-    for (d, descriptor) in out.descriptors.iter_mut().enumerate() {
-        *descriptor = match kept.contains(&d) {
-            true => renumbered(&lib.descriptors[d], &|index| new[index]),
-            false => Descriptor::default(),
-        };
-    }
+    order.iter().zip(1..).for_each(|(old, index)| new[old + 1] = index);
+    let mut out = Typelib { entries: Vec::new(), descriptors: Vec::new(), ..lib.clone() };
     // Descriptors that none leads to would only take room.
     let mut places = HashMap::new();
-    let mut descriptors = Vec::new();
-    for entry in &mut out.entries {
-        entry.descriptor = entry.descriptor.map(|d| {
-            *places.entry(d).or_insert_with(|| {
-                descriptors.push(out.descriptors[d].clone());
-                descriptors.len() - 1
-            })
-        });
+    for old in order {
+        let mut entry = lib.entries[*old].clone();
+        let mut place = |d: usize| out.add(renumbered(&lib.descriptors[d], &|index| new[index]));
+        entry.descriptor = entry.descriptor.map(|d| *places.entry(d).or_insert_with(|| place(d)));
+        out.entries.push(entry);
     }
-    out.descriptors = descriptors;
     out
 }
 
@@ -71,8 +54,9 @@ pub fn endless(rng: &mut Rng) -> (Typelib, Typelib) {
     loop {
         let mut world = world(rng);
         for i in 0..world.entries.len() {
-            let d = world.entries[i].descriptor.map(|d| world.descriptors[d].clone());
-            world.entries[i].descriptor = d.map(|d| world.add(d));
+            if let Some(d) = world.entries[i].descriptor {
+                world.resolve(i, world.descriptors[d].clone());
+            }
         }
         let mut cycle: Vec<usize> = (0..world.entries.len()).collect();
         cycle.retain(|i| world.entries[*i].descriptor.is_some());
@@ -98,32 +82,25 @@ pub fn endless(rng: &mut Rng) -> (Typelib, Typelib) {
         if rng.percent(20) {
             in_first.pop();
         }
-        let not_in = |full: &[usize]| -> Vec<usize> {
-            cycle.iter().copied().filter(|i| !full.contains(i)).collect()
-        };
-        let first = view_with(&world, rng, &in_first, &not_in(&in_first));
-        let second = view_with(&world, rng, &in_second, &not_in(&in_second));
-        return (first, second);
+        let first = view_with(&world, rng, &in_first, &cycle);
+        return (first, view_with(&world, rng, &in_second, &cycle));
     }
 }
 
-/// A view in which some entries, by position, are resolved and some are not.
-fn view_with(world: &Typelib, rng: &mut Rng, full: &[usize], bare: &[usize]) -> Typelib {
+/// A view in which of some entries, by position, these are resolved and the others are not.
+fn view_with(world: &Typelib, rng: &mut Rng, full: &[usize], some: &[usize]) -> Typelib {
     let n = world.entries.len();
     let density = *rng.pick(&[20, 50, 80, 100]);
     let resolving = *rng.pick(&[30, 60, 100]);
-    let mut resolved: Vec<bool> = world
-        .entries
-        .iter()
-        .map(|entry| entry.descriptor.is_some() && rng.percent(density) && rng.percent(resolving))
-        .collect();
-    full.iter().for_each(|i| resolved[*i] = true);
-    bare.iter().for_each(|i| resolved[*i] = false);
+    let mut resolves = |entry: &Entry| {
+        entry.descriptor.is_some() && rng.percent(density) && rng.percent(resolving)
+    };
+    let mut resolved: Vec<bool> = world.entries.iter().map(&mut resolves).collect();
+    some.iter().for_each(|i| resolved[*i] = full.contains(i));
     let mut included: Vec<bool> = resolved.iter().map(|r| *r || rng.percent(density)).collect();
     for i in (0..n).filter(|i| resolved[*i]) {
-        for index in references(&world.descriptors[world.entries[i].descriptor.unwrap()]) {
-            included[index - 1] = true;
-        }
+        let references = references(descriptor(world, i + 1));
+        references.into_iter().for_each(|index| included[index - 1] = true);
     }
     let minor = if world.minor == 0 { rng.below(2) as u8 } else { 1 };
     let mut lib = generate::layout(rng, minor);
@@ -153,9 +130,12 @@ pub fn empty(rng: &mut Rng) -> Typelib {
     generate::layout(rng, minor)
 }
 
+/// How a conflict was made, if it could be.
+type Made = Option<&'static str>;
+
 /// Puts a conflict between the files into the second, which stays good. How it was done, if it
 /// could be.
-pub fn conflict(first: &Typelib, second: &mut Typelib, rng: &mut Rng) -> Option<&'static str> {
+pub fn conflict(first: &Typelib, second: &mut Typelib, rng: &mut Rng) -> Made {
     let mut changed = second.clone();
     let made = match rng.below(6) {
         0 | 1 => another_iid(first, &mut changed, rng),
@@ -189,6 +169,11 @@ fn forced(number: u32, first: &Typelib, second: &Typelib) -> Option<(Typelib, Ty
         }
         _ => conflict_of_descriptors(number, [x, y], &mut first, &mut second),
     }
+    both_good(first, second)
+}
+
+/// The two with their entries by IID, if both are good.
+fn both_good(first: Typelib, second: Typelib) -> Option<(Typelib, Typelib)> {
     let (first, second) = (sorted(&first), sorted(&second));
     let good = check(&first.bytes()).is_ok() && check(&second.bytes()).is_ok();
     good.then_some((first, second))
@@ -203,17 +188,14 @@ fn conflict_of_descriptors(
     second: &mut Typelib,
 ) {
     if number == refusal::TWO_DESCRIPTORS {
-        let d = Descriptor { flags: SCRIPTABLE, ..Descriptor::default() };
-        first.entries[x.0].descriptor = Some(first.add(d));
-        second.entries[x.1].descriptor = Some(second.add(Descriptor::default()));
-        return;
+        first.resolve(x.0, Descriptor { flags: SCRIPTABLE, ..Descriptor::default() });
+        return second.resolve(x.1, Descriptor::default());
     }
     // In one file the first below the other, in the other file the other below the first.
-    let below = |i: usize| Descriptor { parent: i as u16 + 1, ..Descriptor::default() };
-    first.entries[x.0].descriptor = Some(first.add(below(y.0)));
+    first.resolve(x.0, Descriptor::below(y.0 + 1));
     first.entries[y.0].descriptor = None;
     second.entries[x.1].descriptor = None;
-    second.entries[y.1].descriptor = Some(second.add(below(x.1)));
+    second.resolve(y.1, Descriptor::below(x.1 + 1));
 }
 
 /// The refusals of which both files are accepted.
@@ -232,43 +214,36 @@ pub fn spread(rng: &mut Rng) -> Vec<Pair> {
     for position in 0..COUNT - 1 {
         let world = generate::wide(rng, COUNT);
         for number in CONFLICTS {
-            let made = SPREAD[number as usize];
             let (mut first, mut second) = (relaid(&world, rng), relaid(&world, rng));
-            conflict_at(number, position, &mut first, &mut second);
-            let (mut first, mut second) = (sorted(&first), sorted(&second));
+            let places = [position, position + 1].map(|i| (i, i));
+            match number {
+                refusal::TWO_IIDS => second.entries[position].iid[0] ^= 1,
+                // The second has the IID under another key.
+                refusal::TWO_KEYS => second.entries[position].name = b"another_key".to_vec(),
+                _ => conflict_of_descriptors(number, places, &mut first, &mut second),
+            }
             if position % 2 == 1 {
                 std::mem::swap(&mut first, &mut second);
             }
-            if check(&first.bytes()).is_ok() && check(&second.bytes()).is_ok() {
-                pairs.push((made, first, second));
-            }
+            let made = both_good(first, second).map(|(a, b)| (SPREAD[number as usize], a, b));
+            pairs.extend(made);
         }
     }
     pairs
 }
 
-/// Puts a conflict of this number, 21 to 24, at a position that both files have.
-fn conflict_at(number: u32, position: usize, first: &mut Typelib, second: &mut Typelib) {
-    match number {
-        refusal::TWO_IIDS => second.entries[position].iid[0] ^= 1,
-        // The second has the IID under another key.
-        refusal::TWO_KEYS => second.entries[position].name = b"another_key".to_vec(),
-        _ => {
-            let places = [position, position + 1].map(|i| (i, i));
-            conflict_of_descriptors(number, places, first, second);
-        }
-    }
-}
-
 /// Three files and how they were made.
 pub type Triple = (&'static str, [Typelib; 3]);
 
+/// Some of the plain entries.
+fn part(from: usize, to: usize) -> Typelib {
+    let mut lib = Typelib::plain(to);
+    lib.entries.drain(..from);
+    lib
+}
+
 /// Triples whose union is about the greatest sizes.
 pub fn edge_triples() -> Vec<Triple> {
-    let part = |from: usize, to: usize| {
-        let entries = entries(to)[from..].to_vec();
-        Typelib { entries, ..Typelib::default() }
-    };
     let mut triples = vec![
         ("1,024 entries in the end", [part(0, 600), part(300, 1_000), part(900, 1_024)]),
         ("1,025 entries in the end", [part(0, 600), part(300, 1_000), part(900, 1_025)]),
@@ -314,7 +289,7 @@ fn common(first: &Typelib, second: &Typelib) -> Vec<(usize, usize)> {
     second.entries.iter().enumerate().filter_map(pair).collect()
 }
 
-fn another_iid(first: &Typelib, second: &mut Typelib, rng: &mut Rng) -> Option<&'static str> {
+fn another_iid(first: &Typelib, second: &mut Typelib, rng: &mut Rng) -> Made {
     let mut both = common(first, second);
     both.retain(|(i, j)| first.entries[*i].iid != [0; 16] && second.entries[*j].iid != [0; 16]);
     let count = rng.range(1, 2).min(both.len());
@@ -330,7 +305,7 @@ fn another_iid(first: &Typelib, second: &mut Typelib, rng: &mut Rng) -> Option<&
     (count > 0).then_some("another IID")
 }
 
-fn taken_iid(first: &Typelib, second: &mut Typelib, rng: &mut Rng) -> Option<&'static str> {
+fn taken_iid(first: &Typelib, second: &mut Typelib, rng: &mut Rng) -> Made {
     let with_iid: Vec<&Entry> = first.entries.iter().filter(|e| e.iid != [0; 16]).collect();
     if with_iid.is_empty() || second.entries.is_empty() {
         return None;
@@ -362,22 +337,15 @@ fn taken_iid(first: &Typelib, second: &mut Typelib, rng: &mut Rng) -> Option<&'s
 }
 
 /// Changes one thing in the descriptor of an entry, as often as possible one that both resolve.
-fn another_descriptor(
-    first: &Typelib,
-    second: &mut Typelib,
-    rng: &mut Rng,
-) -> Option<&'static str> {
+fn another_descriptor(first: &Typelib, second: &mut Typelib, rng: &mut Rng) -> Made {
     let is_resolved = |lib: &Typelib, i: usize| lib.entries[i].descriptor.is_some();
-    let both: Vec<usize> = common(first, second)
-        .into_iter()
-        .filter(|(i, j)| is_resolved(first, *i) && is_resolved(second, *j))
-        .map(|(_, j)| j)
-        .collect();
-    let j = if both.is_empty() { return None } else { *rng.pick(&both) };
+    let mut both = common(first, second);
+    both.retain(|(i, j)| is_resolved(first, *i) && is_resolved(second, *j));
+    let (_, j) = if both.is_empty() { return None } else { *rng.pick(&both) };
     let n = second.entries.len();
-    let mut d = second.descriptors[second.entries[j].descriptor.unwrap()].clone();
+    let mut d = descriptor(second, j + 1).clone();
     let made = change(&mut d, n, rng)?;
-    second.entries[j].descriptor = Some(second.add(d));
+    second.resolve(j, d);
     Some(made)
 }
 
@@ -388,30 +356,22 @@ fn other_index(index: usize, n: usize, rng: &mut Rng) -> usize {
 
 /// Changes one thing that is part of a descriptor's meaning. What can't be changed there becomes
 /// another reference, if it has one.
-fn change(d: &mut Descriptor, n: usize, rng: &mut Rng) -> Option<&'static str> {
+fn change(d: &mut Descriptor, n: usize, rng: &mut Rng) -> Made {
     let (methods, constants) = (d.methods.len(), d.constants.len());
     let kind = rng.below(20);
-    if kind < 5 {
-        let made = match kind {
-            0 => "interface flags",
-            1 if n > 1 => "another parent",
-            2 if d.parent != 0 => "no parent",
-            3 if methods < MAX_METHODS => "a method more",
-            4 if constants < MAX_CONSTANTS => "a constant more",
-            _ => "",
-        };
-        match made {
-            "interface flags" => d.flags ^= SCRIPTABLE,
-            "another parent" if d.parent == 0 => d.parent = rng.range(1, n) as u16,
-            "another parent" => d.parent = other_index(d.parent.into(), n, rng) as u16,
-            "no parent" => d.parent = 0,
-            "a method more" => d.methods.push(Method::plain(0, b"more")),
-            "a constant more" => d.constants.push(Constant::new(b"MORE", 5, 1)),
-            _ => {}
+    let (made, ()) = match kind {
+        0 => ("interface flags", d.flags ^= SCRIPTABLE),
+        1 if n > 1 && d.parent == 0 => ("another parent", d.parent = rng.range(1, n) as u16),
+        1 if n > 1 => ("another parent", d.parent = other_index(d.parent.into(), n, rng) as u16),
+        2 if d.parent != 0 => ("no parent", d.parent = 0),
+        3 if methods < MAX_METHODS => ("a method more", d.methods.push(Method::plain(0, b"more"))),
+        4 if constants < MAX_CONSTANTS => {
+            ("a constant more", d.constants.push(Constant::new(b"MORE", 5, 1)))
         }
-        if !made.is_empty() {
-            return Some(made);
-        }
+        _ => ("", ()),
+    };
+    if !made.is_empty() {
+        return Some(made);
     }
     if kind >= 15 && constants > 0 {
         return change_constant(&mut d.constants, kind, rng);
@@ -438,8 +398,7 @@ fn change(d: &mut Descriptor, n: usize, rng: &mut Rng) -> Option<&'static str> {
             ("a prefix", *prefix ^= *rng.pick(&[UNIQUE, REFERENCE]))
         }
         12 => {
-            let new = Parameter::new(IN, Type::simple(UINT32));
-            ("an argument more", m.arguments.insert(parameters - 1, new))
+            ("an argument more", m.arguments.insert(parameters - 1, Parameter::simple(IN, UINT32)))
         }
         _ => {
             let all = m.arguments.iter_mut().chain([&mut m.result]);
@@ -452,11 +411,7 @@ fn change(d: &mut Descriptor, n: usize, rng: &mut Rng) -> Option<&'static str> {
     Some(made)
 }
 
-fn change_constant(
-    constants: &mut Vec<Constant>,
-    kind: usize,
-    rng: &mut Rng,
-) -> Option<&'static str> {
+fn change_constant(constants: &mut Vec<Constant>, kind: usize, rng: &mut Rng) -> Made {
     let at = rng.below(constants.len());
     let c = &mut constants[at];
     let (made, ()) = match kind {
@@ -484,7 +439,7 @@ fn near(name: &[u8]) -> Vec<u8> {
 /// ones whose keys end in the letter.
 pub fn of_normal_length(length: usize, letter: char) -> Typelib {
     let methods = vec![Method::plain(0, &[b'm'; MAX_IDENTIFIER]); 300];
-    let d = Descriptor { methods, ..Descriptor::default() };
+    let d = Descriptor::of(methods);
     let each = d.size() + 256 * d.methods.len();
     let count = (length / each).min(12);
     let mut lib = sharing(count, d);
@@ -512,10 +467,6 @@ pub type Pair = (&'static str, Typelib, Typelib);
 /// Pairs whose union has about 1,024 entries, some with a conflict beside.
 pub fn wide(rng: &mut Rng) -> Vec<Pair> {
     let mut pairs = Vec::new();
-    let part = |from: usize, to: usize| {
-        let entries = entries(to)[from..].to_vec();
-        Typelib { entries, ..Typelib::default() }
-    };
     for (from, middle, to, made) in [
         (0, 600, 1_024, "union of 1,024"),
         (300, 1_000, 1_024, "union of 1,024"),
@@ -533,9 +484,8 @@ pub fn wide(rng: &mut Rng) -> Vec<Pair> {
         // With references: the second resolves what the first only names.
         let n = second.entries.len();
         for i in 0..n / 2 {
-            let parent = rng.range(n / 2 + 1, n) as u16;
-            let d = second.add(Descriptor { parent, ..Descriptor::default() });
-            second.entries[i].descriptor = Some(d);
+            let parent = rng.range(n / 2 + 1, n);
+            second.resolve(i, Descriptor::below(parent));
         }
         pairs.push((made, first.clone(), second.clone()));
         // IIDs only in one of them.

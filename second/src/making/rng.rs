@@ -1,5 +1,6 @@
 //! A small deterministic generator of numbers (splitmix64).
 
+#[derive(Default)]
 pub struct Rng(u64);
 
 impl Rng {

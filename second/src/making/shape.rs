@@ -1,26 +1,23 @@
 //! What an accepted file shows: how its entries inherit, how its types nest, and how its records
 //! lie in the pool.
 
-use super::builder::*;
-use super::model;
-use crate::program::accepted::{pair, Accepted};
-use crate::program::check::{accept, word};
+use super::{builder::*, model};
+use crate::program::{accepted::pair, accepted::Accepted, check::accept, check::word};
 use std::collections::{BTreeSet, HashMap, HashSet};
 
 /// The shapes of an accepted file, whose model this is.
 pub fn shapes(file: &[u8], lib: &Typelib) -> Vec<&'static str> {
     let accepted = accept(file).expect("an accepted file");
-    let mut all = Shapes { all: BTreeSet::new() };
+    let mut all = Shapes::default();
     all.entries(lib);
     all.inheritance(lib);
-    all.arrays(lib);
+    all.descriptors(lib);
     let mut records = records(&accepted);
     all.gaps(&accepted, &mut records);
     all.records(records);
-    all.sizes(lib);
     all.add(file.len() == MAX_FILE, "1,048,576 bytes");
     all.add(file[17] == 0, "minor 0");
-    all.all.into_iter().collect()
+    all.0.into_iter().collect()
 }
 
 /// A record of the pool.
@@ -74,15 +71,12 @@ fn annotations_end(file: &[u8]) -> usize {
     }
 }
 
-struct Shapes {
-    all: BTreeSet<&'static str>,
-}
+#[derive(Default)]
+struct Shapes(BTreeSet<&'static str>);
 
 impl Shapes {
     fn add(&mut self, is: bool, shape: &'static str) {
-        if is {
-            self.all.insert(shape);
-        }
+        self.0.extend(is.then_some(shape));
     }
 
     fn entries(&mut self, lib: &Typelib) {
@@ -104,23 +98,15 @@ impl Shapes {
         self.add(names.iter().any(|name| name.len() == MAX_IDENTIFIER), "a name of 255 letters");
     }
 
-    fn sizes(&mut self, lib: &Typelib) {
-        for d in &lib.descriptors {
-            self.add(d.methods.len() == MAX_METHODS, "1,024 methods in an interface");
-            self.add(d.constants.len() == MAX_CONSTANTS, "1,024 constants in an interface");
-            let most = d.methods.iter().map(|method| method.arguments.len()).max();
-            self.add(most == Some(255), "255 arguments");
-        }
-    }
-
     fn inheritance(&mut self, lib: &Typelib) {
         let parent = |entry: &Entry| entry.descriptor.map_or(0, |d| lib.descriptors[d].parent);
         let parents: Vec<usize> = lib.entries.iter().map(|e| parent(e).into()).collect();
-        let mut levels = vec![None; parents.len() + 1];
-        levels[0] = Some(0);
-        let most = (1..=parents.len()).map(|index| level(&parents, &mut levels, index)).max();
-        // The first level is the entry itself.
-        let most = most.unwrap_or(0).saturating_sub(1);
+        // Steps up from the entry itself.
+        let steps = |index: usize| {
+            let (resolved, unresolved) = model::chain(lib, index);
+            resolved.len() + usize::from(unresolved.is_some()) - 1
+        };
+        let most = (1..=parents.len()).map(steps).max().unwrap_or(0);
         self.add((1..=2).contains(&most), "inheritance over 1 or 2 levels");
         self.add(most >= 3, "inheritance over 3 or more levels");
         self.add(most >= 8, "inheritance over 8 or more levels");
@@ -134,7 +120,13 @@ impl Shapes {
         }
     }
 
-    fn arrays(&mut self, lib: &Typelib) {
+    fn descriptors(&mut self, lib: &Typelib) {
+        for d in &lib.descriptors {
+            self.add(d.methods.len() == MAX_METHODS, "1,024 methods in an interface");
+            self.add(d.constants.len() == MAX_CONSTANTS, "1,024 constants in an interface");
+            let most = d.methods.iter().map(|method| method.arguments.len()).max();
+            self.add(most == Some(255), "255 arguments");
+        }
         let methods = lib.descriptors.iter().flat_map(|d| &d.methods);
         let parameters = methods.flat_map(|m| m.arguments.iter().chain([&m.result]));
         let most = parameters.map(|p| p.of.arrays.len()).max().unwrap_or(0);
@@ -179,22 +171,6 @@ impl Shapes {
     }
 }
 
-/// Entries from this one upward, itself included; chains end.
-fn level(parents: &[usize], levels: &mut [Option<usize>], index: usize) -> usize {
-    let mut path = Vec::new();
-    let mut at = index;
-    while levels[at].is_none() {
-        path.push(at);
-        at = parents[at - 1];
-    }
-    let mut level = levels[at].unwrap_or(0);
-    for at in path.into_iter().rev() {
-        level += 1;
-        levels[at] = Some(level);
-    }
-    level
-}
-
 /// Whether two of these, which come by their first bytes, have a byte in common.
 fn overlap(records: &[&Record]) -> bool {
     records.windows(2).any(|pair| pair[0].to > pair[1].from)
@@ -202,7 +178,7 @@ fn overlap(records: &[&Record]) -> bool {
 
 /// What two accepted files that link have to do with each other.
 pub fn between(first: &Typelib, second: &Typelib) -> Vec<&'static str> {
-    let mut all = Shapes { all: BTreeSet::new() };
+    let mut all = Shapes::default();
     let keys: HashMap<_, _> = second.entries.iter().map(|e| (model::key(e), e)).collect();
     let mut common = 0;
     for entry in &first.entries {
@@ -217,15 +193,13 @@ pub fn between(first: &Typelib, second: &Typelib) -> Vec<&'static str> {
     let (n, m) = (first.entries.len(), second.entries.len());
     all.add(common == 0 && n > 0 && m > 0, "no key in common");
     all.add(common > 0 && common < n && common < m, "keys in one file only, and in both");
-    let resolves = |lib: &Typelib, index: usize| lib.entries[index - 1].descriptor.is_some();
     for index in 1..=n {
         let Some(open) = model::chain(first, index).1 else { continue };
-        let key = model::key(&first.entries[open - 1]);
-        let there = second.entries.iter().position(|entry| model::key(entry) == key);
-        let met = there.is_some_and(|i| resolves(second, i + 1));
+        let there = keys.get(&model::key(&first.entries[open - 1]));
+        let met = there.is_some_and(|entry| entry.descriptor.is_some());
         all.add(met && open != index, "a chain that goes on in the other file");
     }
-    all.all.into_iter().collect()
+    all.0.into_iter().collect()
 }
 
 /// The values that stand in a file's fields, by field.

@@ -11,7 +11,8 @@ pub type Key<'a> = (&'a [u8], &'a [u8]);
 #[derive(Clone, Debug)]
 pub struct Accepted<'a> {
     pub(crate) file: &'a [u8],
-    pub(crate) n: usize,
+    /// The number of interfaces.
+    pub n: usize,
     pub(crate) directory: usize,
     pub(crate) pool: usize,
     pub(crate) keys: Vec<Key<'a>>,
@@ -20,30 +21,21 @@ pub struct Accepted<'a> {
 }
 
 impl<'a> Accepted<'a> {
-    /// The number of interfaces.
-    pub fn n(&self) -> usize {
-        self.n
-    }
-
-    #[inline]
     pub fn iid(&self, index: usize) -> u128 {
         let at = self.directory + ENTRY * (index - 1);
         let bytes = self.file[at..at + 16].try_into().expect("16 bytes");
         u128::from_be_bytes(bytes)
     }
 
-    #[inline]
     pub fn key(&self, index: usize) -> Key<'a> {
         self.keys[index - 1]
     }
 
-    #[inline]
     pub fn parent(&self, index: usize) -> usize {
         usize::from(self.parents[index - 1])
     }
 
     /// Where the entry's descriptor starts, if it is resolved.
-    #[inline]
     pub fn descriptor(&self, index: usize) -> Option<usize> {
         match word(self.file, self.directory + ENTRY * (index - 1) + 24) {
             0 => None,
@@ -52,20 +44,17 @@ impl<'a> Accepted<'a> {
     }
 
     /// A walk that starts at a method count: of the descriptor at `descriptor`.
-    #[inline]
     pub fn walk(&self, descriptor: usize) -> Walk<'a> {
         Walk { file: self.file, pool: self.pool, at: descriptor + 2 }
     }
 
     /// The number of own methods, from the descriptor's place.
-    #[inline]
     pub fn method_count(&self, descriptor: usize) -> u16 {
         pair(self.file, descriptor + 2)
     }
 
     /// Resolved entries from `index` upward, each with its descriptor's place. At the end, see
-    /// [`Chain::unresolved`].
-    #[inline]
+    /// its `unresolved`.
     pub fn chain(&self, index: usize) -> Chain<'_, 'a> {
         Chain { lib: self, next: index, unresolved: None }
     }
@@ -75,15 +64,11 @@ impl<'a> Accepted<'a> {
 pub struct Chain<'l, 'a> {
     lib: &'l Accepted<'a>,
     next: usize,
-    unresolved: Option<usize>,
+    /// After the last step: the unresolved entry at which the chain ended, if it is incomplete.
+    pub unresolved: Option<usize>,
 }
 
 impl Chain<'_, '_> {
-    /// After the last step: the unresolved entry at which the chain ended, if it is incomplete.
-    pub fn unresolved(&self) -> Option<usize> {
-        self.unresolved
-    }
-
     /// The number of methods of all that is left of the chain; or the unresolved entry.
     pub fn count_methods(mut self) -> Result<u64, usize> {
         let mut methods = 0;
@@ -97,7 +82,6 @@ impl Chain<'_, '_> {
 impl Iterator for Chain<'_, '_> {
     type Item = (usize, usize);
 
-    #[inline]
     fn next(&mut self) -> Option<(usize, usize)> {
         let index = self.next;
         if index == 0 {
@@ -113,13 +97,11 @@ impl Iterator for Chain<'_, '_> {
 }
 
 /// The 2-byte number at `at`.
-#[inline]
 pub(crate) fn pair(file: &[u8], at: usize) -> u16 {
     u16::from_be_bytes([file[at], file[at + 1]])
 }
 
 /// How many bytes stand before the first zero byte, eight at a time.
-#[inline]
 fn before_zero(bytes: &[u8]) -> usize {
     const LOW: u64 = 0x0101_0101_0101_0101;
     const HIGH: u64 = 0x8080_8080_8080_8080;
@@ -145,21 +127,18 @@ pub struct Walk<'a> {
 }
 
 impl<'a> Walk<'a> {
-    #[inline]
     pub fn byte(&mut self) -> u8 {
         let byte = self.file[self.at];
         self.at += 1;
         byte
     }
 
-    #[inline]
     pub fn pair(&mut self) -> u16 {
         self.at += 2;
         pair(self.file, self.at - 2)
     }
 
     /// A name's pointer: the place of the name.
-    #[inline]
     pub fn pointer(&mut self) -> usize {
         let p = word(self.file, self.at);
         self.at += 4;
@@ -167,14 +146,12 @@ impl<'a> Walk<'a> {
     }
 
     /// The identifier at a place.
-    #[inline]
     pub fn identifier(&self, place: usize) -> &'a [u8] {
         let bytes = &self.file[place..];
         &bytes[..before_zero(bytes)]
     }
 
     /// Whether the identifier at a place is this one.
-    #[inline]
     pub fn is(&self, place: usize, name: &[u8]) -> bool {
         let bytes = &self.file[place..];
         bytes[0] == name[0] && bytes.starts_with(name) && bytes[name.len()] == 0
@@ -182,7 +159,6 @@ impl<'a> Walk<'a> {
 
     /// Steps over a type. If it ends in a reference to an interface: where the index stands, and
     /// the index.
-    #[inline]
     pub fn reference(&mut self) -> Option<(usize, u16)> {
         loop {
             // Branches, as a table's answer would have to be waited for.
@@ -206,7 +182,6 @@ impl<'a> Walk<'a> {
     }
 
     /// Steps over a method: its flags, the place of its name, the number of its arguments.
-    #[inline]
     pub fn method(&mut self) -> (u8, usize, u8) {
         let flags = self.byte();
         let name = self.pointer();
@@ -219,7 +194,6 @@ impl<'a> Walk<'a> {
     }
 
     /// Steps over a constant: the place of its name, its kind and the bits of its value.
-    #[inline]
     pub fn constant(&mut self) -> (usize, u8, u32) {
         let name = self.pointer();
         let kind = self.byte();

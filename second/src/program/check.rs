@@ -32,50 +32,30 @@ struct Typelib<'a> {
 
 /// Header and positions: 1 to 8 in number order.
 fn header(file: &[u8]) -> Result<Typelib<'_>, Refusal> {
-    if file.len() < HEADER {
-        return refused(refusal::TOO_SHORT, file.len());
-    }
-    if file.len() > MAX_FILE {
-        return refused(refusal::TOO_LONG, MAX_FILE);
-    }
+    refuse_if(file.len() < HEADER, refusal::TOO_SHORT, file.len())?;
+    refuse_if(file.len() > MAX_FILE, refusal::TOO_LONG, MAX_FILE)?;
     if let Some(at) = (0..MAGIC.len()).find(|&i| file[i] != MAGIC[i]) {
         return refused(refusal::MAGIC, at);
     }
     let minor = file[17];
-    if file[16] != 1 {
-        return refused(refusal::MAJOR, 16);
-    }
-    if minor > MAX_MINOR {
-        return refused(refusal::MINOR, 17);
-    }
-    if word(file, 20) != file.len() {
-        return refused(refusal::LENGTH, 20);
-    }
+    refuse_if(file[16] != 1, refusal::MAJOR, 16)?;
+    refuse_if(minor > MAX_MINOR, refusal::MINOR, 17)?;
+    refuse_if(word(file, 20) != file.len(), refusal::LENGTH, 20)?;
     let n = usize::from(u16::from_be_bytes([file[18], file[19]]));
-    if n > MAX_INTERFACES {
-        return refused(refusal::COUNT, 18);
-    }
+    refuse_if(n > MAX_INTERFACES, refusal::COUNT, 18)?;
     let pool = word(file, 28);
-    if pool <= HEADER || pool > file.len() {
-        return refused(refusal::POSITION, 28);
-    }
+    refuse_if(pool <= HEADER || pool > file.len(), refusal::POSITION, 28)?;
     let directory = word(file, 24);
-    let stands = if n == 0 {
-        directory == 0
-    } else {
-        directory.is_multiple_of(4)
-            && directory > HEADER
-            && directory <= pool
-            && ENTRY * n <= pool - directory
+    let room = (HEADER + 1..=pool).contains(&directory).then(|| pool - directory);
+    let stands = match n {
+        0 => directory == 0,
+        _ => directory.is_multiple_of(4) && room.is_some_and(|room| ENTRY * n <= room),
     };
-    if !stands {
-        return refused(refusal::POSITION, 24);
-    }
+    refuse_if(!stands, refusal::POSITION, 24)?;
     Ok(Typelib { file, minor, n, directory, pool })
 }
 
 /// The 4-byte number at `at`, which lies inside the file.
-#[inline]
 pub(crate) fn word(file: &[u8], at: usize) -> usize {
     u32::from_be_bytes([file[at], file[at + 1], file[at + 2], file[at + 3]]) as usize
 }
@@ -139,25 +119,20 @@ impl<'a> Typelib<'a> {
             let at = self.entry(i);
             let iid = &self.file[at..at + 16];
             let zero = iid.iter().all(|&b| b == 0);
-            if iid < before || iid == before && !zero {
-                return refused(refusal::IID_ORDER, at);
-            }
+            refuse_if(iid < before || iid == before && !zero, refusal::IID_ORDER, at)?;
             before = iid;
             let name = self.identifier(at + 16)?;
             let namespace = match word(self.file, at + 20) {
                 0 => &[],
                 _ => self.identifier(at + 20)?,
             };
-            if zero && word(self.file, at + 24) != 0 {
-                return refused(refusal::NO_IID, at + 24);
-            }
+            refuse_if(zero && word(self.file, at + 24) != 0, refusal::NO_IID, at + 24)?;
             keys.push((namespace, name));
         }
         Ok(keys)
     }
 
     /// Where the pool pointer in `field` leads: nothing when absent, else a place in the pool.
-    #[inline]
     fn target(&self, field: usize) -> Result<Option<usize>, Refusal> {
         match word(self.file, field) {
             0 => Ok(None),
@@ -167,7 +142,6 @@ impl<'a> Typelib<'a> {
     }
 
     /// The identifier to which the pointer in `field` must lead.
-    #[inline]
     fn identifier(&self, field: usize) -> Result<&'a [u8], Refusal> {
         let Some(at) = self.target(field)? else {
             return refused(refusal::IDENTIFIER, field);
@@ -218,9 +192,7 @@ impl<'a> Typelib<'a> {
                 passed[index - 1] = walk;
                 index = usize::from(parents[index - 1]);
             }
-            if index != 0 && passed[index - 1] == walk {
-                return refused(refusal::CYCLE, self.entry(i));
-            }
+            refuse_if(index != 0 && passed[index - 1] == walk, refusal::CYCLE, self.entry(i))?;
         }
         Ok(())
     }
@@ -249,7 +221,6 @@ fn pairs_stand(accessors: &mut [Accessor]) -> bool {
 struct Numbers([u64; 4]);
 
 impl Numbers {
-    #[inline]
     fn insert(&mut self, number: u8) {
         self.0[usize::from(number >> 6)] |= 1 << (number & 63);
     }
@@ -275,35 +246,27 @@ struct Reader<'l, 'a> {
 
 impl<'a> Reader<'_, 'a> {
     /// Steps over a field of `length` bytes and gives its place; 13 when it does not fit.
-    #[inline]
     fn field(&mut self, length: usize) -> Result<usize, Refusal> {
         let place = self.at;
-        if self.file.len() - place < length {
-            return refused(refusal::OUTSIDE, place);
-        }
+        refuse_if(self.file.len() - place < length, refusal::OUTSIDE, place)?;
         self.at = place + length;
         Ok(place)
     }
 
-    #[inline]
     fn byte(&mut self) -> Result<u8, Refusal> {
         let place = self.at;
-        match self.file.get(place) {
-            Some(&byte) => {
-                self.at = place + 1;
-                Ok(byte)
-            }
-            None => refused(refusal::OUTSIDE, place),
-        }
+        let Some(&byte) = self.file.get(place) else {
+            return refused(refusal::OUTSIDE, place);
+        };
+        self.at = place + 1;
+        Ok(byte)
     }
 
-    #[inline]
     fn pair(&mut self) -> Result<u16, Refusal> {
         let place = self.field(2)?;
         Ok(u16::from_be_bytes([self.file[place], self.file[place + 1]]))
     }
 
-    #[inline]
     fn name(&mut self) -> Result<&'a [u8], Refusal> {
         let place = self.field(4)?;
         self.lib.identifier(place)
@@ -313,9 +276,7 @@ impl<'a> Reader<'_, 'a> {
     fn count(&mut self, limit: usize) -> Result<u16, Refusal> {
         let place = self.at;
         let count = self.pair()?;
-        if usize::from(count) > limit {
-            return refused(refusal::SIZE, place);
-        }
+        refuse_if(usize::from(count) > limit, refusal::SIZE, place)?;
         Ok(count)
     }
 
@@ -323,34 +284,27 @@ impl<'a> Reader<'_, 'a> {
     fn descriptor(mut self, accessors: &mut Vec<Accessor<'a>>) -> Result<(), Refusal> {
         let start = self.at;
         let parent = self.pair()?;
-        if usize::from(parent) > self.lib.n {
-            return refused(refusal::INDEX, start);
-        }
+        refuse_if(usize::from(parent) > self.lib.n, refusal::INDEX, start)?;
         let mut constructors = 0;
         accessors.clear();
         for position in 0..self.count(MAX_METHODS)? {
             let (flags, name) = self.method()?;
-            if flags & GETTER != 0 {
-                accessors.push(Accessor { name, setter: false, position });
+            for (kind, setter) in [(GETTER, false), (SETTER, true)] {
+                accessors.extend((flags & kind != 0).then_some(Accessor {
+                    name,
+                    setter,
+                    position,
+                }));
             }
-            if flags & SETTER != 0 {
-                accessors.push(Accessor { name, setter: true, position });
-            }
-            if flags & CONSTRUCTOR != 0 {
-                constructors += 1;
-            }
+            constructors += usize::from(flags & CONSTRUCTOR != 0);
         }
         for _ in 0..self.count(MAX_CONSTANTS)? {
             self.constant()?;
         }
         let place = self.at;
         let flags = self.byte()?;
-        if flags & reserved_in_interface(self.lib.minor) != 0 {
-            return refused(refusal::RESERVED, place);
-        }
-        if constructors > 1 || !pairs_stand(accessors) {
-            return refused(refusal::RULE, start);
-        }
+        refuse_if(flags & reserved_in_interface(self.lib.minor) != 0, refusal::RESERVED, place)?;
+        refuse_if(constructors > 1 || !pairs_stand(accessors), refusal::RULE, start)?;
         Ok(())
     }
 
@@ -358,65 +312,47 @@ impl<'a> Reader<'_, 'a> {
     fn method(&mut self) -> Result<(u8, &'a [u8]), Refusal> {
         let start = self.at;
         let flags = self.byte()?;
-        if flags & RESERVED_IN_METHOD != 0 {
-            return refused(refusal::RESERVED, start);
-        }
+        refuse_if(flags & RESERVED_IN_METHOD != 0, refusal::RESERVED, start)?;
         let name = self.name()?;
         let mut named = Named::default();
         let mut iids = Numbers::default();
         let mut sizes = Numbers::default();
         for number in 0..self.byte()? {
-            let prefix = self.argument(&mut named)?;
+            let retval_alone = |flags| flags & RETVAL != 0 && flags & OUT == 0;
+            let (_, prefix) = self.parameter(&mut named, retval_alone)?;
             match (prefix & TAG, prefix & POINTER != 0) {
                 (IID, true) => iids.insert(number),
                 (UINT32, false) => sizes.insert(number),
                 _ => {}
             }
         }
-        let (result_flags, result) = self.result(&mut named)?;
+        let (result_flags, result) = self.parameter(&mut named, |flags| flags & (IN | OUT) != 0)?;
         let numbers_stand = named.iids.within(&iids) && named.sizes.within(&sizes);
         let free_result = flags & NOT_XPCOM != 0 || result_flags & RETVAL != 0;
-        if !numbers_stand || !(free_result || result == VOID || result == UINT32) {
-            return refused(refusal::RULE, start);
-        }
+        refuse_if(
+            !numbers_stand || !(free_result || result == VOID || result == UINT32),
+            refusal::RULE,
+            start,
+        )?;
         Ok((flags, name))
     }
 
-    /// A parameter's flags, as far as arguments and results have the same rules.
-    #[inline]
-    fn parameter_flags(&mut self) -> Result<u8, Refusal> {
+    /// A parameter's flags, of which those that break the rule of its kind are refused, and its
+    /// outermost prefix.
+    fn parameter(
+        &mut self,
+        named: &mut Named,
+        breaks_rule: fn(u8) -> bool,
+    ) -> Result<(u8, u8), Refusal> {
         let place = self.at;
         let flags = self.byte()?;
-        if flags & reserved_in_parameter(self.lib.minor) != 0 {
-            return refused(refusal::RESERVED, place);
-        }
-        Ok(flags)
-    }
-
-    /// Parameter as an argument: its outermost prefix.
-    #[inline]
-    fn argument(&mut self, named: &mut Named) -> Result<u8, Refusal> {
-        let place = self.at;
-        let flags = self.parameter_flags()?;
-        if flags & RETVAL != 0 && flags & OUT == 0 {
-            return refused(refusal::RULE, place);
-        }
-        self.type_(named)
-    }
-
-    /// Parameter as a result: its flags and its outermost prefix.
-    #[inline]
-    fn result(&mut self, named: &mut Named) -> Result<(u8, u8), Refusal> {
-        let place = self.at;
-        let flags = self.parameter_flags()?;
-        if flags & (IN | OUT) != 0 {
-            return refused(refusal::RULE, place);
-        }
+        let reserved = flags & reserved_in_parameter(self.lib.minor) != 0;
+        refuse_if(reserved, refusal::RESERVED, place)?;
+        refuse_if(breaks_rule(flags), refusal::RULE, place)?;
         Ok((flags, self.type_(named)?))
     }
 
     /// Type, with the elements of its arrays. Gives the outermost prefix.
-    #[inline]
     fn type_(&mut self, named: &mut Named) -> Result<u8, Refusal> {
         let start = self.at;
         let mut arrays = 0;
@@ -424,26 +360,22 @@ impl<'a> Reader<'_, 'a> {
             let place = self.at;
             let prefix = self.byte()?;
             let tag = prefix & TAG;
-            if is_reserved(tag, self.lib.minor) {
-                return refused(refusal::RESERVED, place);
-            }
-            if prefix & POINTER == 0 && (prefix & (UNIQUE | REFERENCE) != 0 || needs_pointer(tag)) {
-                return refused(refusal::RULE, place);
-            }
+            refuse_if(is_reserved(tag, self.lib.minor), refusal::RESERVED, place)?;
+            refuse_if(
+                prefix & POINTER == 0 && (prefix & (UNIQUE | REFERENCE) != 0 || needs_pointer(tag)),
+                refusal::RULE,
+                place,
+            )?;
             match tag {
                 INTERFACE => {
                     let place = self.at;
                     let index = usize::from(self.pair()?);
-                    if index == 0 || index > self.lib.n {
-                        return refused(refusal::INDEX, place);
-                    }
+                    refuse_if(index == 0 || index > self.lib.n, refusal::INDEX, place)?;
                 }
                 INTERFACE_IS => named.iids.insert(self.byte()?),
                 ARRAY => {
                     arrays += 1;
-                    if arrays > MAX_ARRAYS {
-                        return refused(refusal::SIZE, place);
-                    }
+                    refuse_if(arrays > MAX_ARRAYS, refusal::SIZE, place)?;
                     named.sizes.insert(self.byte()?);
                     named.sizes.insert(self.byte()?);
                     continue;

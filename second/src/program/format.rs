@@ -11,6 +11,13 @@ pub(crate) fn refused<T>(number: u32, place: usize) -> Result<T, Refusal> {
     Err(Refusal { number, place })
 }
 
+pub(crate) fn refuse_if(holds: bool, number: u32, place: usize) -> Result<(), Refusal> {
+    match holds {
+        true => refused(number, place),
+        false => Ok(()),
+    }
+}
+
 pub const MAGIC: [u8; 16] = *b"XPCOM\nTypeLib\r\n\x1a";
 
 pub const MAX_MINOR: u8 = 1;
@@ -58,19 +65,16 @@ pub const SIZED_WSTRING: u8 = 22;
 pub const LAST_TAG: u8 = 22;
 
 /// Whether a tag is reserved in files of this minor version.
-#[inline]
 pub fn is_reserved(tag: u8, minor: u8) -> bool {
     tag > LAST_TAG || tag == ASTRING && minor == 0
 }
 
 /// Whether a tag needs the pointer flag.
-#[inline]
 pub fn needs_pointer(tag: u8) -> bool {
     tag > ASTRING
 }
 
 /// How many bytes follow a type's prefix, without an array's element.
-#[inline]
 pub fn tail(tag: u8) -> usize {
     match tag {
         INTERFACE | ARRAY | SIZED_STRING | SIZED_WSTRING => 2,
@@ -81,22 +85,13 @@ pub fn tail(tag: u8) -> usize {
 
 // Reserved bits by minor version.
 pub fn reserved_in_interface(minor: u8) -> u8 {
-    if minor == 0 {
-        !SCRIPTABLE
-    } else {
-        !(SCRIPTABLE | FUNCTION)
-    }
+    !(SCRIPTABLE | if minor == 0 { 0 } else { FUNCTION })
 }
 
 pub const RESERVED_IN_METHOD: u8 = 0x07;
 
-#[inline]
 pub fn reserved_in_parameter(minor: u8) -> u8 {
-    if minor == 0 {
-        0x07 | DIPPER
-    } else {
-        0x07
-    }
+    0x07 | if minor == 0 { DIPPER } else { 0 }
 }
 
 pub const CONSTANT_TYPES: [u8; 4] = [1, 2, 5, 6];

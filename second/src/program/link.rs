@@ -2,7 +2,7 @@
 
 use super::accepted::{pair, Accepted, Walk};
 use super::check::accept;
-use super::format::{refusal, refused, Refusal, MAX_INTERFACES};
+use super::format::{refusal, refuse_if, refused, Refusal, MAX_INTERFACES};
 use super::normal::{write, Item, Source};
 use std::collections::{HashMap, HashSet};
 
@@ -27,9 +27,7 @@ pub fn link_accepted(
     union.iids_stand()?;
     union.descriptors_agree()?;
     union.chains_end()?;
-    if union.items.len() > MAX_INTERFACES {
-        return refused(refusal::UNION_SIZE, 0);
-    }
+    refuse_if(union.items.len() > MAX_INTERFACES, refusal::UNION_SIZE, 0)?;
     union.write(out)
 }
 
@@ -82,9 +80,7 @@ impl<'l, 'a> Union<'l, 'a> {
             union.second.push(number);
             union.common.push((number, index as u16));
         }
-        if lowest < u16::MAX {
-            return refused(refusal::TWO_IIDS, lowest.into());
-        }
+        refuse_if(lowest < u16::MAX, refusal::TWO_IIDS, lowest.into())?;
         Ok(union)
     }
 
@@ -110,9 +106,11 @@ impl<'l, 'a> Union<'l, 'a> {
         for &(a, b) in &self.common {
             let places = (first.descriptor(a.into()), second.descriptor(b.into()));
             if let (Some(in_first), Some(in_second)) = places {
-                if agree.insert((in_first, in_second)) && !self.same(in_first, in_second) {
-                    return refused(refusal::TWO_DESCRIPTORS, a.into());
-                }
+                refuse_if(
+                    agree.insert((in_first, in_second)) && !self.same(in_first, in_second),
+                    refusal::TWO_DESCRIPTORS,
+                    a.into(),
+                )?;
             }
         }
         Ok(())
@@ -189,9 +187,7 @@ impl<'l, 'a> Union<'l, 'a> {
                 passed[number] = walk;
                 number = parent(number);
             }
-            if number != 0 && passed[number] == walk {
-                return refused(refusal::UNION_CYCLE, walk);
-            }
+            refuse_if(number != 0 && passed[number] == walk, refusal::UNION_CYCLE, walk)?;
         }
         Ok(())
     }

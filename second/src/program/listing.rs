@@ -126,7 +126,6 @@ struct Page<'w, W> {
 }
 
 impl<W: Write> Page<'_, W> {
-    #[inline]
     fn text(&mut self, text: &[u8]) {
         self.bytes.extend_from_slice(text);
     }
@@ -153,7 +152,6 @@ impl<W: Write> Page<'_, W> {
     }
 
     /// No line has more than 1,024 bytes, so the page never grows.
-    #[inline]
     fn end_line(&mut self) -> io::Result<()> {
         self.text(b"\n");
         if self.bytes.len() > PAGE - 1_024 {

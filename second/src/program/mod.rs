@@ -9,5 +9,7 @@ pub mod listing;
 pub mod normal;
 pub mod questions;
 
+pub use format::*;
+
 /// What a check answers: the number of interfaces, or the refusal.
-pub type Answer = Result<usize, format::Refusal>;
+pub type Answer = Result<usize, Refusal>;

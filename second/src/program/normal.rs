@@ -141,7 +141,6 @@ struct Writer<'o> {
 
 impl Writer<'_> {
     /// Gives the pointer to the name.
-    #[inline]
     fn name(&mut self, name: &[u8]) -> u32 {
         let at = self.at;
         let end = at + name.len();

@@ -37,8 +37,13 @@ pub enum Kind {
 impl Kind {
     pub const ALL: [Kind; 3] = [Kind::Getter, Kind::Setter, Kind::Plain];
 
+    /// Whether a method of these flags is of this kind.
+    pub fn is(self, flags: u8) -> bool {
+        let (mask, bits) = self.mask();
+        flags & mask == bits
+    }
+
     /// The bits to look at, and what they must be.
-    #[inline]
     fn mask(self) -> (u8, u8) {
         match self {
             Kind::Getter => (GETTER, GETTER),
@@ -74,7 +79,6 @@ pub enum Constant {
 
 impl Constant {
     /// From an accepted type byte and the value's bits.
-    #[inline]
     pub(crate) fn new(kind: u8, bits: u32) -> Constant {
         match kind {
             1 => Constant::I16(bits as u16 as i16),
@@ -97,40 +101,16 @@ impl Constant {
 const MALFORMED: Refusal = Refusal { number: refusal::QUESTION, place: 0 };
 
 /// Asks a file that is accepted.
-fn of<'a, T>(file: &'a [u8], ask: impl FnOnce(&Accepted<'a>) -> Lookup<T>) -> Lookup<T> {
+pub fn of<'a, T>(file: &'a [u8], ask: impl FnOnce(&Accepted<'a>) -> Lookup<T>) -> Lookup<T> {
     match accept(file) {
         Ok(lib) => ask(&lib),
         Err(refusal) => Lookup::Refused(refusal),
     }
 }
 
-/// Interface by IID: its index.
-pub fn interface_by_iid(file: &[u8], iid: &[u8]) -> Lookup<usize> {
-    of(file, |lib| lib.interface_by_iid(iid))
-}
-
-/// Interface by key: its index. An empty namespace asks for the default.
-pub fn interface_by_key(file: &[u8], namespace: &[u8], name: &[u8]) -> Lookup<usize> {
-    of(file, |lib| lib.interface_by_key(namespace, name))
-}
-
-/// Method by index, name and kind.
-pub fn method_by_name(file: &[u8], index: u64, name: &[u8], kind: Kind) -> Lookup<Method> {
-    of(file, |lib| lib.method_by_name(index, name, kind))
-}
-
-/// Method by index and slot.
-pub fn method_by_slot(file: &[u8], index: u64, slot: u64) -> Lookup<Method> {
-    of(file, |lib| lib.method_by_slot(index, slot))
-}
-
-/// Constant by index and name.
-pub fn constant(file: &[u8], index: u64, name: &[u8]) -> Lookup<Constant> {
-    of(file, |lib| lib.constant(index, name))
-}
-
-/// The same questions to a file that was checked before.
+/// The questions to a file that was checked before.
 impl Accepted<'_> {
+    /// Interface by IID: its index.
     pub fn interface_by_iid(&self, iid: &[u8]) -> Lookup<usize> {
         let asked = match <[u8; 16]>::try_from(iid).map(u128::from_be_bytes) {
             Ok(asked) if asked != 0 => asked,
@@ -145,20 +125,15 @@ impl Accepted<'_> {
                 false => high = middle,
             }
         }
-        match low <= self.n && self.iid(low) == asked {
-            true => Lookup::Found(low),
-            false => Lookup::None,
-        }
+        found((low <= self.n && self.iid(low) == asked).then_some(low))
     }
 
+    /// Interface by key: its index. An empty namespace asks for the default.
     pub fn interface_by_key(&self, namespace: &[u8], name: &[u8]) -> Lookup<usize> {
         if !(namespace.is_empty() || is_identifier(namespace)) || !is_identifier(name) {
             return Lookup::Refused(MALFORMED);
         }
-        match self.keys.iter().position(|key| *key == (namespace, name)) {
-            Some(i) => Lookup::Found(i + 1),
-            None => Lookup::None,
-        }
+        found(self.keys.iter().position(|key| *key == (namespace, name)).map(|i| i + 1))
     }
 
     pub fn method_by_name(&self, index: u64, name: &[u8], kind: Kind) -> Lookup<Method> {
@@ -181,7 +156,7 @@ impl Accepted<'_> {
                 }
             }
         }
-        not_found(chain.unresolved())
+        not_found(chain.unresolved)
     }
 
     pub fn method_by_slot(&self, index: u64, slot: u64) -> Lookup<Method> {
@@ -224,7 +199,7 @@ impl Accepted<'_> {
                 }
             }
         }
-        not_found(chain.unresolved())
+        not_found(chain.unresolved)
     }
 
     /// An asked index, if it is from 1 to n.
@@ -232,6 +207,10 @@ impl Accepted<'_> {
         let index = usize::try_from(index).ok()?;
         (1..=self.n).contains(&index).then_some(index)
     }
+}
+
+fn found(index: Option<usize>) -> Lookup<usize> {
+    index.map_or(Lookup::None, Lookup::Found)
 }
 
 fn not_found<T>(unresolved: Option<usize>) -> Lookup<T> {

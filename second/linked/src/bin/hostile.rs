@@ -4,13 +4,10 @@
 
 use linked::LIBRARY;
 use second::in_parallel;
-use second::library::cases::shown;
-use second::library::{Program, OWN};
+use second::library::{cases::shown, Program, OWN};
 use second::making::hostile::cases;
-use second::program::format::MAX_FILE;
-use second::program::Answer;
-use std::process::ExitCode;
-use std::time::Instant;
+use second::program::{Answer, MAX_FILE};
+use std::{process::ExitCode, time::Instant};
 
 type Task = fn(&Program, &[u8], &mut [u8]) -> Answer;
 

@@ -11,7 +11,6 @@ use second::library::questions::{Question, Reply};
 use second::library::{Program, OWN};
 use second::making::builder::Typelib;
 use second::making::hostile::{self, interfaces};
-use second::making::model::is_kind;
 use second::making::pairs::sorted;
 use second::program::accepted::Accepted;
 use second::program::check::accept;
@@ -123,7 +122,7 @@ fn supplied(all: &Typelib, resolved: Range<usize>) -> Vec<u8> {
 /// longest complete chain.
 fn questions(file: &[u8]) -> Vec<(&'static str, Question)> {
     let lib = accept(file).expect("an accepted file");
-    let last = lib.n();
+    let last = lib.n;
     let (space, name) = lib.key(last);
     let index = (1..=last).max_by_key(|index| steps(&lib, *index)).expect("an entry");
     let (methods, constants): (Vec<_>, Vec<_>) =
@@ -150,7 +149,7 @@ fn questions(file: &[u8]) -> Vec<(&'static str, Question)> {
 fn steps(lib: &Accepted, index: usize) -> usize {
     let mut chain = lib.chain(index);
     let steps = chain.by_ref().count();
-    match chain.unresolved() {
+    match chain.unresolved {
         Some(_) => 0,
         None => steps,
     }
@@ -164,8 +163,7 @@ fn own<'a>(lib: &Accepted<'a>, descriptor: usize) -> Names<'a> {
     let (mut methods, mut constants) = (Vec::new(), Vec::new());
     for _ in 0..walk.pair() {
         let (flags, name, _) = walk.method();
-        let is = |kind: &Kind| is_kind(flags, *kind);
-        let kind = Kind::ALL.into_iter().find(is).expect("a kind");
+        let kind = Kind::ALL.into_iter().find(|kind| kind.is(flags)).expect("a kind");
         methods.push((kind, walk.identifier(name)));
     }
     for _ in 0..walk.pair() {
