@@ -27,6 +27,11 @@ impl Program {
         std::path::absolute(path).map(Program)
     }
 
+    /// One that is found by its name.
+    pub fn named(name: &str) -> Program {
+        Program(name.into())
+    }
+
     /// Runs it in this folder with this input.
     pub fn run(&self, folder: &Path, words: &[Vec<u8>], input: &[u8]) -> io::Result<Ran> {
         let mut child = Command::new(&self.0)
