@@ -8,7 +8,7 @@ use second::making::{builder::*, generate::marked, generate::rich};
 use second::program::{check::check, listing::program, questions::Lookup, questions::Slot};
 use second::tally::{Came, Tally};
 use second::{floors, program::Answer};
-use std::{fs, path::Path};
+use std::fs;
 
 /// A table's lines, without empty ones and comments.
 fn lines(table: &str) -> impl Iterator<Item = &str> {
