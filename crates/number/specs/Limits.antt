@@ -1,4 +1,4 @@
--- Document 01, "Sizes": each number itself is allowed, one more is refused. Eight arrays one inside another stand in the crate `types`.
+-- Document 01, "Sizes": each number itself is allowed, one more is refused. Eight arrays one inside another stand in the crates `method` and `rules`.
 -- Assumes nothing.
 use Prim.Native.Nat.{ℕ, _+_, _-_}
 
