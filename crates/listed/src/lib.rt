@@ -1,106 +1,148 @@
-// What standard output gets: the line that was made for an answer, or the listing, buffer by buffer.
+// The listing of a file as an answer, buffer by buffer: from before its first line to after its closing newline. In a batch it stands within one line.
 use lines::Cursor;
 use reader::Layout;
 use reading::Verdict;
 use sayings::Said;
 ghost use mathlib.Core.Path.{_≡_};
-ghost use mathlib.Core.List.{List};
+ghost use mathlib.Core.List.{List, _++_};
 ghost use Prim.Native.Nat.{ℕ, _≤_};
-ghost use lib.ListN.{length, take};
-ghost use Rattle.reader.specs.Reader.{decode};
-ghost use Rattle.printed.specs.Listing.{listingOf};
-ghost use Rattle.lines.specs.Cursor.{Printing};
-ghost use Rattle.listed.specs.Text.{shown};
+ghost use lib.ListN.{length, take, drop};
+ghost use Rattle.listed.specs.declared.Next.the-variants.{At};
+ghost use Rattle.listed.specs.Text.{shown, listSaying};
+ghost use Rattle.listed.specs.Rest.{Going, LeftIn, isOver, restOf, noRest, Opens, Filled};
 
-// The line that was made, on standard output.
-pub fn say(said: Said, line: &[u8; 128]) -> bool
-    requires { ⌜ said .length ≤ 128 ⌝ }
-{
-    let n = said.length;
-    let all: &[u8] = line;
-    io::write_all(1, &all[..n])
+// What comes next: nothing, the newline that ends the one line of a batch, or what is left at a cursor.
+pub enum Next {
+    Over,
+    Closing,
+    At(Cursor),
 }
 
-// The first line of a refused file, and the reason.
-fn say_refused(file: &[u8], name: &[u8], line: &[u8]) -> bool {
-    let is_written = io::write_all(1, line);
-    if let Verdict::Refused(why) = reader::check(file) {
-        reasons::say(name, why);
+// What is left of a listing.
+pub struct Rest {
+    pub layout: Layout,
+    pub next: Next,
+}
+
+// The first line, and what is left after it.
+pub struct Opened {
+    pub said: Said,
+    pub rest: Rest,
+}
+
+// How many bytes of the buffer were filled, and what is left after them.
+pub struct More {
+    pub length: usize,
+    pub rest: Rest,
+}
+
+// Nothing is left.
+pub fn no_rest() -> Rest
+    ensures { λ r. ⌜ r ≡ noRest ⌝ }
+{
+    Rest {
+        layout: Layout {
+            count: 0,
+            directory: 0,
+            pool: 0,
+        },
+        next: Next::Over,
     }
-    is_written
+}
+
+// Whether nothing is left.
+pub fn is_over(rest: Rest) -> bool
+    ensures { λ r. ⌜ r ≡ isOver rest ⌝ }
+{
+    let next = rest.next;
+    match next {
+        Next::Over => true,
+        Next::Closing => false,
+        Next::At(_) => false,
+    }
 }
 
 // In a batch the newlines among the first bytes are bars.
 fn bar(buffer: &mut [u8], n: usize, in_batch: bool)
     requires { ⌜ n ≤ length (now buffer) ⌝ }
-    ensures { λ _. ⌜ take n (now (buffer .exit)) ≡ shown «in_batch» (take n (now (buffer .entry))) ⌝ }
+    ensures { λ _. ⌜ now (buffer .exit) ≡ shown «in_batch» (take n (now (buffer .entry))) ++ drop n (now (buffer .entry)) ⌝ }
 {
     if in_batch {
         lines::bars::bar_newlines(&mut buffer[..n]);
     }
 }
 
-// The first bytes of the buffer on standard output.
-fn put(buffer: &mut [u8], n: usize, in_batch: bool) -> bool
-    requires { ⌜ n ≤ length (now buffer) ⌝ }
+// What is left at a cursor, and behind its last line.
+fn rest_of(layout: Layout, c: Cursor, in_batch: bool) -> Rest
+    ensures { λ r. ⌜ r ≡ restOf layout «in_batch» c ⌝ }
 {
-    bar(buffer, n, in_batch);
-    let all: &[u8] = buffer;
-    io::write_all(1, &all[..n])
-}
-
-// What is left at a cursor; whether all of it could be written.
-fn put_rest(file: &[u8], l: Layout, first: Cursor, in_batch: bool, out: &mut [u8; 65536]) -> bool
-    requires { ⌜ ((done : List ℕ) × Printing (now file) (listingOf (decode (now file))) l first done) ⌝ }
-{
-    let mut c = first;
-    loop {
-        if lines::is_done(c) {
-            return true;
-        }
-        let filled = lines::fill(file, l, c, out);
-        let n = filled.length;
-        if !put(out, n, in_batch) {
-            return false;
-        }
-        c = filled.cursor;
-    }
-}
-
-// The lines of an accepted file; in a batch they are one line.
-fn put_all(file: &[u8], l: Layout, c: Cursor, in_batch: bool) -> bool
-    requires { ⌜ ((done : List ℕ) × Printing (now file) (listingOf (decode (now file))) l c done) ⌝ }
-{
-    let mut out = io::large_buffer();
-    if !put_rest(file, l, c, in_batch, &mut out) {
-        return false;
-    }
-    if in_batch {
-        return io::write_all(1, b"\n");
-    }
-    true
-}
-
-// The first line, which is made in `line`, and the rest.
-fn put_from(file: &[u8], name: &[u8], in_batch: bool, line: &mut [u8; 64]) -> bool
-    requires { ⌜ 64 ≡ length (now line) ⌝ }
-{
-    let begun = lines::start(file, line);
-    let n = begun.length;
-    let l = begun.layout;
-    let c = begun.cursor;
     if lines::is_done(c) {
-        let all: &[u8] = line;
-        return say_refused(file, name, &all[..n]);
+        if in_batch {
+            return Rest {
+                layout,
+                next: Next::Closing,
+            };
+        }
+        return Rest {
+            layout,
+            next: Next::Over,
+        };
     }
-    if !put(line, n, in_batch) {
-        return false;
+    Rest {
+        layout,
+        next: Next::At(c),
     }
-    put_all(file, l, c, in_batch)
 }
 
-// The listing of the file of this name.
-pub fn list(file: &[u8], name: &[u8], in_batch: bool) -> bool {
-    let mut line = [0u8; 64];
-    put_from(file, name, in_batch, &mut line)
+// The first line of the listing: the verdict.
+pub fn open(file: &[u8], in_batch: bool, text: &mut [u8; 128]) -> Opened
+    ensures { λ r. ⌜ Opens «in_batch» (listSaying «in_batch» (now (file .entry))) (now (file .entry)) (now (text .entry)) r (now (text .exit)) ⌝ }
+{
+    match reader::check(file) {
+        Verdict::Refused(why) => Opened {
+            said: sayings::refused(why, text),
+            rest: no_rest(),
+        },
+        Verdict::Accepted(n) => {
+            let said = sayings::numbered(b"accepted ", n as u64, text);
+            bar(text, said.length, in_batch);
+            let rest = rest_of(reader::layout_of(file), Cursor::AtEntry(0), in_batch);
+            Opened { said, rest }
+        }
+    }
+}
+
+// The lines at a cursor, as many as are sure to fit.
+fn fill(file: &[u8], l: Layout, c: Cursor, in_batch: bool, out: &mut [u8; 65536]) -> More
+    requires { ⌜ ((text : List ℕ) × Going «in_batch» (now file) l c text) ⌝ }
+    ensures { λ r. ⌜ Filled «in_batch» (now (file .entry)) (record { layout = l; next = At c }) (now (out .entry)) r (now (out .exit)) ⌝ }
+{
+    let filled = lines::fill(file, l, c, out);
+    let length = filled.length;
+    let cursor = filled.cursor;
+    bar(out, length, in_batch);
+    More {
+        length,
+        rest: rest_of(l, cursor, in_batch),
+    }
+}
+
+// The next bytes of the listing.
+pub fn go_on(file: &[u8], rest: Rest, in_batch: bool, out: &mut [u8; 65536]) -> More
+    requires { ⌜ ((text : List ℕ) × LeftIn «in_batch» (now file) rest text) ⌝ }
+    ensures { λ r. ⌜ Filled «in_batch» (now (file .entry)) rest (now (out .entry)) r (now (out .exit)) ⌝ }
+{
+    let l = rest.layout;
+    let next = rest.next;
+    match next {
+        Next::Over => More {
+            length: 0,
+            rest: no_rest(),
+        },
+        Next::Closing => More {
+            length: text::put_bytes(out, 0, b"\n"),
+            rest: no_rest(),
+        },
+        Next::At(c) => fill(file, l, c, in_batch, out),
+    }
 }

@@ -1,8 +1,8 @@
 -- `listed::bar` meets its contract: in a batch, or not.
 -- Assumes nothing.
 use lib.Seq.{length-take-le}
-use Rattle.number.proofs.Tools.{sym, arith, needs, take}
-use Rattle.listed.proofs.BarLaws.{shown-bars, shown-plain}
+use Rattle.number.proofs.Tools.{sym, arith, needs}
+use Rattle.listed.proofs.RestLaws.{shown-bars, shown-plain}
 use Rattle.listed.proofs.bar.Statement.{statement}
 use Rattle.listed.proofs.bar.Tie as tie
 
@@ -10,10 +10,10 @@ slice-aggregate-bar-newlines : tie.Need-slice-aggregate-bar-newlines
 slice-aggregate-bar-newlines c = sym (length-take-le (c .before .before .before .args .n) (c .before .before .before .args .buffer .now) (omega arith))
 
 returns : tie.Need-returns
-returns c = shown-bars _ (c .before .before .before .before .before .before .args .buffer .now) (c .before .before .bar-newlines .last .0) (c .before .before .before .before .before .before .args .n) (c .before .before .before .before .if1 .taken) (omega arith) (c .before .before .bar-newlines .ensures) (c .before .before .bar-newlines .kept .0)
+returns c = shown-bars _ (c .before .before .before .before .before .before .args .buffer .now) (c .before .before .bar-newlines .last .0) (c .before .before .before .before .before .before .args .n) (c .before .before .before .before .if1 .taken) (c .before .before .bar-newlines .ensures)
 
 returns-2 : tie.Need-returns-2
-returns-2 c = shown-plain _ (take (c .before .before .args .n) (c .before .before .args .buffer .now)) (c .if1 .left)
+returns-2 c = shown-plain _ (c .before .before .args .buffer .now) (c .before .before .args .n) (c .if1 .left)
 
 pub bar-spec : {M : Type 1} → statement M
 bar-spec =

@@ -1,0 +1,21 @@
+-- How many words a command takes.
+-- Assumes nothing.
+use Prim.Native.Nat.{ℕ, _≤_}
+use native.Mathlib.Omega.{arith}
+use Rattle.verbs.specs.declared.Question.the-variants.{Check, Iid, Key, Method, Slot, Constant}
+use Rattle.verbs.specs.declared.Verb.{Verb}
+use Rattle.verbs.specs.declared.Verb.the-variants as verb
+use Rattle.verbs.specs.Verbs.{wordsIn}
+
+pub words-few : (v : Verb) → wordsIn v ≤ 5
+unfolding wordsIn
+words-few (verb.Ask Check) = omega arith
+words-few (verb.Ask Iid) = omega arith
+words-few (verb.Ask Key) = omega arith
+words-few (verb.Ask Method) = omega arith
+words-few (verb.Ask Slot) = omega arith
+words-few (verb.Ask Constant) = omega arith
+words-few verb.List = omega arith
+words-few verb.Normal = omega arith
+words-few verb.Link = omega arith
+words-few verb.Unknown = omega arith

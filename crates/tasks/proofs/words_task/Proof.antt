@@ -1,0 +1,34 @@
+-- `tasks::words_task` meets its contract.
+-- Assumes nothing.
+use Rattle.number.proofs.Tools.{refl, arith, needs, is-eq, no-eq}
+use Rattle.tasks.specs.Tasks.{wordsTask}
+use Rattle.tasks.proofs.CountLaws.{words-few}
+use Rattle.tasks.proofs.words_task.Statement.{statement}
+use Rattle.tasks.proofs.words_task.Tie as tie
+
+add-if1 : tie.Need-add-if1
+add-if1 c = omega (arith, words-few (c .before .before .before .verb-in .result), c .before .words-of .ensures, c .shift .ensures .1)
+
+returns : tie.Need-returns
+unfolding wordsTask
+returns c =
+    rw (← c .before .before .before .before .verb-in .ensures)
+    (is-eq _ _ _ _ (omega (arith, c .before .before .before .word-count .ensures, c .before .before .words-of .ensures, c .before .shift .ensures .0, c .if1 .taken)) refl)
+
+returns-2 : tie.Need-returns-2
+unfolding wordsTask
+returns-2 c =
+    rw (← c .before .before .before .before .verb-in .ensures)
+    (no-eq _ _ _ _ (omega (arith, c .before .before .before .word-count .ensures, c .before .before .words-of .ensures, c .before .shift .ensures .0, c .if1 .left)) refl)
+
+pub words-task-spec : {M : Type 1} → statement M
+words-task-spec =
+    tie.close
+    (tie.spec
+    (λ c κs. search needs)
+    (λ c κs. search needs)
+    (λ c κs. search needs)
+    (λ c κs. search needs)
+    add-if1
+    returns
+    returns-2)

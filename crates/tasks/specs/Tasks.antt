@@ -1,0 +1,69 @@
+-- What a line asks for. Its words are parted by a space in a batch and by a zero byte between arguments.
+-- Assumes nothing.
+use mathlib.Core.Bool.{Bool, true, false}
+use mathlib.Core.List.{List}
+use Prim.Native.Nat.{ℕ, _+_, _-_}
+use lib.ListN.{length, getD}
+use Rattle.ascii.specs.Ascii.{ascii}
+use Rattle.number.specs.Choice.{if_then_else_, _=?_}
+use Rattle.key.specs.Word.{sameWord}
+use Rattle.words.specs.Words.{wordsOf, wordIn}
+use Rattle.verbs.specs.declared.Verb.{Verb}
+use Rattle.verbs.specs.declared.Verb.the-variants as verb
+use Rattle.verbs.specs.Verbs.{verbOf, wordsIn}
+use Rattle.verbs.specs.Empty.{hasEmpty}
+use Rattle.tasks.specs.declared.Mistake.the-variants.{Blank, CarriageReturn, Spaces, Words}
+use Rattle.tasks.specs.declared.Task.{Task}
+use Rattle.tasks.specs.declared.Task.the-variants.{Mistaken, Run}
+
+-- the separator of a batch
+unfoldable pub inBatch : ℕ → Bool
+inBatch separator = separator =? 32
+
+unfoldable pub writesFile : Verb → Bool
+writesFile (verb.Ask q) = false
+writesFile verb.List = false
+writesFile verb.Normal = true
+writesFile verb.Link = true
+writesFile verb.Unknown = false
+
+-- `-f` stands before the files of a command that writes one
+unfoldable pub isForced : List (List ℕ) → Bool
+isForced ws = if writesFile (verbOf (wordIn 0 ws)) then sameWord (wordIn 1 ws) (ascii "-f") else false
+
+-- so many words more stand before the first file
+unfoldable pub shift : List (List ℕ) → ℕ
+shift ws = if isForced ws then 1 else 0
+
+-- the k-th word of the command, from 1; `-f` is not counted
+abbrev pub argument : ℕ → List (List ℕ) → List ℕ
+argument k ws = wordIn (k + shift ws) ws
+
+-- the command of the first word, with as many words as it takes
+unfoldable pub wordsTask : List (List ℕ) → Task
+wordsTask ws =
+    let v : Verb = verbOf (wordIn 0 ws) in
+    if length ws =? wordsIn v + shift ws then Run v else Mistaken (Words v)
+
+-- a line of a batch: single spaces part its words, and a newline alone ended it
+unfoldable pub lineTask : List ℕ → Task
+lineTask line =
+    if length line =? 0 then Mistaken Blank else
+    if getD line (length line - 1) 0 =? 13 then Mistaken CarriageReturn else
+    if hasEmpty (wordsOf 32 line) then Mistaken Spaces else
+    wordsTask (wordsOf 32 line)
+
+unfoldable pub taskOf : ℕ → List ℕ → Task
+taskOf separator line = if inBatch separator then lineTask line else wordsTask (wordsOf separator line)
+
+-- how many files the command reads
+unfoldable pub filesRead : Verb → ℕ
+filesRead (verb.Ask q) = 1
+filesRead verb.List = 1
+filesRead verb.Normal = 1
+filesRead verb.Link = 2
+filesRead verb.Unknown = 0
+
+unfoldable pub filesOf : Task → ℕ
+filesOf (Mistaken m) = 0
+filesOf (Run v) = filesRead v

@@ -1,0 +1,200 @@
+// What a line asks for: a command with its words, or a mistake. Words are parted by a separator, which is a space in a batch and a zero byte between
+// arguments.
+use sayings::Said;
+use verbs::Question;
+use verbs::Verb;
+use words::Span;
+ghost use mathlib.Core.Path.{_≡_};
+ghost use Prim.Native.Nat.{_+_, _≤_};
+ghost use Rattle.words.specs.Words.{wordsOf, wordIn, Spans};
+ghost use Rattle.verbs.specs.Verbs.{verbOf};
+ghost use Rattle.verbs.specs.declared.Verb.the-variants.{Ask};
+ghost use Rattle.sayings.specs.Sayings.{Says, mistaken};
+ghost use Rattle.tasks.specs.Tasks.{inBatch, writesFile, isForced, shift, wordsTask, lineTask, taskOf, filesRead, filesOf};
+ghost use Rattle.tasks.specs.Mistakes.{usageText, mistakeText};
+
+// What is wrong with a line; `Words` has the command whose words are not as many as it takes, or none that there is.
+pub enum Mistake {
+    Blank,
+    CarriageReturn,
+    Spaces,
+    Words(Verb),
+}
+
+pub enum Task {
+    Mistaken(Mistake),
+    Run(Verb),
+}
+
+// Whether the separator is that of a batch.
+pub fn in_batch(separator: u8) -> bool
+    ensures { λ r. ⌜ r ≡ inBatch separator ⌝ }
+{
+    separator == b' '
+}
+
+fn writes_file(verb: Verb) -> bool
+    ensures { λ r. ⌜ r ≡ writesFile verb ⌝ }
+{
+    match verb {
+        Verb::Ask(_) => false,
+        Verb::List => false,
+        Verb::Normal => true,
+        Verb::Link => true,
+        Verb::Unknown => false,
+    }
+}
+
+// The command of the first word.
+fn verb_in(line: &[u8], separator: u8) -> Verb
+    ensures { λ r. ⌜ r ≡ verbOf (wordIn 0 (wordsOf separator (now (line .entry)))) ⌝ }
+{
+    let first = words::word(line, separator, 0);
+    let from = first.from;
+    let end = first.end;
+    verbs::verb_of(&line[from..end])
+}
+
+// Whether `-f` stands before the files of a command that writes one.
+pub fn is_forced(line: &[u8], separator: u8) -> bool
+    ensures { λ r. ⌜ r ≡ isForced (wordsOf separator (now (line .entry))) ⌝ }
+{
+    if writes_file(verb_in(line, separator)) {
+        let second = words::word(line, separator, 1);
+        let from = second.from;
+        let end = second.end;
+        return words::is_same(&line[from..end], b"-f");
+    }
+    false
+}
+
+// How many words more stand before the first file.
+fn shift(line: &[u8], separator: u8) -> usize
+    ensures { λ r. ⌜ (r ≡ shift (wordsOf separator (now (line .entry)))) × (r ≤ 1) ⌝ }
+{
+    if is_forced(line, separator) {
+        return 1;
+    }
+    0
+}
+
+// The k-th word of the command, from 1; `-f` is not counted.
+pub fn argument(line: &[u8], separator: u8, k: usize) -> Span
+    requires { ⌜ k ≤ 4 ⌝ }
+    ensures { λ r. ⌜ Spans (now (line .entry)) separator (k + shift (wordsOf separator (now (line .entry)))) r ⌝ }
+{
+    words::word(line, separator, k + shift(line, separator))
+}
+
+fn words_task(line: &[u8], separator: u8) -> Task
+    ensures { λ r. ⌜ r ≡ wordsTask (wordsOf separator (now (line .entry))) ⌝ }
+{
+    let verb = verb_in(line, separator);
+    let count = words::word_count(line, separator);
+    if count == verbs::words_of(verb) + shift(line, separator) {
+        return Task::Run(verb);
+    }
+    Task::Mistaken(Mistake::Words(verb))
+}
+
+fn line_task(line: &[u8]) -> Task
+    ensures { λ r. ⌜ r ≡ lineTask (now (line .entry)) ⌝ }
+{
+    let n = line.len();
+    if n == 0 {
+        return Task::Mistaken(Mistake::Blank);
+    }
+    if line[n - 1] == 13 {
+        return Task::Mistaken(Mistake::CarriageReturn);
+    }
+    if verbs::has_empty_word(line, b' ') {
+        return Task::Mistaken(Mistake::Spaces);
+    }
+    words_task(line, b' ')
+}
+
+// What the line asks for.
+pub fn task_of(line: &[u8], separator: u8) -> Task
+    ensures { λ r. ⌜ r ≡ taskOf separator (now (line .entry)) ⌝ }
+{
+    if in_batch(separator) {
+        return line_task(line);
+    }
+    words_task(line, separator)
+}
+
+fn files_read(verb: Verb) -> usize
+    ensures { λ r. ⌜ r ≡ filesRead verb ⌝ }
+{
+    match verb {
+        Verb::Ask(_) => 1,
+        Verb::List => 1,
+        Verb::Normal => 1,
+        Verb::Link => 2,
+        Verb::Unknown => 0,
+    }
+}
+
+// How many files it reads.
+pub fn files_of(task: Task) -> usize
+    ensures { λ r. ⌜ r ≡ filesOf task ⌝ }
+{
+    match task {
+        Task::Mistaken(_) => 0,
+        Task::Run(verb) => files_read(verb),
+    }
+}
+
+// The words of a question.
+fn question_usage(question: Question, text: &mut [u8; 128]) -> Said
+    ensures { λ r. ⌜ Says (mistaken (usageText (Ask question))) (now (text .entry)) r (now (text .exit)) ⌝ }
+{
+    match question {
+        Question::Check => sayings::mistake(b"error the words are: check FILE\n", text),
+        Question::Iid => sayings::mistake(b"error the words are: iid FILE HEX\n", text),
+        Question::Key => sayings::mistake(b"error the words are: key FILE NAMESPACE NAME\n", text),
+        Question::Method => sayings::mistake(
+            b"error the words are: method FILE INDEX NAME getter|setter|plain\n",
+            text,
+        ),
+        Question::Slot => sayings::mistake(b"error the words are: slot FILE INDEX SLOT\n", text),
+        Question::Constant => sayings::mistake(
+            b"error the words are: const FILE INDEX NAME\n",
+            text,
+        ),
+    }
+}
+
+// The words that a command takes.
+fn usage(verb: Verb, text: &mut [u8; 128]) -> Said
+    ensures { λ r. ⌜ Says (mistaken (usageText verb)) (now (text .entry)) r (now (text .exit)) ⌝ }
+{
+    match verb {
+        Verb::Ask(question) => question_usage(question, text),
+        Verb::List => sayings::mistake(b"error the words are: list FILE\n", text),
+        Verb::Normal => sayings::mistake(b"error the words are: normal [-f] FILE OUT\n", text),
+        Verb::Link => sayings::mistake(b"error the words are: link [-f] A B OUT\n", text),
+        Verb::Unknown => sayings::mistake(
+            b"error unknown command; the commands are: check list iid key method slot const normal link\n",
+            text,
+        ),
+    }
+}
+
+// The line that tells a mistake.
+pub fn tell(what: Mistake, text: &mut [u8; 128]) -> Said
+    ensures { λ r. ⌜ Says (mistaken (mistakeText what)) (now (text .entry)) r (now (text .exit)) ⌝ }
+{
+    match what {
+        Mistake::Blank => sayings::mistake(b"error the line is blank\n", text),
+        Mistake::CarriageReturn => sayings::mistake(
+            b"error the line ends in a carriage return; a newline alone ends a line\n",
+            text,
+        ),
+        Mistake::Spaces => sayings::mistake(
+            b"error words are parted by single spaces, with none at the ends of a line\n",
+            text,
+        ),
+        Mistake::Words(verb) => usage(verb, text),
+    }
+}
