@@ -1,0 +1,29 @@
+-- `commands::answer` meets its contract.
+-- Assumes nothing.
+use Rattle.number.proofs.Tools.{needs}
+use Rattle.commands.specs.Answer.{taskAnswer, answerOf}
+use Rattle.commands.proofs.ReplyLaws.{says-replies}
+use Rattle.commands.proofs.answer.Statement.{statement}
+use Rattle.commands.proofs.answer.Tie as tie
+
+returns : tie.Need-returns
+unfolding answerOf taskAnswer
+returns c = rw (← c .before .before .before .before .before .before .task-of .ensures, c .before .before .before .before .what .given .1) (says-replies _ _ _ _ _ _ _ _ (c .before .tell .ensures) (c .answered .ensures))
+
+returns-2 : tie.Need-returns-2
+unfolding answerOf taskAnswer
+returns-2 c = rw (← c .before .before .before .before .before .before .before .before .task-of .ensures, c .before .before .before .before .before .before .verb .given .1) (c .before .before .run .ensures)
+
+pub answer-spec : {M : Type 1} → statement M
+answer-spec =
+    tie.close
+    (tie.spec
+    (λ c κs. search needs)
+    (λ c. search needs)
+    (λ c κs. search needs)
+    (λ c κs. search needs)
+    (λ c. search needs)
+    (λ c κs. search needs)
+    returns
+    (λ c. search needs)
+    returns-2)

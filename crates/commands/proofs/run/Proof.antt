@@ -1,0 +1,49 @@
+-- `commands::run` meets its contract.
+-- Assumes nothing.
+use Rattle.number.proofs.Tools.{needs}
+use Rattle.commands.specs.Answer.{verbAnswer}
+use Rattle.commands.proofs.ReplyLaws.{says-replies}
+use Rattle.commands.proofs.run.Statement.{statement}
+use Rattle.commands.proofs.run.Tie as tie
+
+returns : tie.Need-returns
+unfolding verbAnswer
+returns c = rw (c .before .before .before .before .verb .given .1) (says-replies _ _ _ _ _ _ _ _ (c .before .ask .ensures) (c .answered .ensures))
+
+returns-2 : tie.Need-returns-2
+returns-2 c = rw (c .before .before .before .enum-told .given .1, ← c .before .before .in-batch .ensures) (c .list .ensures _ _ _)
+
+returns-3 : tie.Need-returns-3
+returns-3 c = rw (c .before .before .before .before .before .enum-told2 .given .1) (c .before .before .normal .ensures _ _ _)
+
+returns-4 : tie.Need-returns-4
+returns-4 c = rw (c .before .before .before .before .before .enum-told3 .given .1) (c .before .before .link .ensures _ _)
+
+returns-5 : tie.Need-returns-5
+unfolding verbAnswer
+returns-5 c = rw (c .before .before .before .enum-told4 .given .1) (says-replies _ _ _ _ _ _ _ _ (c .before .tell .ensures) (c .answered2 .ensures))
+
+pub run-spec : {M : Type 1} → statement M
+run-spec =
+    tie.close
+    (tie.spec
+    (λ c. search needs)
+    (λ c κs. search needs)
+    (λ c κs. search needs)
+    (λ c. search needs)
+    (λ c κs. search needs)
+    (λ c κs. search needs)
+    (λ c. search needs)
+    (λ c κs. search needs)
+    (λ c. search needs)
+    (λ c κs. search needs)
+    (λ c. search needs)
+    (λ c κs. search needs)
+    (λ c κs. search needs)
+    returns
+    returns-2
+    (λ c. search needs)
+    returns-3
+    (λ c. search needs)
+    returns-4
+    returns-5)

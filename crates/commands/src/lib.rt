@@ -1,0 +1,149 @@
+// The answer to a line, from its bytes and those of the files that it names to the bytes of the text and of the output.
+use joining::Normalised;
+use link::Linked;
+use link::Which;
+use listed::Rest;
+use sayings::Said;
+use tasks::Mistake;
+use tasks::Task;
+use verbs::Verb;
+ghost use mathlib.Core.Path.{_≡_};
+ghost use mathlib.Core.Bool.{Bool};
+ghost use mathlib.Core.List.{List};
+ghost use Prim.Native.Nat.{ℕ};
+ghost use Rattle.words.specs.Words.{wordsOf};
+ghost use Rattle.verbs.specs.declared.Verb.the-variants as verb;
+ghost use Rattle.tasks.specs.Tasks.{inBatch};
+ghost use Rattle.commands.specs.Answer.{oneLine, normalisedSave, linkedSave, linkedWhose, verbAnswer, answerOf, Replies};
+
+// What of the output is to be saved: nothing, or its first bytes.
+pub enum Save {
+    Nothing,
+    FirstBytes(usize),
+}
+
+// What was put at the front of the text and why, what is left of a listing after it, of which file a refusal is, and what is to be saved.
+pub struct Reply {
+    pub said: Said,
+    pub rest: Rest,
+    pub whose: Which,
+    pub save: Save,
+}
+
+// An answer of one line from the first file.
+fn answered(said: Said) -> Reply
+    ensures { λ r. ⌜ r ≡ oneLine said ⌝ }
+{
+    Reply {
+        said,
+        rest: listed::no_rest(),
+        whose: Which::First,
+        save: Save::Nothing,
+    }
+}
+
+fn normalised_save(done: Normalised) -> Save
+    ensures { λ r. ⌜ r ≡ normalisedSave done ⌝ }
+{
+    match done {
+        Normalised::Written(n) => Save::FirstBytes(n),
+        Normalised::Refused(_) => Save::Nothing,
+    }
+}
+
+fn linked_save(done: Linked) -> Save
+    ensures { λ r. ⌜ r ≡ linkedSave done ⌝ }
+{
+    match done {
+        Linked::Written(n) => Save::FirstBytes(n),
+        Linked::Refused(_) => Save::Nothing,
+    }
+}
+
+fn linked_whose(done: Linked) -> Which
+    ensures { λ r. ⌜ r ≡ linkedWhose done ⌝ }
+{
+    match done {
+        Linked::Written(_) => Which::Union,
+        Linked::Refused(refusal) => refusal.which,
+    }
+}
+
+// The command `normal`.
+fn normal(first: &[u8], out: &mut [u8], text: &mut [u8; 128]) -> Reply
+    ensures { λ r. ⌜ ((b : Bool) (ws : List (List ℕ)) (second : List ℕ) → Replies b (verbAnswer b verb.Normal ws (now (first .entry)) second (now (out .entry))) (now (first .entry)) (now (text .entry)) r (now (out .exit)) (now (text .exit))) ⌝ }
+{
+    let done = link::normalise(first, out);
+    Reply {
+        said: outcomes::normalised(done, text),
+        rest: listed::no_rest(),
+        whose: Which::First,
+        save: normalised_save(done),
+    }
+}
+
+// The command `link`.
+fn link(first: &[u8], second: &[u8], out: &mut [u8], text: &mut [u8; 128]) -> Reply
+    ensures { λ r. ⌜ ((b : Bool) (ws : List (List ℕ)) → Replies b (verbAnswer b verb.Link ws (now (first .entry)) (now (second .entry)) (now (out .entry))) (now (first .entry)) (now (text .entry)) r (now (out .exit)) (now (text .exit))) ⌝ }
+{
+    let done = link::link(first, second, out);
+    Reply {
+        said: outcomes::linked(done, text),
+        rest: listed::no_rest(),
+        whose: linked_whose(done),
+        save: linked_save(done),
+    }
+}
+
+// The command `list`.
+fn list(file: &[u8], in_batch: bool, text: &mut [u8; 128]) -> Reply
+    ensures { λ r. ⌜ ((ws : List (List ℕ)) (second out : List ℕ) → Replies «in_batch» (verbAnswer «in_batch» verb.List ws (now (file .entry)) second out) (now (file .entry)) (now (text .entry)) r out (now (text .exit))) ⌝ }
+{
+    let opened = listed::open(file, in_batch, text);
+    let said = opened.said;
+    let rest = opened.rest;
+    Reply {
+        said,
+        rest,
+        whose: Which::First,
+        save: Save::Nothing,
+    }
+}
+
+// The command of a line with as many words as it takes.
+fn run(
+    verb: Verb,
+    line: &[u8],
+    separator: u8,
+    first: &[u8],
+    second: &[u8],
+    out: &mut [u8],
+    text: &mut [u8; 128],
+) -> Reply
+    ensures { λ r. ⌜ Replies (inBatch separator) (verbAnswer (inBatch separator) verb (wordsOf separator (now (line .entry))) (now (first .entry)) (now (second .entry)) (now (out .entry))) (now (first .entry)) (now (text .entry)) r (now (out .exit)) (now (text .exit)) ⌝ }
+{
+    match verb {
+        Verb::Ask(question) => answered(questions::ask(question, line, separator, first, text)),
+        Verb::List => list(first, tasks::in_batch(separator), text),
+        Verb::Normal => normal(first, out, text),
+        Verb::Link => link(first, second, out, text),
+        Verb::Unknown => answered(tasks::tell(Mistake::Words(Verb::Unknown), text)),
+    }
+}
+
+// The answer to a line about the bytes of the file or files that it names; a command that reads one file does not look at the second.
+pub fn answer(
+    line: &[u8],
+    separator: u8,
+    first: &[u8],
+    second: &[u8],
+    out: &mut [u8],
+    text: &mut [u8; 128],
+) -> Reply
+    ensures { λ r. ⌜ Replies (inBatch separator) (answerOf separator (now (line .entry)) (now (first .entry)) (now (second .entry)) (now (out .entry))) (now (first .entry)) (now (text .entry)) r (now (out .exit)) (now (text .exit)) ⌝ }
+{
+    match tasks::task_of(line, separator) {
+        Task::Mistaken(what) => answered(tasks::tell(what, text)),
+        Task::Run(verb) => run(verb, line, separator, first, second, out, text),
+    }
+}
