@@ -1,1 +1,4 @@
+pub mod LineLaws
 pub mod InputLaws
+pub mod BufferLaws
+pub mod Handed

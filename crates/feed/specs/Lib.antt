@@ -1,2 +1,4 @@
 pub mod Arguments
+pub mod Lines
 pub mod Input
+pub mod Way
