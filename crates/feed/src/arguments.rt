@@ -2,15 +2,27 @@
 ghost use mathlib.Core.Path.{_≡_};
 ghost use Prim.Native.Nat.{_≤_};
 ghost use lib.ListN.{length};
-ghost use Rattle.feed.specs.Arguments.{isHelp, EndsIn, GatheredIn};
+ghost use lib.ListN.{take};
+ghost use Rattle.feed.specs.Arguments.{isHelpFlag, isHelp, firstAsks, asksHelp, EndsIn, CommandIn, AskedIn, GatheredIn};
 
-// No argument; more than the line has room for; `help`; `batch` alone; or the length of the words of another command.
+// No argument; more than the line has room for; `help`; `--version`; `batch` alone; a command with `-h` or `--help` alone, by the length of its name;
+// or the length of the words of another command.
 pub enum Gathered {
     Nothing,
     TooLong,
     Help,
+    Version,
     Batch,
+    HelpOf(usize),
     Words(usize),
+}
+
+// What the first word asks for.
+enum First {
+    Help,
+    Version,
+    Batch,
+    Command,
 }
 
 // Where the line ends, or that it has no room.
@@ -63,37 +75,86 @@ fn gather_more(count: usize, first: usize, line: &mut [u8; 65536]) -> Ended
     Ended::At(end)
 }
 
-// Whether the word asks for help.
-fn is_help(word: &[u8]) -> bool
-    ensures { λ r. ⌜ r ≡ isHelp (now (word .entry)) ⌝ }
+// Whether the word is `-h` or `--help`.
+fn is_help_flag(word: &[u8]) -> bool
+    ensures { λ r. ⌜ r ≡ isHelpFlag (now (word .entry)) ⌝ }
 {
-    if words::is_same(word, b"help") {
-        return true;
-    }
     if words::is_same(word, b"--help") {
         return true;
     }
     words::is_same(word, b"-h")
 }
 
-// What the first word, of this length, and the number of arguments ask for.
+// Whether the first word asks for help.
+fn is_help(word: &[u8]) -> bool
+    ensures { λ r. ⌜ r ≡ isHelp (now (word .entry)) ⌝ }
+{
+    if words::is_same(word, b"help") {
+        return true;
+    }
+    is_help_flag(word)
+}
+
+// What the first word and the number of arguments ask for.
+fn first_asks(count: usize, word: &[u8]) -> First
+    ensures { λ r. ⌜ r ≡ firstAsks count (now (word .entry)) ⌝ }
+{
+    if is_help(word) {
+        return First::Help;
+    }
+    if words::is_same(word, b"--version") {
+        return First::Version;
+    }
+    if count != 2 {
+        return First::Command;
+    }
+    if words::is_same(word, b"batch") {
+        return First::Batch;
+    }
+    First::Command
+}
+
+// Whether the only word behind the first, which is `first` bytes long, asks for help; the line ends at `end`.
+fn asks_help(count: usize, first: usize, end: usize, line: &[u8]) -> bool
+    requires { ⌜ end ≤ length (now line) ⌝ }
+    ensures { λ r. ⌜ r ≡ asksHelp count first end (now (line .entry)) ⌝ }
+{
+    if count != 3 {
+        return false;
+    }
+    if end <= first {
+        return false;
+    }
+    is_help_flag(&line[first + 1..end])
+}
+
+// The words of a command.
+fn gather_command(count: usize, first: usize, line: &mut [u8; 65536]) -> Gathered
+    requires { ⌜ first ≤ 65536 ⌝ }
+    ensures { λ r. ⌜ CommandIn count first (now (line .exit)) r ⌝ }
+{
+    match gather_more(count, first, line) {
+        Ended::At(end) => {
+            if asks_help(count, first, end, line) {
+                return Gathered::HelpOf(first);
+            }
+            Gathered::Words(end)
+        }
+        Ended::TooLong => Gathered::TooLong,
+    }
+}
+
+// What the first word, of this length, and those behind it ask for.
 fn gather_words(count: usize, first: usize, line: &mut [u8; 65536]) -> Gathered
     requires { ⌜ first ≤ 65536 ⌝ }
-    ensures { λ r. ⌜ GatheredIn 65536 r ⌝ }
+    ensures { λ r. ⌜ AskedIn count first (take first (now (line .entry))) (now (line .exit)) r ⌝ }
 {
     let all: &[u8] = line;
-    let word = &all[..first];
-    if is_help(word) {
-        return Gathered::Help;
-    }
-    if count == 2 {
-        if words::is_same(word, b"batch") {
-            return Gathered::Batch;
-        }
-    }
-    match gather_more(count, first, line) {
-        Ended::At(n) => Gathered::Words(n),
-        Ended::TooLong => Gathered::TooLong,
+    match first_asks(count, &all[..first]) {
+        First::Help => Gathered::Help,
+        First::Version => Gathered::Version,
+        First::Batch => Gathered::Batch,
+        First::Command => gather_command(count, first, line),
     }
 }
 

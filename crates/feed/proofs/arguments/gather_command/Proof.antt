@@ -1,0 +1,33 @@
+-- `feed::arguments::gather_command` meets its contract: the end of the last word lies within the line.
+-- Assumes nothing.
+use Rattle.number.proofs.Tools.{refl, sym, _∙_, subst, arith, needs}
+use Rattle.feed.specs.Arguments.{EndsIn}
+use Rattle.feed.proofs.arguments.gather_command.Statement.{statement}
+use Rattle.feed.proofs.arguments.gather_command.Tie as tie
+
+asks-help-requires : tie.Need-asks-help-requires
+asks-help-requires c κs =
+    let e = c .before .before .before in
+    omega (arith, subst (EndsIn 65536) (e .end .given .1) (e .before .before .gather-more .ensures))
+
+returns : tie.Need-returns
+returns c =
+    let e = c .before .before .before .before .before in
+    (refl, (e .end .given .0 .0, (subst (EndsIn 65536) (e .end .given .1) (e .before .before .gather-more .ensures), sym (c .before .asks-help .ensures) ∙ c .if1 .taken)))
+
+returns-2 : tie.Need-returns-2
+returns-2 c =
+    let e = c .before .before .before .before .before in
+    (subst (EndsIn 65536) (e .end .given .1) (e .before .before .gather-more .ensures), sym (c .before .asks-help .ensures) ∙ c .if1 .left)
+
+pub gather-command-spec : {M : Type 1} → statement M
+gather-command-spec =
+    tie.close
+    (tie.spec
+    (λ c κs. search needs)
+    (λ c. search needs)
+    asks-help-requires
+    returns
+    (λ c. search needs)
+    returns-2
+    (λ c. tt))
