@@ -39,10 +39,15 @@ asksHelp count n e line =
     if e ≤? n then false else
     isHelpFlag (take (e - (n + 1)) (drop (n + 1) line))
 
--- the line ends within n bytes
-abbrev pub EndsIn : ℕ → Ended → Type 0
-EndsIn n (ended.At e) = e ≤ n
-EndsIn n ended.TooLong = Unit {0}
+-- the line ends from `from` on, and within n bytes
+abbrev pub EndsIn : ℕ → ℕ → Ended → Type 0
+EndsIn from n (ended.At e) = (from ≤ e) × (e ≤ n)
+EndsIn from n ended.TooLong = Unit {0}
+
+-- the line goes on from `from`; what stands before it is as it was
+pub record Extends (n : ℕ) (before : List ℕ) (from : ℕ) (r : Ended) (after : List ℕ) : Type 0 where
+  pub ends : EndsIn from n r
+  pub front : take from after ≡ take from before
 
 -- what is gathered where the first word, of n bytes, is that of a command
 abbrev pub CommandIn : ℕ → ℕ → List ℕ → Gathered → Type 0
@@ -51,25 +56,47 @@ CommandIn count n line gathered.TooLong = Unit {0}
 CommandIn count n line gathered.Help = ⊥
 CommandIn count n line gathered.Version = ⊥
 CommandIn count n line gathered.Batch = ⊥
-CommandIn count n line (gathered.HelpOf k) = (k ≡ n) × ((e : ℕ) × ((e ≤ 65536) × (asksHelp count n e line ≡ true)))
+CommandIn count n line (gathered.HelpOf k) = (k ≡ n) × ((e : ℕ) × (asksHelp count n e line ≡ true))
 CommandIn count n line (gathered.Words e) = (e ≤ 65536) × (asksHelp count n e line ≡ false)
 
--- what is gathered where the first word, of n bytes, is w
-abbrev pub AskedIn : ℕ → ℕ → List ℕ → List ℕ → Gathered → Type 0
-AskedIn count n w line gathered.Nothing = ⊥
-AskedIn count n w line gathered.TooLong = firstAsks count w ≡ first.Command
-AskedIn count n w line gathered.Help = firstAsks count w ≡ first.Help
-AskedIn count n w line gathered.Version = firstAsks count w ≡ first.Version
-AskedIn count n w line gathered.Batch = firstAsks count w ≡ first.Batch
-AskedIn count n w line (gathered.HelpOf k) = (firstAsks count w ≡ first.Command) × CommandIn count n line (gathered.HelpOf k)
-AskedIn count n w line (gathered.Words e) = (firstAsks count w ≡ first.Command) × CommandIn count n line (gathered.Words e)
+-- what is gathered where the first word has n bytes
+abbrev pub AskedIn : ℕ → ℕ → List ℕ → Gathered → Type 0
+AskedIn count n line gathered.Nothing = ⊥
+AskedIn count n line gathered.TooLong = Unit {0}
+AskedIn count n line gathered.Help = firstAsks count (take n line) ≡ first.Help
+AskedIn count n line gathered.Version = firstAsks count (take n line) ≡ first.Version
+AskedIn count n line gathered.Batch = firstAsks count (take n line) ≡ first.Batch
+AskedIn count n line (gathered.HelpOf k) = (firstAsks count (take n line) ≡ first.Command) × CommandIn count n line (gathered.HelpOf k)
+AskedIn count n line (gathered.Words e) = (firstAsks count (take n line) ≡ first.Command) × CommandIn count n line (gathered.Words e)
 
--- whatever the arguments are, the words that were gathered end within n bytes
-abbrev pub GatheredIn : ℕ → Gathered → Type 0
-GatheredIn n gathered.Nothing = Unit {0}
-GatheredIn n gathered.TooLong = Unit {0}
-GatheredIn n gathered.Help = Unit {0}
-GatheredIn n gathered.Version = Unit {0}
-GatheredIn n gathered.Batch = Unit {0}
-GatheredIn n (gathered.HelpOf e) = e ≤ n
-GatheredIn n (gathered.Words e) = e ≤ n
+-- the first word stands at the front of the line, and asks for this
+pub record Asks (what : First) (line : List ℕ) : Type 0 where
+  pub count : ℕ
+  pub size : ℕ
+  pub first : firstAsks count (take size line) ≡ what
+
+-- that of a command, of k bytes, and the one word behind it asks for help
+pub record AsksHelpOf (k : ℕ) (line : List ℕ) : Type 0 where
+  pub within : k ≤ 65536
+  pub count : ℕ
+  pub first : firstAsks count (take k line) ≡ first.Command
+  pub end : ℕ
+  pub flag : asksHelp count k end line ≡ true
+
+-- that of a command, and the line ends at e
+pub record AsksCommand (e : ℕ) (line : List ℕ) : Type 0 where
+  pub within : e ≤ 65536
+  pub count : ℕ
+  pub size : ℕ
+  pub first : firstAsks count (take size line) ≡ first.Command
+  pub other : asksHelp count size e line ≡ false
+
+-- what is gathered; nothing tells how many arguments there are, nor which
+abbrev pub GatheredIn : List ℕ → Gathered → Type 0
+GatheredIn line gathered.Nothing = Unit {0}
+GatheredIn line gathered.TooLong = Unit {0}
+GatheredIn line gathered.Help = Asks first.Help line
+GatheredIn line gathered.Version = Asks first.Version line
+GatheredIn line gathered.Batch = Asks first.Batch line
+GatheredIn line (gathered.HelpOf k) = AsksHelpOf k line
+GatheredIn line (gathered.Words e) = AsksCommand e line

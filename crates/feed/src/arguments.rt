@@ -1,9 +1,8 @@
 // The program's arguments, as one line.
 ghost use mathlib.Core.Path.{_≡_};
 ghost use Prim.Native.Nat.{_≤_};
-ghost use lib.ListN.{length};
-ghost use lib.ListN.{take};
-ghost use Rattle.feed.specs.Arguments.{isHelpFlag, isHelp, firstAsks, asksHelp, EndsIn, CommandIn, AskedIn, GatheredIn};
+ghost use lib.ListN.{length, take};
+ghost use Rattle.feed.specs.Arguments.{isHelpFlag, isHelp, firstAsks, asksHelp, Extends, CommandIn, AskedIn, GatheredIn};
 
 // No argument; more than the line has room for; `help`; `--version`; `batch` alone; a command with `-h` or `--help` alone, by the length of its name;
 // or the length of the words of another command.
@@ -34,7 +33,7 @@ enum Ended {
 // Argument i into the line, from `from` on.
 fn gather_at(i: usize, from: usize, line: &mut [u8]) -> Ended
     requires { ⌜ from ≤ length (now line) ⌝ }
-    ensures { λ r. ⌜ EndsIn (length (now (line .entry))) r ⌝ }
+    ensures { λ r. ⌜ Extends (length (now (line .entry))) (now (line .entry)) from r (now (line .exit)) ⌝ }
 {
     let got = os::arg(i, &mut line[from..]);
     if os::errno() != 0 {
@@ -45,7 +44,7 @@ fn gather_at(i: usize, from: usize, line: &mut [u8]) -> Ended
 
 // Argument i after a zero byte, behind the line that ends at `end`.
 fn gather_one(i: usize, end: usize, line: &mut [u8]) -> Ended
-    ensures { λ r. ⌜ EndsIn (length (now (line .entry))) r ⌝ }
+    ensures { λ r. ⌜ Extends (length (now (line .entry))) (now (line .entry)) end r (now (line .exit)) ⌝ }
 {
     if line.len() <= end {
         return Ended::TooLong;
@@ -57,7 +56,7 @@ fn gather_one(i: usize, end: usize, line: &mut [u8]) -> Ended
 // The arguments from the second on, behind the first.
 fn gather_more(count: usize, first: usize, line: &mut [u8; 65536]) -> Ended
     requires { ⌜ first ≤ 65536 ⌝ }
-    ensures { λ r. ⌜ EndsIn 65536 r ⌝ }
+    ensures { λ r. ⌜ Extends 65536 (now (line .entry)) first r (now (line .exit)) ⌝ }
 {
     let mut end = first;
     let mut i: usize = 2;
@@ -131,7 +130,7 @@ fn asks_help(count: usize, first: usize, end: usize, line: &[u8]) -> bool
 // The words of a command.
 fn gather_command(count: usize, first: usize, line: &mut [u8; 65536]) -> Gathered
     requires { ⌜ first ≤ 65536 ⌝ }
-    ensures { λ r. ⌜ CommandIn count first (now (line .exit)) r ⌝ }
+    ensures { λ r. ⌜ CommandIn count first (now (line .exit)) r × (take first (now (line .exit)) ≡ take first (now (line .entry))) ⌝ }
 {
     match gather_more(count, first, line) {
         Ended::At(end) => {
@@ -147,7 +146,7 @@ fn gather_command(count: usize, first: usize, line: &mut [u8; 65536]) -> Gathere
 // What the first word, of this length, and those behind it ask for.
 fn gather_words(count: usize, first: usize, line: &mut [u8; 65536]) -> Gathered
     requires { ⌜ first ≤ 65536 ⌝ }
-    ensures { λ r. ⌜ AskedIn count first (take first (now (line .entry))) (now (line .exit)) r ⌝ }
+    ensures { λ r. ⌜ AskedIn count first (now (line .exit)) r ⌝ }
 {
     let all: &[u8] = line;
     match first_asks(count, &all[..first]) {
@@ -160,7 +159,7 @@ fn gather_words(count: usize, first: usize, line: &mut [u8; 65536]) -> Gathered
 
 // The arguments into `line`, a zero byte between two.
 pub fn gather(line: &mut [u8; 65536]) -> Gathered
-    ensures { λ r. ⌜ GatheredIn 65536 r ⌝ }
+    ensures { λ r. ⌜ GatheredIn (now (line .exit)) r ⌝ }
 {
     let count = os::arg_count();
     if count < 2 {

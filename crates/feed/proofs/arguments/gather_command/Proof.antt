@@ -8,17 +8,18 @@ use Rattle.feed.proofs.arguments.gather_command.Tie as tie
 asks-help-requires : tie.Need-asks-help-requires
 asks-help-requires c κs =
     let e = c .before .before .before in
-    omega (arith, subst (EndsIn 65536) (e .end .given .1) (e .before .before .gather-more .ensures))
+    omega (arith, subst (EndsIn _ 65536) (e .end .given .1) (e .before .before .gather-more .ensures .ends) .1)
 
 returns : tie.Need-returns
 returns c =
     let e = c .before .before .before .before .before in
-    (refl, (e .end .given .0 .0, (subst (EndsIn 65536) (e .end .given .1) (e .before .before .gather-more .ensures), sym (c .before .asks-help .ensures) ∙ c .if1 .taken)))
+    ((refl, (e .end .given .0 .0, sym (c .before .asks-help .ensures) ∙ c .if1 .taken)), e .before .before .gather-more .ensures .front)
 
 returns-2 : tie.Need-returns-2
 returns-2 c =
     let e = c .before .before .before .before .before in
-    (subst (EndsIn 65536) (e .end .given .1) (e .before .before .gather-more .ensures), sym (c .before .asks-help .ensures) ∙ c .if1 .left)
+    let x = e .before .before .gather-more .ensures in
+    ((subst (EndsIn _ 65536) (e .end .given .1) (x .ends) .1, sym (c .before .asks-help .ensures) ∙ c .if1 .left), x .front)
 
 pub gather-command-spec : {M : Type 1} → statement M
 gather-command-spec =
@@ -30,4 +31,4 @@ gather-command-spec =
     returns
     (λ c. search needs)
     returns-2
-    (λ c. tt))
+    (λ c. (tt, c .before .before .gather-more .ensures .front)))

@@ -1,7 +1,8 @@
 -- `feed::arguments::gather_words` meets its contract: by what the first word asks for.
 -- Assumes nothing.
 use lib.Seq.{length-take-le}
-use Rattle.number.proofs.Tools.{sym, _∙_, arith, needs}
+use Rattle.number.proofs.Tools.{sym, ap, _∙_, arith, needs}
+use Rattle.feed.specs.Arguments.{firstAsks}
 use Rattle.feed.proofs.ArgumentLaws.{asked-command}
 use Rattle.feed.proofs.arguments.gather_words.Statement.{statement}
 use Rattle.feed.proofs.arguments.gather_words.Tie as tie
@@ -21,7 +22,7 @@ returns-3 c = sym (c .before .before .first-asks .ensures) ∙ c .enum-told3 .gi
 returns-4 : tie.Need-returns-4
 returns-4 c =
     let e = c .before .before in
-    asked-command _ _ _ _ (c .gather-command .result) (sym (e .before .before .first-asks .ensures) ∙ e .enum-told4 .given .1) (c .gather-command .ensures)
+    asked-command _ _ _ (c .gather-command .result) (ap (firstAsks _) (c .gather-command .ensures .1) ∙ sym (e .before .before .first-asks .ensures) ∙ e .enum-told4 .given .1) (c .gather-command .ensures .0)
 
 pub gather-words-spec : {M : Type 1} → statement M
 gather-words-spec =
