@@ -11,6 +11,7 @@ use Rattle.feed.specs.declared.arguments.Ended.the-variants as ended
 use Rattle.feed.specs.declared.arguments.First.the-variants.{Command}
 use Rattle.feed.specs.declared.arguments.Gathered.{Gathered}
 use Rattle.feed.specs.declared.arguments.Gathered.the-variants as gathered
+use Rattle.feed.specs.Lines.{inputRoom}
 use Rattle.feed.specs.Arguments.{firstAsks, EndsIn, Extends, CommandIn, AskedIn, GatheredIn}
 
 -- ---- lines
@@ -45,7 +46,7 @@ module _ (count n : ℕ) (line : List ℕ) where
   asked-command (gathered.HelpOf k) e c = (e, c)
   asked-command (gathered.Words k) e c = (e, c)
 
-  pub asked-gathered : (r : Gathered) → n ≤ 65536 → AskedIn count n line r → GatheredIn line r
+  pub asked-gathered : (r : Gathered) → n ≤ inputRoom → AskedIn count n line r → GatheredIn line r
   asked-gathered gathered.Nothing h a = tt
   asked-gathered gathered.TooLong h a = tt
   asked-gathered gathered.Help h a = record { count = count; size = n; first = a }

@@ -13,7 +13,7 @@ use lib.Seq.{length-take-le, getD-take, getD-drop, getD-set-same, getD-set-other
 use Rattle.number.specs.Choice.{if_then_else_, _=?_}
 use Rattle.number.proofs.Choice.{yes-eq, not-eq}
 use Rattle.number.proofs.Scans.{below}
-use Rattle.feed.specs.Lines.{Item, itemsOf, behindNewline}
+use Rattle.feed.specs.Lines.{Item, inputRoom, itemsOf, behindNewline}
 use Rattle.feed.specs.declared.Feed.{Feed}
 use Rattle.feed.specs.declared.Came.{Came}
 use Rattle.feed.specs.declared.Arrived.{Arrived}
@@ -94,16 +94,16 @@ module _ (s t u : List ℕ) (f : Feed) (kept : ℕ) (a : Arrived) (d : Fed s f) 
         ∙ ap (λ (x : List ℕ). handed ++ itemsOf x) (ahead-same (f .«is_passing») _ _ (sym (append-assoc (unread s f) (newBytes f came u) more) ∙ ap (λ (x : List ℕ). x ++ more) (sym unread-more)));
   }
 
-  byte-kept : (k : ℕ) → k < kept → f .end ≤ 65536 → getD u k 0 ≡ getD s (f .from + k) 0
-  byte-kept k h w = sym (getD-take kept u k 0 h) ∙ ap (λ (x : List ℕ). getD x k 0) front ∙ getD-take (f .end - f .from) (drop (f .from) s) k 0 (omega (arith, m .length)) ∙ getD-drop (f .from) s k 0
+  byte-kept : (k : ℕ) → k < kept → getD u k 0 ≡ getD s (f .from + k) 0
+  byte-kept k h = sym (getD-take kept u k 0 h) ∙ ap (λ (x : List ℕ). getD x k 0) front ∙ getD-take (f .end - f .from) (drop (f .from) s) k 0 (omega (arith, m .length)) ∙ getD-drop (f .from) s k 0
 
-  pub adds-more : 65536 ≡ length t → f .«is_over» ≡ false → Adds s f came u
+  pub adds-more : inputRoom ≡ length t → f .«is_over» ≡ false → Adds s f came u
   adds-more l o = record {
     fed = record {
       ordered = omega arith;
       before = omega (arith, m .length, d .before);
       inside = omega (arith, r .inside);
-      none = record { each = λ k x y z. d .none .each (f .from + k) (omega arith) (omega (arith, d .ordered)) (sym (byte-kept k (omega (arith, m .length, d .before)) (d .inside)) ∙ z) };
+      none = record { each = λ k x y z. d .none .each (f .from + k) (omega arith) (omega (arith, d .ordered)) (sym (byte-kept k (omega (arith, m .length, d .before))) ∙ z) };
     };
     adds = read-adds o;
     over = count-none (a .count) kept (f .end - f .from) (m .length);

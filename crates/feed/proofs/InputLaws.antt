@@ -12,7 +12,7 @@ use lib.ListN.{length, getD, take, drop, length-drop, List·getD-eq-default}
 use lib.Seq.{length-take-le, getD-take, getD-drop, take-add, drop-drop, drop-cons}
 use Rattle.number.proofs.Choice.{is-true, is-false}
 use Rattle.number.proofs.Scans.{below}
-use Rattle.feed.specs.Lines.{Item, line, tooLong, itemsOf, behindNewline}
+use Rattle.feed.specs.Lines.{Item, line, tooLong, inputRoom, itemsOf, behindNewline}
 use Rattle.feed.specs.declared.Feed.{Feed}
 use Rattle.feed.specs.declared.Coming.{Coming}
 use Rattle.feed.specs.declared.Coming.the-variants as coming
@@ -72,7 +72,7 @@ module _ (s : List ℕ) where
     found = n .found;
   }
 
-  pub fed-from : (f : Feed) (at : ℕ) (p : Bool) → at ≤ f .end → f .end ≤ 65536 → Fed s (feedFrom f at p)
+  pub fed-from : (f : Feed) (at : ℕ) (p : Bool) → at ≤ f .end → f .end ≤ inputRoom → Fed s (feedFrom f at p)
   fed-from f at p h m = record { ordered = omega arith; before = h; inside = m; none = none-empty at at (omega arith) }
 
 -- ---- what is ahead
@@ -142,13 +142,13 @@ module _ (s : List ℕ) (f : Feed) (m : f .end ≤ length s) (n : NoNewline s (f
   drained-hands e = hands-by s f (feedFrom f (f .end) true) [] refl (λ more _.
       ap itemsOf (ahead-passing s f more e ∙ behind-append (unread s f) more whole-line ∙ sym (ahead-passing s (feedFrom f (f .end) true) more refl ∙ ap behindNewline (after-all true more))))
 
-  long-hands : f .«is_passing» ≡ false → 65536 ≤ f .end - f .from → Hands s f (tooLong ∷ []) (feedFrom f (f .end) true)
+  long-hands : f .«is_passing» ≡ false → inputRoom ≤ f .end - f .from → Hands s f (tooLong ∷ []) (feedFrom f (f .end) true)
   long-hands e l = hands-by s f (feedFrom f (f .end) true) _ refl (λ more _.
       ap itemsOf (ahead-plain s f more e)
       ∙ items-long (unread s f) more whole-line (omega (arith, length-between s (f .from) (f .end) m))
       ∙ ap (λ (t : List ℕ). tooLong ∷ itemsOf t) (sym (ahead-passing s (feedFrom f (f .end) true) more refl ∙ ap behindNewline (after-all true more))))
 
-  last-hands : f .«is_passing» ≡ false → f .«is_over» ≡ true → f .from < f .end → f .end - f .from ≤ 65535 → Hands s f (line (unread s f) ∷ []) (feedFrom f (f .end) false)
+  last-hands : f .«is_passing» ≡ false → f .«is_over» ≡ true → f .from < f .end → f .end - f .from < inputRoom → Hands s f (line (unread s f) ∷ []) (feedFrom f (f .end) false)
   last-hands e o h l = hands-by s f (feedFrom f (f .end) false) _ refl (λ more k. go more (k o))
     where
       go : (more : List ℕ) → more ≡ [] → itemsOf (ahead s f more) ≡ line (unread s f) ∷ itemsOf (ahead s (feedFrom f (f .end) false) more)
@@ -157,7 +157,7 @@ module _ (s : List ℕ) (f : Feed) (m : f .end ≤ length s) (n : NoNewline s (f
           ∙ items-last (unread s f) whole-line (omega (arith, length-between s (f .from) (f .end) m)) (omega (arith, length-between s (f .from) (f .end) m))
           ∙ ap (λ (t : List Item). line (unread s f) ∷ t) (sym (ap itemsOf (ahead-plain s (feedFrom f (f .end) false) more refl ∙ after-all false more ∙ z) ∙ items-none))
 
-  skips-buffer : f .end ≤ 65536 → f .«is_passing» ≡ true → Skips s f (feedFrom f (f .end) true)
+  skips-buffer : f .end ≤ inputRoom → f .«is_passing» ≡ true → Skips s f (feedFrom f (f .end) true)
   skips-buffer u e = record { fed = fed-from s f (f .end) true (omega arith) u; over = refl; empty = λ _. refl; hands = drained-hands e }
 
 module _ (s : List ℕ) (f : Feed) (d : Fed s f) where
@@ -175,22 +175,22 @@ module _ (s : List ℕ) (f : Feed) (d : Fed s f) where
     searched e = record { ordered = omega (arith, d .ordered, d .before); inside = d .inside; held = m; none = none-unread; plain = e }
 
 module _ (s : List ℕ) (f : Feed) (d : Searched s f) where
-  pub passes-line : 65536 ≤ f .end - f .from → PassesLine s f (feedFrom f (f .end) true)
+  pub passes-line : inputRoom ≤ f .end - f .from → PassesLine s f (feedFrom f (f .end) true)
   passes-line l = record { fed = fed-from s f (f .end) true (omega arith) (d .inside); hands = long-hands s f (d .held) (d .none) (d .plain) l }
 
-  pub takes-last : f .end - f .from < 65536 → f .«is_over» ≡ true → (f .from ≡ f .end → ⊥) → TakesLine s f (record { from = f .from; end = f .end; feed = feedFrom f (f .end) false })
+  pub takes-last : f .end - f .from < inputRoom → f .«is_over» ≡ true → (f .from ≡ f .end → ⊥) → TakesLine s f (record { from = f .from; end = f .end; feed = feedFrom f (f .end) false })
   takes-last l o h = record {
     ordered = d .ordered;
     inside = d .inside;
     one = whole-line s f (d .held) (d .none);
     fed = fed-from s f (f .end) false (omega arith) (d .inside);
-    hands = last-hands s f (d .held) (d .none) (d .plain) o (omega (arith, d .ordered, h)) (omega arith);
+    hands = last-hands s f (d .held) (d .none) (d .plain) o (omega (arith, d .ordered, h)) l;
   }
 
   pub over-plain : f .«is_over» ≡ true → f .from ≡ f .end → IsOver s f
   over-plain o h = over-all s f o (ap itemsOf (ahead-plain s f [] (d .plain) ∙ append-nil (unread s f) ∙ between-empty s (f .from) (f .end) (omega (arith, h))) ∙ items-none)
 
-  pub asks-more : f .end - f .from < 65536 → f .«is_over» ≡ false → AsksMore s f (record { from = f .from; seen = f .end; end = f .end; «is_passing» = false; «is_over» = false })
+  pub asks-more : f .end - f .from < inputRoom → f .«is_over» ≡ false → AsksMore s f (record { from = f .from; seen = f .end; end = f .end; «is_passing» = false; «is_over» = false })
   asks-more l o = record {
     fed = record { ordered = d .ordered; before = omega arith; inside = d .inside; none = d .none };
     room = l;

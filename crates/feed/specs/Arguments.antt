@@ -8,6 +8,7 @@ use lib.ListN.{take, drop}
 use Rattle.number.specs.Choice.{if_then_else_, _≤?_, _≠?_}
 use Rattle.ascii.specs.Ascii.{ascii}
 use Rattle.key.specs.Word.{sameWord}
+use Rattle.feed.specs.Lines.{inputRoom}
 use Rattle.feed.specs.declared.arguments.Ended.{Ended}
 use Rattle.feed.specs.declared.arguments.Ended.the-variants as ended
 use Rattle.feed.specs.declared.arguments.First.{First}
@@ -57,7 +58,7 @@ CommandIn count n line gathered.Help = ⊥
 CommandIn count n line gathered.Version = ⊥
 CommandIn count n line gathered.Batch = ⊥
 CommandIn count n line (gathered.HelpOf k) = (k ≡ n) × ((e : ℕ) × (asksHelp count n e line ≡ true))
-CommandIn count n line (gathered.Words e) = (e ≤ 65536) × (asksHelp count n e line ≡ false)
+CommandIn count n line (gathered.Words e) = (e ≤ inputRoom) × (asksHelp count n e line ≡ false)
 
 -- what is gathered where the first word has n bytes
 abbrev pub AskedIn : ℕ → ℕ → List ℕ → Gathered → Type 0
@@ -77,7 +78,7 @@ pub record Asks (what : First) (line : List ℕ) : Type 0 where
 
 -- that of a command, of k bytes, and the one word behind it asks for help
 pub record AsksHelpOf (k : ℕ) (line : List ℕ) : Type 0 where
-  pub within : k ≤ 65536
+  pub within : k ≤ inputRoom
   pub count : ℕ
   pub first : firstAsks count (take k line) ≡ first.Command
   pub end : ℕ
@@ -85,7 +86,7 @@ pub record AsksHelpOf (k : ℕ) (line : List ℕ) : Type 0 where
 
 -- that of a command, and the line ends at e
 pub record AsksCommand (e : ℕ) (line : List ℕ) : Type 0 where
-  pub within : e ≤ 65536
+  pub within : e ≤ inputRoom
   pub count : ℕ
   pub size : ℕ
   pub first : firstAsks count (take size line) ≡ first.Command

@@ -6,17 +6,13 @@ use mathlib.Core.List.{List, [], _∷_, _++_}
 use Prim.Native.Nat.{ℕ, _+_, _-_, _≤_, _<_}
 use lib.ListN.{length, getD, take, drop}
 use Rattle.number.specs.Choice.{if_then_else_, _=?_}
-use Rattle.feed.specs.Lines.{Item, line, tooLong, itemsOf, behindNewline}
+use Rattle.feed.specs.Lines.{Item, line, tooLong, inputRoom, itemsOf, behindNewline}
 use Rattle.feed.specs.declared.Feed.{Feed}
 use Rattle.feed.specs.declared.Taken.{Taken}
 use Rattle.feed.specs.declared.Came.{Came}
 use Rattle.feed.specs.declared.Arrived.{Arrived}
 use Rattle.feed.specs.declared.Coming.{Coming}
 use Rattle.feed.specs.declared.Coming.the-variants as coming
-
--- bytes of the buffer
-abbrev pub inputRoom : ℕ
-inputRoom = 65536
 
 -- the bytes from one position up to another, as a slice has them
 abbrev pub between : List ℕ → ℕ → ℕ → List ℕ

@@ -1,7 +1,7 @@
 -- The lines of a text, and what is handed on for them.
 -- Assumes nothing.
 use mathlib.Core.List.{List, [], _∷_, map}
-use Prim.Native.Nat.{ℕ}
+use Prim.Native.Nat.{ℕ, _+_}
 use lib.ListN.{length}
 use Rattle.number.specs.Choice.{if_then_else_, _≤?_, _=?_}
 
@@ -20,9 +20,13 @@ pub data Item : Type 0 where
   line : List ℕ → Item
   tooLong : Item
 
--- bytes of the longest line that is handed on; the buffer has room for one more, its newline
+-- bytes of the longest line that is handed on
 abbrev pub longestLine : ℕ
 longestLine = 65535
+
+-- bytes of the buffer: such a line and its newline
+abbrev pub inputRoom : ℕ
+inputRoom = longestLine + 1
 
 unfoldable pub itemOf : List ℕ → Item
 itemOf l = if length l ≤? longestLine then line l else tooLong

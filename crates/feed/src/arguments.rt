@@ -1,7 +1,9 @@
 // The program's arguments, as one line.
+use crate::INPUT_ROOM;
 ghost use mathlib.Core.Path.{_≡_};
 ghost use Prim.Native.Nat.{_≤_};
 ghost use lib.ListN.{length, take};
+ghost use Rattle.feed.specs.Lines.{inputRoom};
 ghost use Rattle.feed.specs.Arguments.{isHelpFlag, isHelp, firstAsks, asksHelp, Extends, CommandIn, AskedIn, GatheredIn};
 
 // No argument; more than the line has room for; `help`; `--version`; `batch` alone; a command with `-h` or `--help` alone, by the length of its name;
@@ -54,9 +56,9 @@ fn gather_one(i: usize, end: usize, line: &mut [u8]) -> Ended
 }
 
 // The arguments from the second on, behind the first.
-fn gather_more(count: usize, first: usize, line: &mut [u8; 65536]) -> Ended
-    requires { ⌜ first ≤ 65536 ⌝ }
-    ensures { λ r. ⌜ Extends 65536 (now (line .entry)) first r (now (line .exit)) ⌝ }
+fn gather_more(count: usize, first: usize, line: &mut [u8; INPUT_ROOM]) -> Ended
+    requires { ⌜ first ≤ inputRoom ⌝ }
+    ensures { λ r. ⌜ Extends inputRoom (now (line .entry)) first r (now (line .exit)) ⌝ }
 {
     let mut end = first;
     let mut i: usize = 2;
@@ -128,8 +130,8 @@ fn asks_help(count: usize, first: usize, end: usize, line: &[u8]) -> bool
 }
 
 // The words of a command.
-fn gather_command(count: usize, first: usize, line: &mut [u8; 65536]) -> Gathered
-    requires { ⌜ first ≤ 65536 ⌝ }
+fn gather_command(count: usize, first: usize, line: &mut [u8; INPUT_ROOM]) -> Gathered
+    requires { ⌜ first ≤ inputRoom ⌝ }
     ensures { λ r. ⌜ CommandIn count first (now (line .exit)) r × (take first (now (line .exit)) ≡ take first (now (line .entry))) ⌝ }
 {
     match gather_more(count, first, line) {
@@ -144,8 +146,8 @@ fn gather_command(count: usize, first: usize, line: &mut [u8; 65536]) -> Gathere
 }
 
 // What the first word, of this length, and those behind it ask for.
-fn gather_words(count: usize, first: usize, line: &mut [u8; 65536]) -> Gathered
-    requires { ⌜ first ≤ 65536 ⌝ }
+fn gather_words(count: usize, first: usize, line: &mut [u8; INPUT_ROOM]) -> Gathered
+    requires { ⌜ first ≤ inputRoom ⌝ }
     ensures { λ r. ⌜ AskedIn count first (now (line .exit)) r ⌝ }
 {
     let all: &[u8] = line;
@@ -158,7 +160,7 @@ fn gather_words(count: usize, first: usize, line: &mut [u8; 65536]) -> Gathered
 }
 
 // The arguments into `line`, a zero byte between two.
-pub fn gather(line: &mut [u8; 65536]) -> Gathered
+pub fn gather(line: &mut [u8; INPUT_ROOM]) -> Gathered
     ensures { λ r. ⌜ GatheredIn (now (line .exit)) r ⌝ }
 {
     let count = os::arg_count();

@@ -6,6 +6,7 @@ ghost use mathlib.Core.Bool.{true, false};
 ghost use Prim.Native.Nat.{_-_, _≤_, _<_};
 ghost use lib.ListN.{length};
 ghost use Rattle.feed.specs.Input.{FirstNewline, MovedDown, ReadBehind, Fed, Searched, Starts, Skips, Comes, Adds, feedFrom};
+ghost use Rattle.feed.specs.Lines.{inputRoom};
 
 // Bytes of the buffer: those of the longest line, and its newline.
 pub const INPUT_ROOM: usize = 65536;
@@ -104,7 +105,7 @@ fn skip(feed: Feed, input: &[u8]) -> Feed
 
 // What is left where the input is over: a last line, or nothing.
 fn last_line(feed: Feed, input: &[u8]) -> Coming
-    requires { ⌜ Searched (now input) feed × ((feed .end - feed .from < 65536) × (feed .«is_over» ≡ true)) ⌝ }
+    requires { ⌜ Searched (now input) feed × ((feed .end - feed .from < inputRoom) × (feed .«is_over» ≡ true)) ⌝ }
     ensures { λ r. ⌜ Comes (now (input .entry)) feed r ⌝ }
 {
     if feed.from == feed.end {
@@ -207,7 +208,7 @@ fn read_at(at: usize, input: &mut [u8]) -> Arrived
 
 // More input behind what is unread, which does not fill the buffer.
 pub fn read_more(feed: Feed, input: &mut [u8; INPUT_ROOM]) -> Came
-    requires { ⌜ Fed (now input) feed × ((feed .end - feed .from < 65536) × (feed .«is_over» ≡ false)) ⌝ }
+    requires { ⌜ Fed (now input) feed × ((feed .end - feed .from < inputRoom) × (feed .«is_over» ≡ false)) ⌝ }
     ensures { λ r. ⌜ Adds (now (input .entry)) feed r (now (input .exit)) ⌝ }
 {
     let kept = move_down(feed.from, feed.end, input);
