@@ -1,14 +1,14 @@
 -- What is moved to the front of the buffer, and what is read behind it.
 -- Assumes nothing.
 use mathlib.Core.Path.{_≡_, refl, sym, ap, _∙_}
-use mathlib.Core.Bool.{Bool, true, false}
+use mathlib.Core.Bool.{Bool, false}
 use mathlib.Core.Logic.{_⊎_, inl, inr}
-use mathlib.Core.List.{List, [], _∷_, _++_, append-assoc}
+use mathlib.Core.List.{List, _++_, append-assoc}
 use Prim.Native.Nat.{ℕ, zero, suc, _+_, _-_, _≤_, _<_}
 use native.Mathlib.Omega.{arith}
 use borrow.Author.Tests.{eq-eqb, ne-eqb}
 use lib.Dec.{eqb}
-use lib.ListN.{length, getD, take, drop, set, length-drop}
+use lib.ListN.{length, getD, take, drop, set}
 use lib.Seq.{length-take-le, getD-take, getD-drop, getD-set-same, getD-set-other, take-add, take-at, ext-getD}
 use Rattle.number.specs.Choice.{if_then_else_, _=?_}
 use Rattle.number.proofs.Choice.{yes-eq, not-eq}
@@ -17,7 +17,7 @@ use Rattle.feed.specs.Lines.{Item, inputRoom, itemsOf, behindNewline}
 use Rattle.feed.specs.declared.Feed.{Feed}
 use Rattle.feed.specs.declared.Came.{Came}
 use Rattle.feed.specs.declared.Arrived.{Arrived}
-use Rattle.feed.specs.Input.{between, NoNewline, Fed, unread, ahead, Reads, newBytes, Adds, MovedDown, ReadBehind}
+use Rattle.feed.specs.Input.{between, Fed, unread, ahead, Reads, newBytes, Adds, MovedDown, ReadBehind}
 use Rattle.feed.proofs.InputLaws.{length-between}
 
 -- ---- moving to the front

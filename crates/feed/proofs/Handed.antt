@@ -1,7 +1,7 @@
 -- All lines are handed on, whatever sizes the reads come in.
 -- Assumes nothing.
 use mathlib.Core.Path.{_≡_, refl}
-use mathlib.Core.List.{List, [], _∷_, _++_, append-nil}
+use mathlib.Core.List.{List, [], _∷_, append-nil}
 use Prim.Native.Nat.{ℕ}
 use Rattle.number.specs.Choice.{if_then_else_, _=?_, _≤?_}
 use Rattle.ascii.specs.Ascii.{ascii}

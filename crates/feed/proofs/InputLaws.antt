@@ -8,7 +8,7 @@ use Prim.Native.Nat.{ℕ, suc, _+_, _-_, _≤_, _<_}
 use native.Mathlib.Omega.{arith}
 use native.Mathlib.Numerals.{add-one}
 use native.Mathlib.Decide.{decLt}
-use lib.ListN.{length, getD, take, drop, length-drop, List·getD-eq-default}
+use lib.ListN.{length, getD, drop, length-drop}
 use lib.Seq.{length-take-le, getD-take, getD-drop, take-add, drop-drop, drop-cons}
 use Rattle.number.proofs.Choice.{is-true, is-false}
 use Rattle.number.proofs.Scans.{below}
@@ -16,7 +16,7 @@ use Rattle.feed.specs.Lines.{Item, line, tooLong, inputRoom, itemsOf, be
 use Rattle.feed.specs.declared.Feed.{Feed}
 use Rattle.feed.specs.declared.Coming.{Coming}
 use Rattle.feed.specs.declared.Coming.the-variants as coming
-use Rattle.feed.specs.Input.{between, NoNewline, FirstNewline, OneLine, Fed, unread, ahead, Reads, Hands, Starts, TakesLine, PassesLine, AsksMore, IsOver, Comes, Skips, Searched, feedFrom}
+use Rattle.feed.specs.Input.{between, NoNewline, FirstNewline, OneLine, Fed, unread, ahead, Hands, Starts, TakesLine, PassesLine, AsksMore, IsOver, Comes, Skips, Searched, feedFrom}
 use Rattle.feed.proofs.LineLaws.{behind-append, behind-line, behind-none, items-none, items-line, items-last, items-long}
 
 -- ---- bytes of a list
@@ -59,9 +59,6 @@ module _ (s : List ℕ) where
   one-line from to m n =
       let size = length-between from to m in
       record { each = λ k a h e. n .each (from + k) (omega arith) (omega (arith, size)) (sym (getD-take (to - from) (drop from s) k 0 (omega (arith, size)) ∙ getD-drop from s k 0) ∙ e) }
-
-  newline-inside : (i : ℕ) → getD s i 0 ≡ 10 → i < length s
-  newline-inside i e = elim (decLt i (length s)) [ yes h ↦ h | no h ↦ absurd (omega (arith, e, List·getD-eq-default s 0 {n = i} (omega arith))) ]
 
   -- the search started behind what was seen
   pub first-whole : (f : Feed) (r : ℕ) → Fed s f → FirstNewline s (f .seen) (f .end) r → FirstNewline s (f .from) (f .end) r

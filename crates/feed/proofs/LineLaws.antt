@@ -2,14 +2,14 @@
 -- Assumes nothing.
 use mathlib.Core.Path.{_≡_, refl, sym, ap, _∙_}
 use mathlib.Core.Bool.{Bool, true, false}
-use mathlib.Core.List.{List, [], _∷_, _++_, map, append-nil}
-use Prim.Native.Nat.{ℕ, zero, suc, _+_, _≤_, _<_}
+use mathlib.Core.List.{List, [], _∷_, _++_, append-nil}
+use Prim.Native.Nat.{ℕ, suc, _≤_, _<_}
 use native.Mathlib.Omega.{arith}
 use lib.ListN.{length, length-append}
-use Rattle.number.specs.Choice.{if_then_else_, _≤?_, _=?_}
+use Rattle.number.specs.Choice.{if_then_else_, _=?_}
 use Rattle.number.proofs.Choice.{is-true, is-false, yes-eq, not-eq, yes-le, not-le}
-use Rattle.feed.specs.Lines.{beforeFirst, linesOf, Item, line, tooLong, longestLine, itemOf, itemsOf, behindNewline}
-use Rattle.feed.specs.Input.{NoNewline, OneLine}
+use Rattle.feed.specs.Lines.{beforeFirst, linesOf, line, tooLong, longestLine, itemOf, itemsOf, behindNewline}
+use Rattle.feed.specs.Input.{OneLine}
 
 -- what stands before the first newline
 unfoldable headLine : List ℕ → List ℕ

@@ -1,7 +1,6 @@
 -- `feed::read_at` meets its contract: what stands before the part that was lent is as it was.
 -- Assumes nothing.
 use mathlib.Core.List.{_++_}
-use mathlib.Core.Bool.{false}
 use Rattle.number.proofs.Tools.{_≡_, refl, ℕ, _-_, arith, needs, length, drop}
 use Rattle.feed.proofs.BufferLaws.{front-kept}
 use Rattle.feed.proofs.read_at.Statement.{statement}

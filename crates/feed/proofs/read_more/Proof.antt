@@ -1,6 +1,6 @@
 -- `feed::read_more` meets its contract: what was unread stands at the front, and what came behind it.
 -- Assumes nothing.
-use Rattle.number.proofs.Tools.{sym, arith, needs}
+use Rattle.number.proofs.Tools.{sym, arith}
 use Rattle.feed.proofs.BufferLaws.{adds-more}
 use Rattle.feed.proofs.read_more.Statement.{statement}
 use Rattle.feed.proofs.read_more.Tie as tie

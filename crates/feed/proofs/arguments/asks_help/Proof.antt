@@ -1,6 +1,6 @@
 -- `feed::arguments::asks_help` meets its contract.
 -- Assumes nothing.
-use Rattle.number.proofs.Tools.{refl, arith, needs, is-ne, no-ne, is-le, no-le}
+use Rattle.number.proofs.Tools.{refl, needs, is-ne, no-ne, is-le, no-le}
 use Rattle.feed.specs.Arguments.{asksHelp}
 use Rattle.feed.proofs.arguments.asks_help.Statement.{statement}
 use Rattle.feed.proofs.arguments.asks_help.Tie as tie
