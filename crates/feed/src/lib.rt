@@ -13,11 +13,11 @@ pub const INPUT_ROOM: usize = 65536;
 
 // The input that is in the buffer: from `from` to `end`, with no newline before `seen`. The rest of a line that was too long is passed over.
 pub struct Feed {
-    pub from: usize,
-    pub seen: usize,
-    pub end: usize,
-    pub is_passing: bool,
-    pub is_over: bool,
+    from: usize,
+    seen: usize,
+    end: usize,
+    is_passing: bool,
+    is_over: bool,
 }
 
 // A line in the buffer, without its newline, and the feed after it.
