@@ -2,7 +2,7 @@
 -- Assumes nothing.
 use lib.ListN.{length-set}
 use Rattle.number.proofs.Tools.{_≡_, refl, _+_, _-_, _≤_, arith, needs, length}
-use Rattle.feed.proofs.InputLaws.{MovedTo, moved-start, moved-next}
+use Rattle.feed.proofs.BufferLaws.{MovedTo, moved-start, moved-next, moved-none, moved-all}
 use Rattle.feed.proofs.move_down.Statement.{statement}
 use Rattle.feed.proofs.move_down.Tie as tie
 
@@ -15,10 +15,13 @@ abbrev μ-loop : tie.MeasureT-loop
 loop-again : tie.Need-loop-again Inv-loop μ-loop
 loop-again c =
     let l = c .before .before .loop in
-    (omega arith, (simp length-set (omega arith), moved-next (c .before .before .before .args .input .now) (c .before .before .before .args .from) (l .i) (l .input) (omega arith) (l .inv .1 .1)))
+    let a = c .before .before .before .before .args in
+    (omega arith, (simp length-set (omega arith), moved-next (a .input .now) (a .from) (l .i) (l .input) (omega arith) (l .inv .1 .1)))
 
-returns : tie.Need-returns Inv-loop μ-loop
-returns c = record { length = omega arith; each = c .before .loop .inv .1 .1 .moved }
+returns-2 : tie.Need-returns-2 Inv-loop μ-loop
+returns-2 c =
+    let l = c .before .loop in
+    moved-all _ _ _ (l .i) (l .input) (omega arith) (omega arith) (l .inv .1 .0) (l .inv .1 .1)
 
 pub move-down-spec : {M : Type 1} → statement M
 move-down-spec =
@@ -26,6 +29,7 @@ move-down-spec =
     (tie.spec
     Inv-loop
     μ-loop
+    (λ c. moved-none _ _ _ (c .if1 .taken))
     (λ c. (omega arith, (refl, moved-start _ _)))
     (λ c. search needs)
     (λ c. search needs)
@@ -35,4 +39,4 @@ move-down-spec =
     (λ c. search needs)
     loop-again
     (λ c. omega arith)
-    returns)
+    returns-2)
