@@ -1,0 +1,70 @@
+-- What is to be saved lies within the output.
+-- Assumes nothing.
+use mathlib.Core.List.{List}
+use mathlib.Core.Path.{_≡_, sym, subst}
+use mathlib.Core.Bool.{Bool}
+use Prim.Native.Nat.{ℕ, _≤_}
+use lib.ListN.{length}
+use Rattle.number.specs.Choice.{_<?_}
+use Rattle.number.proofs.Choice.{both, from-not-lt}
+use Rattle.reader.specs.Reader.{decode}
+use Rattle.joining.specs.Outcome.{Outcome, refused, written, inRoom, normalisedAs, refusal}
+use Rattle.words.specs.Words.{wordsOf}
+use Rattle.verbs.specs.declared.Verb.{Verb}
+use Rattle.verbs.specs.declared.Verb.the-variants as verb
+use Rattle.tasks.specs.declared.Task.{Task}
+use Rattle.tasks.specs.declared.Task.the-variants.{Mistaken, Run}
+use Rattle.tasks.specs.Tasks.{inBatch, taskOf}
+use Rattle.link.specs.declared.Which.the-variants.{Union}
+use Rattle.link.specs.Outcome.{normaliseIn, normalOf, normaliseAnswer, linkIn, linkOf, linkedAs, linkAnswer, refusalOf}
+use Rattle.commands.specs.declared.Save.{Save}
+use Rattle.commands.specs.declared.Save.the-variants.{Nothing, FirstBytes}
+use Rattle.commands.specs.Answer.{normalisedSave, linkedSave, verbAnswer, taskAnswer, answerOf}
+
+-- at most `room` bytes are saved
+abbrev pub SavedIn : ℕ → Save → Type 0
+SavedIn room Nothing = Unit {0}
+SavedIn room (FirstBytes n) = n ≤ room
+
+-- an outcome of at most `room` bytes
+abbrev Fits : {X : Type 0} → ℕ → Outcome X → Type 0
+Fits room (refused x) = Unit {0}
+Fits room (written bytes) = length bytes ≤ room
+
+in-room : {X : Type 0} (stop : ℕ → ℕ → X) (room : ℕ) (o : Outcome X) → Fits room (inRoom stop room o)
+unfolding inRoom
+in-room stop room (refused x) = tt
+in-room {X} stop room (written bytes) =
+    both (λ (o : Outcome X). Fits room o) (room <? length bytes) (refused (stop 27 (length bytes))) (written bytes) (λ _. tt) (λ t. from-not-lt room (length bytes) t)
+
+normal-saves : (s out : List ℕ) → SavedIn (length out) (normalisedSave (normaliseAnswer s out))
+unfolding normaliseAnswer normaliseIn normalisedAs normalisedSave
+normal-saves s out = go (inRoom refusal (length out) (normalOf (decode s))) (in-room refusal (length out) (normalOf (decode s)))
+  where
+    go : (o : Outcome _) → Fits (length out) o → SavedIn (length out) (normalisedSave (normalisedAs o))
+    go (refused x) h = tt
+    go (written bytes) h = h
+
+link-saves : (a b out : List ℕ) → SavedIn (length out) (linkedSave (linkAnswer a b out))
+unfolding linkAnswer linkIn linkedAs linkedSave
+link-saves a b out = go (inRoom (refusalOf Union) (length out) (linkOf (decode a) (decode b))) (in-room (refusalOf Union) (length out) (linkOf (decode a) (decode b)))
+  where
+    go : (o : Outcome _) → Fits (length out) o → SavedIn (length out) (linkedSave (linkedAs o))
+    go (refused x) h = tt
+    go (written bytes) h = h
+
+verb-saves : (b : Bool) (v : Verb) (ws : List (List ℕ)) (first second out : List ℕ) → SavedIn (length out) (verbAnswer b v ws first second out .save)
+unfolding verbAnswer
+verb-saves b (verb.Ask q) ws first second out = tt
+verb-saves b verb.List ws first second out = tt
+verb-saves b verb.Normal ws first second out = normal-saves first out
+verb-saves b verb.Link ws first second out = link-saves first second out
+verb-saves b verb.Unknown ws first second out = tt
+
+pub answer-saves : (separator : ℕ) (line first second out : List ℕ) {s : Save} → s ≡ answerOf separator line first second out .save → (n : ℕ) → s ≡ FirstBytes n → n ≤ length out
+unfolding answerOf taskAnswer
+answer-saves separator line first second out {s} e n h = subst (SavedIn (length out)) h (subst (SavedIn (length out)) (sym e) (task (taskOf separator line)))
+  where
+    task : (t : Task) → SavedIn (length out) (taskAnswer (inBatch separator) t (wordsOf separator line) first second out .save)
+    task (Mistaken m) = tt
+    task (Run v) = verb-saves (inBatch separator) v (wordsOf separator line) first second out
