@@ -1,35 +1,161 @@
 // The files that a line names: loaded into the store, and the line answered from there.
 use commands::Reply;
 use kept::Kept;
+use number::FILE_LIMIT;
 use store::Loaded;
 use words::Span;
 ghost use mathlib.Core.Path.{_≡_};
-ghost use Prim.Native.Nat.{_≤_};
-ghost use Rattle.number.specs.Limits.{fileLimit};
+ghost use mathlib.Core.Bool.{true};
+ghost use Prim.Native.Nat.{ℕ, _≤_};
 ghost use Rattle.words.specs.Words.{wordsOf};
 ghost use Rattle.tasks.specs.Tasks.{inBatch, argument, taskOf, filesOf};
 ghost use Rattle.kept.specs.Table.{Tidy};
-ghost use Rattle.kept.specs.Files.{keptFile};
+ghost use Rattle.kept.specs.Files.{isFound, keptFile};
 ghost use Rattle.kept.specs.Room.{Roomy};
-ghost use Rattle.commands.specs.Answer.{answerOf};
-ghost use Rattle.held.specs.Held.{LoadsAll, Loads, Held, RepliesTo};
-use number::FILE_LIMIT;
+ghost use Rattle.commands.specs.Answer.{answerOf, Replies};
+ghost use Rattle.held.specs.Held.{Held, WhereHad, Fetches, FetchesAll, Lies};
 
-// Whether a file is wanting: none, standard input in a batch, or the k-th, by errno's number.
-pub enum Missing {
-    Nothing,
-    Input,
-    Unread(Unread),
-}
-
-// The place of the name in the line, and errno's number.
+// A file that could not be read: the place of its name in the line, and errno's number.
 pub struct Unread {
     pub name: Span,
     pub error: i32,
 }
 
+// Whether a file is wanting: none, standard input, which has the commands of a batch, or one that could not be read.
+pub enum Wanting {
+    Nothing,
+    Input,
+    File(Unread),
+}
+
 // What is kept now, and what is wanting.
-pub struct Loading {
+pub struct Fetched {
     pub kept: Kept,
-    pub missing: Missing,
+    pub wanting: Wanting,
+}
+
+// The file of the k-th word into the store.
+fn fetch(
+    line: &[u8],
+    separator: u8,
+    k: usize,
+    kept: Kept,
+    rows: &mut [usize; 256],
+    store: &mut [u8; 4210688],
+) -> Fetched
+    requires { ⌜ (k ≤ 2) × (Tidy (now rows) kept × Roomy 1 kept) ⌝ }
+    ensures { λ r. ⌜ Fetches (argument k (wordsOf separator (now (line .entry)))) kept (now (rows .entry)) (now (store .entry)) r (now (rows .exit)) (now (store .exit)) ⌝ }
+{
+    let name = tasks::argument(line, separator, k);
+    let from = name.from;
+    let end = name.end;
+    let asked = store::load(&line[from..end], tasks::in_batch(separator), kept, rows, store);
+    let kept = asked.kept;
+    let file = asked.file;
+    match file {
+        Loaded::Kept => Fetched {
+            kept,
+            wanting: Wanting::Nothing,
+        },
+        Loaded::InBatch => Fetched {
+            kept,
+            wanting: Wanting::Input,
+        },
+        Loaded::Failed(error) => Fetched {
+            kept,
+            wanting: Wanting::File(Unread { name, error }),
+        },
+    }
+}
+
+// The second file of a link, where the first is in the store.
+fn fetch_second(
+    line: &[u8],
+    separator: u8,
+    first: Fetched,
+    rows: &mut [usize; 256],
+    store: &mut [u8; 4210688],
+) -> Fetched
+    requires { ⌜ Tidy (now rows) (first .kept) × (Roomy 1 (first .kept) × WhereHad (isFound (argument 1 (wordsOf separator (now line))) (first .kept) (now rows) (now store) ≡ true) (first .wanting)) ⌝ }
+    ensures { λ r. ⌜ ((n : ℕ) → FetchesAll n (wordsOf separator (now (line .entry))) r (now (rows .exit)) (now (store .exit))) ⌝ }
+{
+    let kept = first.kept;
+    let wanting = first.wanting;
+    match wanting {
+        Wanting::Nothing => fetch(line, separator, 2, kept, rows, store),
+        Wanting::Input => Fetched {
+            kept,
+            wanting: Wanting::Input,
+        },
+        Wanting::File(unread) => Fetched {
+            kept,
+            wanting: Wanting::File(unread),
+        },
+    }
+}
+
+// The files that the line names into the store, up to the first that is wanting.
+pub fn fetch_all(
+    line: &[u8],
+    separator: u8,
+    kept: Kept,
+    rows: &mut [usize; 256],
+    store: &mut [u8; 4210688],
+) -> Fetched
+    requires { ⌜ Tidy (now rows) kept × Roomy 2 kept ⌝ }
+    ensures { λ r. ⌜ FetchesAll (filesOf (taskOf separator (now (line .entry)))) (wordsOf separator (now (line .entry))) r (now (rows .exit)) (now (store .exit)) ⌝ }
+{
+    let n = tasks::files_of(tasks::task_of(line, separator));
+    if n == 0 {
+        return Fetched {
+            kept,
+            wanting: Wanting::Nothing,
+        };
+    }
+    let first = fetch(line, separator, 1, kept, rows, store);
+    if n == 1 {
+        return first;
+    }
+    fetch_second(line, separator, first, rows, store)
+}
+
+// The place in the store of the file of the k-th word, or of no bytes.
+pub fn file_at(
+    line: &[u8],
+    separator: u8,
+    k: usize,
+    kept: Kept,
+    rows: &[usize; 256],
+    store: &[u8; 4210688],
+) -> Span
+    requires { ⌜ (k ≤ 2) × Tidy (now rows) kept ⌝ }
+    ensures { λ r. ⌜ Lies (argument k (wordsOf separator (now (line .entry)))) kept (now (rows .entry)) (now (store .entry)) r ⌝ }
+{
+    let name = tasks::argument(line, separator, k);
+    let from = name.from;
+    let end = name.end;
+    kept::file_of(&line[from..end], kept, rows, store)
+}
+
+// The answer to the line, from the files that are kept under the names in it.
+pub fn answer(
+    line: &[u8],
+    separator: u8,
+    kept: Kept,
+    rows: &[usize; 256],
+    store: &[u8; 4210688],
+    out: &mut [u8; FILE_LIMIT],
+    text: &mut [u8; 128],
+) -> Reply
+    requires { ⌜ Tidy (now rows) kept × Held (filesOf (taskOf separator (now line))) (wordsOf separator (now line)) kept (now rows) (now store) ⌝ }
+    ensures { λ r. ⌜ Replies (inBatch separator) (answerOf separator (now (line .entry)) (keptFile (argument 1 (wordsOf separator (now (line .entry)))) kept (now (rows .entry)) (now (store .entry))) (keptFile (argument 2 (wordsOf separator (now (line .entry)))) kept (now (rows .entry)) (now (store .entry))) (now (out .entry))) (keptFile (argument 1 (wordsOf separator (now (line .entry)))) kept (now (rows .entry)) (now (store .entry))) (now (text .entry)) r (now (out .exit)) (now (text .exit)) ⌝ }
+{
+    let first = file_at(line, separator, 1, kept, rows, store);
+    let second = file_at(line, separator, 2, kept, rows, store);
+    let a = first.from;
+    let b = first.end;
+    let c = second.from;
+    let d = second.end;
+    let all: &[u8] = store;
+    commands::answer(line, separator, &all[a..b], &all[c..d], out, text)
 }

@@ -1,0 +1,46 @@
+-- The files that a line names, in the store.
+-- Assumes nothing.
+use mathlib.Core.Path.{_≡_}
+use mathlib.Core.Bool.{true}
+use mathlib.Core.List.{List}
+use Prim.Native.Nat.{ℕ, _+_, _≤_}
+use Rattle.words.specs.declared.Span.{Span}
+use Rattle.kept.specs.declared.Kept.{Kept}
+use Rattle.kept.specs.Table.{Tidy}
+use Rattle.kept.specs.Room.{fileBytes, storeBytes}
+use Rattle.number.specs.Part.{part}
+use Rattle.kept.specs.Files.{isFound, keptFile, KeptOn}
+use Rattle.tasks.specs.Tasks.{argument}
+use Rattle.held.specs.declared.Wanting.{Wanting}
+use Rattle.held.specs.declared.Wanting.the-variants.{Nothing, Input, File}
+use Rattle.held.specs.declared.Fetched.{Fetched}
+
+-- the first n files of the command with the words ws are kept
+pub record Held (n : ℕ) (ws : List (List ℕ)) (kept : Kept) (rows store : List ℕ) : Type 0 where
+  pub first : 1 ≤ n → isFound (argument 1 ws) kept rows store ≡ true
+  pub second : 2 ≤ n → isFound (argument 2 ws) kept rows store ≡ true
+
+-- P holds where nothing is wanting
+abbrev pub WhereHad : Type 0 → Wanting → Type 0
+WhereHad P Nothing = P
+WhereHad P Input = Unit {0}
+WhereHad P (File u) = Unit {0}
+
+-- a file was asked for: it is kept, unless it is wanting; every other that was kept still is
+pub record Fetches (name : List ℕ) (kept : Kept) (rows store : List ℕ) (r : Fetched) (table text : List ℕ) : Type 0 where
+  pub tidy : Tidy table (r .kept)
+  pub keeps : KeptOn kept rows store (r .kept) table text
+  pub found : WhereHad (isFound name (r .kept) table text ≡ true) (r .wanting)
+  pub few : r .kept .rows ≤ kept .rows + 1
+  pub used : r .kept .used ≤ kept .used + fileBytes
+
+-- the first n files of the command were asked for
+pub record FetchesAll (n : ℕ) (ws : List (List ℕ)) (r : Fetched) (table text : List ℕ) : Type 0 where
+  pub tidy : Tidy table (r .kept)
+  pub held : WhereHad (Held n ws (r .kept) table text) (r .wanting)
+
+-- s is the place in the store of the file of this name, or of no bytes
+pub record Lies (name : List ℕ) (kept : Kept) (rows store : List ℕ) (s : Span) : Type 0 where
+  pub ordered : s .from ≤ s .end
+  pub inside : s .end ≤ storeBytes
+  pub bytes : part store (s .from) (s .end) ≡ keptFile name kept rows store

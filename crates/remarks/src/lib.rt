@@ -1,0 +1,93 @@
+// Lines on standard error: why a file, a question or a link was refused, and what an `error` line on standard output says. Each goes out in one write.
+use failures::ROOM;
+use reading::Refusal;
+use verbs::Question;
+ghost use mathlib.Core.Path.{_≡_};
+ghost use Prim.Native.Nat.{_+_, _≤_};
+ghost use lib.ListN.{length};
+ghost use Rattle.number.specs.Choice.{if_then_else_};
+ghost use Rattle.reader.specs.Rules.{isIdentifier};
+ghost use Rattle.failures.specs.Room.{room, wordLimit};
+ghost use Rattle.remarks.specs.Words.{faultyWord};
+
+// The first n bytes on standard error.
+fn put(text: &[u8; ROOM], n: usize)
+    requires { ⌜ n ≤ room ⌝ }
+{
+    let all: &[u8] = text;
+    io::write_all(2, &all[..n]);
+}
+
+// By the name of a malformed question: 3 where it is at fault, else the other word.
+fn name_or(name: &[u8], other: u8) -> u8
+    ensures { λ r. ⌜ r ≡ (if isIdentifier (now (name .entry)) then other else 3) ⌝ }
+{
+    if reader::is_identifier(name) {
+        return other;
+    }
+    3
+}
+
+fn faulty_word(question: Question, name: &[u8]) -> u8
+    ensures { λ r. ⌜ r ≡ faultyWord question (now (name .entry)) ⌝ }
+{
+    match question {
+        Question::Check => 0,
+        Question::Iid => 1,
+        Question::Key => name_or(name, 2),
+        Question::Method => name_or(name, 4),
+        Question::Slot => 4,
+        Question::Constant => name_or(name, 4),
+    }
+}
+
+// Why a file was refused.
+pub fn refused(name: &[u8], file: &[u8], why: Refusal, text: &mut [u8; ROOM])
+    requires { ⌜ length (now name) ≤ wordLimit ⌝ }
+{
+    let fault = faults::fault_of(file, why);
+    let mut key = [0u8; 512];
+    let n = faults::key_of(file, fault.entry, &mut key);
+    let all: &[u8] = &key;
+    let end = reasons::refused(name, why, fault.rule, &all[..n], text);
+    put(text, end);
+}
+
+// Why a question about a file was refused, where the file is accepted; its own words come after the file's.
+pub fn asked(name: &[u8], question: Question, word: &[u8], text: &mut [u8; ROOM])
+    requires { ⌜ length (now name) ≤ wordLimit ⌝ }
+{
+    let end = reasons::asked(name, faulty_word(question, word), text);
+    put(text, end);
+}
+
+// Why a link was refused; the place of 21 to 24 counts interfaces of the first file.
+pub fn united(first: &[u8], second: &[u8], file: &[u8], why: Refusal, text: &mut [u8; ROOM])
+    requires { ⌜ length (now first) + length (now second) ≤ wordLimit ⌝ }
+{
+    let mut key = [0u8; 512];
+    let n = faults::key_of(file, why.place, &mut key);
+    let all: &[u8] = &key;
+    let end = reasons::united(first, second, why, &all[..n], text);
+    put(text, end);
+}
+
+// What the line on standard output says, which begins with `error `, of the file of this name, or of none.
+pub fn error(name: &[u8], line: &[u8], text: &mut [u8; ROOM])
+    requires { ⌜ length (now line) ≤ room ⌝ }
+{
+    let end = failures::aside(name, line, text);
+    put(text, end);
+}
+
+// Where a mistake in the words of a single command is told: what to do.
+pub fn hint(text: &mut [u8; ROOM]) {
+    let end = failures::hint(text);
+    put(text, end);
+}
+
+// Standard output does not take what is left.
+pub fn output_gone(text: &mut [u8; ROOM]) {
+    let end = failures::output_gone(text);
+    put(text, end);
+}
