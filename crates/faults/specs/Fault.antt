@@ -4,7 +4,7 @@ use mathlib.Core.Bool.{Bool}
 use mathlib.Core.List.{List}
 use Prim.Native.Nat.{ℕ, _+_, _-_, _*_, _/_}
 use Rattle.number.specs.Limits.{entryWidth}
-use Rattle.number.specs.Choice.{if_then_else_, _<?_, _≤?_, _=?_}
+use Rattle.number.specs.Choice.{if_then_else_, _<?_, _≤?_, _=?_, _≠?_}
 use Rattle.number.specs.Scan.{scan}
 use Rattle.reading.specs.Got.{Got, got, bad}
 use Rattle.reading.specs.declared.Context.{Context}
@@ -33,7 +33,8 @@ firstRefused c s pool n d = scan (refusedOwn c s pool d) n 0
 unfoldable pub ownFault : Context → List ℕ → List ℕ → ℕ → ℕ → Refusal → ℕ → Fault
 ownFault c s pool n d why k =
     if n ≤? k then noFault else
-    record { entry = k + 1; rule = if why .no =? 16 then ownRule c pool (ownPointer s d k) (why .place) else 0 }
+    if why .no ≠? 16 then record { entry = k + 1; rule = 0 } else
+    record { entry = k + 1; rule = ownRule c pool (ownPointer s d k) (why .place) }
 
 -- the entry of a directory at d whose bytes hold the place
 unfoldable pub entryAt : ℕ → ℕ → ℕ

@@ -25,10 +25,11 @@ fn bad_own(file: &[u8], pool: &[u8], c: Context, p: usize) -> bool
     if pool.len() < q {
         return true;
     }
-    match descriptor::read_descriptor(pool, c, q - 1) {
-        Step::End(e) => false,
-        Step::Refused(why) => true,
-    }
+    let r = descriptor::read_descriptor(pool, c, q - 1);
+    let Step::End(e) = r else {
+        return true;
+    };
+    false
 }
 
 // Whether one of the first k entries has the descriptor pointer q.

@@ -1,67 +1,29 @@
-use borrow.Author.Needs.{needs}
+-- `faults::own::bad_own` meets its contract.
+-- Assumes nothing.
+use Rattle.number.proofs.Tools.{arith, needs, sym, _∙_}
+use Rattle.typelib.proofs.OwnLaws.{own-none, own-out, own-read, own-refused}
+use Rattle.broken.proofs.StopLaws.{bad-end, bad-refused}
 use Rattle.faults.proofs.own.bad_own.Statement.{statement}
 use Rattle.faults.proofs.own.bad_own.Tie as tie
-use Rattle.faults.proofs.own.bad_own.Reads as reads
-use Rattle.faults.proofs.own.bad_own.Lts as lts
-use Rattle.descriptor.proofs.read_descriptor.Reads as read-descriptor-reads
-use Rattle.number.proofs.u32_at.Reads as u32-at-reads
 
--- src/own.rt:21:34
-add-u32-at : tie.Need-add-u32-at
-add-u32-at c = search needs
-
--- src/own.rt:21:13
-u32-at-requires : tie.Need-u32-at-requires
-u32-at-requires c κs = search needs
-
--- src/own.rt:21:13
-cast-q : tie.Need-cast-q
-cast-q c = search needs
-
--- src/own.rt:23:9
-returns : tie.Need-returns
-returns c = ?
-
--- src/own.rt:26:9
-returns-2 : tie.Need-returns-2
-returns-2 c = ?
-
--- src/own.rt:28:48
-sub-read-descriptor : tie.Need-sub-read-descriptor
-sub-read-descriptor c = search needs
-
--- src/own.rt:28:11
-read-descriptor-requires : tie.Need-read-descriptor-requires
-read-descriptor-requires c κs = search needs
-
--- src/own.rt:29:19
-enum-known-e : tie.Need-enum-known-e
-enum-known-e c = search needs
-
--- src/own.rt:30:23
-enum-known-why : tie.Need-enum-known-why
-enum-known-why c = search needs
-
--- src/own.rt:17:1
 returns-3 : tie.Need-returns-3
-returns-3 c = ?
+returns-3 c = bad-refused _ (sym (c .enum-told .given .1) ∙ own-refused _ _ _ _ _ (c .before .before .before .before .before .u32-at .ensures) (λ e. omega arith) (omega arith) (c .before .before .read-descriptor .ensures) (c .enum-told .given .1))
 
--- src/own.rt:17:1
 returns-4 : tie.Need-returns-4
-returns-4 c = ?
+returns-4 c = bad-end _ (own-read _ _ _ _ _ (c .before .before .before .before .before .before .u32-at .ensures) (λ e. omega arith) (omega arith) (c .before .before .before .read-descriptor .ensures) (c .before .r .given .1))
 
 pub bad-own-spec : {M : Type 1} → statement M
 bad-own-spec =
     tie.close
     (tie.spec
-    add-u32-at
-    u32-at-requires
-    cast-q
-    returns
-    returns-2
-    sub-read-descriptor
-    read-descriptor-requires
-    enum-known-e
-    enum-known-why
+    (λ c. search needs)
+    (λ c κs. search needs)
+    (λ c. search needs)
+    (λ c. bad-end _ (own-none _ _ _ _ _ (c .before .u32-at .ensures) (omega arith)))
+    (λ c. bad-refused _ (own-out _ _ _ _ _ (c .before .before .u32-at .ensures) (λ e. omega arith) (omega arith)))
+    (λ c. search needs)
+    (λ c κs. search needs)
+    (λ c. search needs)
+    (λ c. search needs)
     returns-3
     returns-4)

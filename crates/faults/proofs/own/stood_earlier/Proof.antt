@@ -1,54 +1,28 @@
+-- `faults::own::stood_earlier` meets its contract.
+-- Assumes nothing.
+use Rattle.number.proofs.Tools.{arith, needs, _≡_, sym, _∙_, _-_, _≤_}
+use Rattle.number.proofs.Choice.{yes-eq, not-eq}
+use Rattle.number.proofs.Scans.{Misses, misses-none, misses-more, misses-some, hits-some}
+use Rattle.typelib.specs.Directory.{ownPointer, pointsTo}
 use Rattle.faults.proofs.own.stood_earlier.Statement.{statement}
 use Rattle.faults.proofs.own.stood_earlier.Tie as tie
-use Rattle.faults.proofs.own.stood_earlier.Reads as reads
-use Rattle.faults.proofs.own.stood_earlier.Lts as lts
-use Rattle.number.proofs.u32_at.Reads as u32-at-reads
 
 abbrev Inv-loop : tie.InvT-loop
-Inv-loop file n d k q j₀ j = ?
+Inv-loop file n d k q j₀ j = (j ≤ k) × Misses (pointsTo file d q) j
 
 abbrev μ-loop : tie.MeasureT-loop
-μ-loop file n d k q j₀ j = ?
+μ-loop file n d k q j₀ j = k - j
 
--- src/own.rt:40:5
-loop-holds : tie.Need-loop-holds Inv-loop μ-loop
-loop-holds c = ?
-
--- src/own.rt:41:37
-mul-u32-at : tie.Need-mul-u32-at Inv-loop μ-loop
-mul-u32-at c = ?
-
--- src/own.rt:41:33
-add-u32-at : tie.Need-add-u32-at Inv-loop μ-loop
-add-u32-at c = ?
-
--- src/own.rt:41:33
-add-u32-at-2 : tie.Need-add-u32-at-2 Inv-loop μ-loop
-add-u32-at-2 c = ?
-
--- src/own.rt:41:12
-u32-at-requires : tie.Need-u32-at-requires Inv-loop μ-loop
-u32-at-requires c κs = ?
-
--- src/own.rt:42:13
 returns : tie.Need-returns Inv-loop μ-loop
-returns c = ?
+unfolding pointsTo ownPointer
+returns c = hits-some _ _ _ (omega arith) (yes-eq _ _ (sym (c .before .u32-at .ensures) ∙ c .if1 .taken))
 
--- src/own.rt:44:9
-add-j : tie.Need-add-j Inv-loop μ-loop
-add-j c = ?
-
--- src/own.rt:40:5
-loop-less : tie.Need-loop-less Inv-loop μ-loop
-loop-less c = ?
-
--- src/own.rt:40:5
 loop-again : tie.Need-loop-again Inv-loop μ-loop
-loop-again c = ?
+unfolding pointsTo ownPointer
+loop-again c = (omega arith, misses-more _ _ (c .before .before .before .loop .inv .1) (not-eq _ _ (λ e. c .if1 .left (c .before .u32-at .ensures ∙ e))))
 
--- src/own.rt:35:1
 returns-2 : tie.Need-returns-2 Inv-loop μ-loop
-returns-2 c = ?
+returns-2 c = let e : c .before .loop .j ≡ c .before .before .before .args .k = omega arith in rw (← e) (misses-some _ _ (c .before .loop .inv .1))
 
 pub stood-earlier-spec : {M : Type 1} → statement M
 stood-earlier-spec =
@@ -56,13 +30,13 @@ stood-earlier-spec =
     (tie.spec
     Inv-loop
     μ-loop
-    loop-holds
-    mul-u32-at
-    add-u32-at
-    add-u32-at-2
-    u32-at-requires
+    (λ c. (omega arith, misses-none _))
+    (λ c. omega arith)
+    (λ c. omega arith)
+    (λ c. omega arith)
+    (λ c κs. omega arith)
     returns
-    add-j
-    loop-less
+    (λ c. omega arith)
+    (λ c. omega arith)
     loop-again
     returns-2)
