@@ -1,13 +1,11 @@
 -- The entry that is refused, and the fault of a refusal.
 -- Assumes nothing.
-use mathlib.Core.Path.{_≡_, refl, sym, ap, _∙_}
-use mathlib.Core.Bool.{Bool, true, false}
+use mathlib.Core.Path.{_≡_, refl, ap}
+use mathlib.Core.Bool.{true, false}
 use mathlib.Core.Logic.{inl, inr}
 use mathlib.Core.List.{List}
-use Prim.Native.Nat.{ℕ, _+_, _-_, _*_, _≤_, _<_}
+use Prim.Native.Nat.{ℕ, _+_}
 use native.Mathlib.Omega.{arith}
-use lib.ListN.{length, take, drop, length-drop}
-use Rattle.number.proofs.Parts.{part-rest}
 use Rattle.number.proofs.Scans.{below, clash}
 use Rattle.reading.specs.Got.{Got, got, bad, Accepted}
 use Rattle.reading.specs.declared.Context.{Context}
@@ -16,11 +14,8 @@ use Rattle.head.specs.declared.Header.{Header}
 use Rattle.head.specs.declared.Head.{Head}
 use Rattle.head.specs.declared.Head.the-variants.{Read, Refused}
 use Rattle.head.specs.Header.{readHeader, headOf}
-use Rattle.head.specs.Says.{HeaderAt}
 use Rattle.head.proofs.HeaderLaws.{header-read, header-refused}
-use Rattle.typelib.specs.Entry.{readOwn}
 use Rattle.typelib.specs.Own.{Settled}
-use Rattle.typelib.specs.Directory.{Lies}
 use Rattle.broken.specs.Stop.{isBad}
 use Rattle.faults.specs.declared.Fault.{Fault}
 use Rattle.faults.specs.Fault.{noFault, refusedOwn, faultWith, faultIn}
@@ -35,15 +30,6 @@ good (bad n q) h = clash true refl h
 pub settled-good : (c : Context) (s pool : List ℕ) (d k : ℕ) → Settled c s pool d k → refusedOwn c s pool d k ≡ false → Settled c s pool d (k + 1)
 unfolding refusedOwn
 settled-good c s pool d k w h = record { each = λ j l. elim (below j k (omega arith)) [ inl m ↦ rw m (good _ h) | inr m ↦ w .each j m ] }
-
--- ---- what a header says of directory and pool
-
-module _ (s : List ℕ) (h : Header) (a : HeaderAt s h) where
-  pub header-lies : Lies s (h .count) (h .directory)
-  header-lies = record { few = a .few; inside = omega arith; small = a .short }
-
-  pub header-room : h .pool + length (take (length s - h .pool) (drop (h .pool) s)) ≤ 1048576
-  header-room = rw (part-rest s (h .pool), length-drop) (omega arith)
 
 -- ---- faults
 

@@ -13,7 +13,10 @@ use number::ENTRY_WIDTH;
 use reading::Context;
 use reading::Refusal;
 
+mod keys;
 mod own;
+
+pub use keys::key_of;
 
 
 // The index, from 1, of the interface that a refusal is of, and the rule that was broken; 0 for none.

@@ -4,7 +4,7 @@ use Rattle.number.proofs.Tools.{arith, needs, is-lt, no-lt}
 use Rattle.number.proofs.Parts.{part-rest}
 use Rattle.typelib.specs.Typelib.{poolOf, contextOf}
 use Rattle.faults.specs.Fault.{faultWith}
-use Rattle.faults.proofs.FaultLaws.{header-lies, header-room, fault-entry}
+use Rattle.faults.proofs.FaultLaws.{fault-entry}
 use Rattle.faults.proofs.fault_with.Statement.{statement}
 use Rattle.faults.proofs.fault_with.Tie as tie
 
