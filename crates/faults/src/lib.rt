@@ -18,7 +18,6 @@ mod own;
 
 pub use keys::key_of;
 
-
 // The index, from 1, of the interface that a refusal is of, and the rule that was broken; 0 for none.
 pub struct Fault {
     pub entry: usize,
@@ -36,7 +35,15 @@ fn entry_at(d: usize, place: usize) -> usize
 }
 
 // The fault of a refusal in the descriptor of entry k of n.
-fn own_fault(file: &[u8], pool: &[u8], c: Context, n: usize, d: usize, why: Refusal, k: usize) -> Fault
+fn own_fault(
+    file: &[u8],
+    pool: &[u8],
+    c: Context,
+    n: usize,
+    d: usize,
+    why: Refusal,
+    k: usize,
+) -> Fault
     requires { ⌜ Lies (now file) n d × (c .base + length (now pool) ≤ fileLimit) ⌝ }
     ensures { λ r. ⌜ r ≡ ownFault c (now (file .entry)) (now (pool .entry)) n d why k ⌝ }
 {
