@@ -12,6 +12,7 @@ use Rattle.number.proofs.Scans.{scan-is}
 use Rattle.reading.specs.Got.{Got, got, bad, next, many, Accepted}
 use Rattle.reading.specs.declared.Context.{Context}
 use Rattle.reading.specs.declared.Refusal.{Refusal}
+use Rattle.reading.specs.declared.Verdict.the-variants.{Refused}
 use Rattle.reading.proofs.Steps.{parts}
 use Rattle.key.specs.Key.{Key}
 use Rattle.head.specs.declared.Header.{Header}
@@ -24,8 +25,10 @@ use Rattle.directory.proofs.DirectoryLaws.{row-size}
 use Rattle.descriptor.specs.Descriptor.{readDescriptor}
 use Rattle.typelib.specs.Entry.{readOwn, entriesOf, keysIn}
 use Rattle.typelib.specs.Across.{aboveIn, firstRepeated, firstCircling, readAcross}
-use Rattle.typelib.specs.Typelib.{Front, front, poolOf, contextOf, readListed, readFront, readDescriptors, readBehind, readTypelib}
+use Rattle.typelib.specs.Typelib.{Front, front, Typelib, poolOf, contextOf, readListed, readFront, readDescriptors, readBehind, readTypelib, verdictOf}
 use Rattle.typelib.proofs.OwnLaws.{own-size}
+use Rattle.reader.specs.Reader.{checkOf}
+use Rattle.reader.specs.Reader.Laws.{checked}
 use Rattle.broken.specs.Stop.{isBad}
 use Rattle.faults.specs.declared.Fault.{Fault}
 use Rattle.faults.specs.Fault.{noFault, refusedOwn, firstRefused, ownFault, entryAt, faultWith, faultIn, faultOf}
@@ -149,6 +152,17 @@ first-is c s pool n d m q f =
     let l = f .inside in
     scan-is _ n 0 (f .index) (omega arith) (omega arith) (λ _. bad-is _ (f .here)) (λ j _ b. good-is _ (f .before j b))
 
+-- the header that the front was read with
+pub front-header : (s : List ℕ) (h : Header) (notes : List Annotation) (rows : List Row) (d : ℕ) → readFront s ≡ got (front h notes rows) d → (b : ℕ) × (readHeader s ≡ got h b)
+unfolding readFront readListed
+front-header s h notes rows d r =
+    let x = parts (readHeader s) _ r in
+    let y = parts (readAnnotations (annotationLimit (x .value)) s) _ (x .rest) in
+    let z = parts (readDirectory s (poolOf (x .value) s) (x .value .count) (x .value .directory)) _ (y .rest) in
+    let w = z .rest in
+    let m : x .value ≡ h = cc in
+    (x .end, x .first ∙ ap (λ (k : Header). got k (x .end)) m)
+
 -- ---- each part of a file
 
 module _ (s : List ℕ) (n q : ℕ) where
@@ -200,21 +214,10 @@ module _ (s : List ℕ) (n q : ℕ) where
     | inr t ↦ listed-exact (t .0) (t .1) (t .2) (t .3)
   ]
 
-  -- the header that the front was read with
-  front-header : (h : Header) (notes : List Annotation) (rows : List Row) (d : ℕ) → readFront s ≡ got (front h notes rows) d → (b : ℕ) × (readHeader s ≡ got h b)
-  unfolding readFront readListed
-  front-header h notes rows d r =
-      let x = parts (readHeader s) _ r in
-      let y = parts (readAnnotations (annotationLimit (x .value)) s) _ (x .rest) in
-      let z = parts (readDirectory s (poolOf (x .value) s) (x .value .count) (x .value .directory)) _ (y .rest) in
-      let w = z .rest in
-      let m : x .value ≡ h = cc in
-      (x .end, x .first ∙ ap (λ (k : Header). got k (x .end)) m)
-
   behind-exact : (f : Front) (d : ℕ) → readFront s ≡ got f d → readBehind s f d ≡ bad n q → Of s n q e
   unfolding readBehind
   behind-exact (front h notes rows) d a r =
-      let g = front-header h notes rows d a in
+      let g = front-header s h notes rows d a in
       elim (next-bad (readDescriptors h s) _ r) [
         | inl z ↦ own-exact h (g .0) (g .1) z
         | inr t ↦ elim (next-bad (readAcross (keysIn (entriesOf rows (t .0))) (aboveIn (entriesOf rows (t .0))) (h .count) (h .directory) d) _ (t .3)) [
@@ -230,3 +233,12 @@ exact s n q r = elim (next-bad (readFront s) _ r) [
   | inl z ↦ front-exact s n q z
   | inr t ↦ behind-exact s n q (t .0) (t .1) (t .2) (t .3)
 ]
+
+denied : (g : Got Typelib) (x : Refusal) → verdictOf g ≡ Refused x → g ≡ bad (x .no) (x .place)
+unfolding verdictOf
+denied (got t e) x h = absurd (let z : _≡_ {A = ℕ} 0 1 = cc in omega arith)
+denied (bad m p) x h = let w : record { no = m; place = p } ≡ x = cc in rw (← w) refl
+
+-- the same of what the check answers
+pub check-exact : (s : List ℕ) (x : Refusal) → checkOf s ≡ Refused x → Of s (x .no) (x .place) (faultOf s x .entry)
+check-exact s x h = exact s (x .no) (x .place) (denied (readTypelib s) x (checked s refl ∙ h))
