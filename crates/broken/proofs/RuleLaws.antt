@@ -4,8 +4,7 @@ use mathlib.Core.Path.{_≡_, refl, sym, ap, _∙_, subst}
 use mathlib.Core.Bool.{Bool, true, false}
 use mathlib.Core.List.{List}
 use Prim.Native.Nat.{ℕ, _+_, _≤_, _<_, _/_, _%_}
-use native.Mathlib.Omega.{arith}
-use lib.ListN.{length, getD, take}
+use lib.ListN.{length, take}
 use Rattle.number.specs.Choice.{if_then_else_, _<?_, _=?_}
 use Rattle.number.proofs.Choice.{is-true, is-false}
 use Rattle.number.proofs.Scans.{tally-ext}
@@ -15,9 +14,9 @@ use Rattle.reading.specs.declared.Step.{Step}
 use Rattle.reading.specs.declared.Step.the-variants.{End}
 use Rattle.reading.proofs.Steps.{refused, told}
 use Rattle.reading.proofs.Rows.{accepted}
-use Rattle.method.specs.Parameter.{Param, paramType, readParam}
+use Rattle.method.specs.Parameter.{paramType, readParam}
 use Rattle.method.specs.Numbers.{prefixes, wrongNumbers, wrongArguments}
-use Rattle.method.specs.Method.{Method, readMethod, methodFlags, noMethod}
+use Rattle.method.specs.Method.{readMethod}
 use Rattle.method.specs.Tables.{Listed, Noted}
 use Rattle.method.proofs.Arguments.{param-at}
 use Rattle.method.proofs.MethodLaws.{method-at}

@@ -5,7 +5,7 @@ use mathlib.Core.List.{List}
 use mathlib.Core.Option.{Option, none}
 use Prim.Native.Nat.{ℕ, _+_, _-_, _*_, _<_}
 use native.Mathlib.Omega.{arith}
-use lib.ListN.{length, getD}
+use lib.ListN.{getD}
 use Rattle.number.specs.Number.{be}
 use Rattle.reading.specs.Got.{got}
 use Rattle.reading.proofs.Steps.{passed, parts}
@@ -17,12 +17,12 @@ use Rattle.head.specs.Header.{readHeader}
 use Rattle.directory.specs.Directory.{Row, row, noRow, rowKey, readRow}
 use Rattle.directory.proofs.DirectoryLaws.{rows-length, row-at}
 use Rattle.descriptor.specs.Descriptor.{Descriptor}
-use Rattle.typelib.specs.Entry.{Entry, entryKey, noEntry, entriesOf, keysIn}
+use Rattle.typelib.specs.Entry.{entryKey, entriesOf, keysIn}
 use Rattle.typelib.specs.Across.{aboveIn, readAcross}
 use Rattle.typelib.specs.Typelib.{Front, front, Typelib, typelib, headerOf, entriesIn, poolOf, readFront, readDescriptors, readBehind, readTypelib}
 use Rattle.typelib.proofs.EntryLaws.{entryWith, entries-at}
 use Rattle.typelib.proofs.FrontLaws.{fronted-rows}
-use Rattle.faults.specs.Key.{keyText, pointedKey, keyAs, readKey, textOf}
+use Rattle.faults.specs.Key.{keyText, pointedKey, readKey, textOf}
 use Rattle.faults.proofs.KeyLaws.{key-within}
 use Rattle.faults.proofs.Exact.{front-header}
 

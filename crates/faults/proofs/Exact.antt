@@ -1,15 +1,15 @@
 -- The interface that is found is the one whose own part was refused, with exactly this number and place.
 -- Assumes nothing.
 use mathlib.Core.Path.{_≡_, refl, sym, ap, _∙_}
-use mathlib.Core.Bool.{Bool, true, false}
+use mathlib.Core.Bool.{true, false}
 use mathlib.Core.List.{List}
 use mathlib.Core.Logic.{_⊎_, inl, inr}
 use Prim.Native.Nat.{ℕ, zero, suc, _+_, _-_, _*_, _/_, _≤_, _<_}
 use native.Mathlib.Omega.{arith}
-use Rattle.number.specs.Choice.{if_then_else_, _<?_, _≤?_, _=?_, _≠?_}
-use Rattle.number.proofs.Choice.{both, from-yes-lt, from-yes-eq, from-not-eq, from-not-lt, not-eq, not-lt, yes-lt, not-le, no-lt}
+use Rattle.number.specs.Choice.{if_then_else_, _<?_, _=?_, _≠?_}
+use Rattle.number.proofs.Choice.{both, from-yes-lt, from-not-lt, not-eq, not-lt, yes-lt, not-le, no-lt}
 use Rattle.number.proofs.Scans.{scan-is}
-use Rattle.reading.specs.Got.{Got, got, bad, next, many, Accepted}
+use Rattle.reading.specs.Got.{Got, got, bad, Accepted}
 use Rattle.reading.specs.declared.Context.{Context}
 use Rattle.reading.specs.declared.Refusal.{Refusal}
 use Rattle.reading.specs.declared.Verdict.the-variants.{Refused}
@@ -18,11 +18,9 @@ use Rattle.key.specs.Key.{Key}
 use Rattle.head.specs.declared.Header.{Header}
 use Rattle.head.specs.Header.{lengthFault, readPositions, readFields, readHeader}
 use Rattle.head.specs.Annotation.{Annotation, readText, readBody, readAnnotation, annotationsWithin, readAnnotations, annotationLimit}
-use Rattle.head.specs.Says.{HeaderAt}
 use Rattle.head.proofs.HeaderLaws.{header-at}
 use Rattle.directory.specs.Directory.{Row, readRow, readDirectory}
 use Rattle.directory.proofs.DirectoryLaws.{row-size}
-use Rattle.descriptor.specs.Descriptor.{readDescriptor}
 use Rattle.typelib.specs.Entry.{readOwn, entriesOf, keysIn}
 use Rattle.typelib.specs.Across.{aboveIn, firstRepeated, firstCircling, readAcross}
 use Rattle.typelib.specs.Typelib.{Front, front, Typelib, poolOf, contextOf, readListed, readFront, readDescriptors, readBehind, readTypelib, verdictOf}

@@ -8,13 +8,13 @@ use Rattle.number.specs.Choice.{if_then_else_, _<?_, _≤?_, _=?_, _≠?_}
 use Rattle.number.specs.Number.{be}
 use Rattle.number.specs.Scan.{scan, some as one, tally}
 use Rattle.number.specs.Part.{part}
-use Rattle.reading.specs.Got.{Got, got, bad, next, many, byte, field}
+use Rattle.reading.specs.Got.{bad, next, many, byte, field}
 use Rattle.key.specs.Word.{zeroByte, wordEnd, wordAt, compareWords, isSame, sameWord}
-use Rattle.key.specs.Key.{key, thenBy, compareKeys, sameKey}
+use Rattle.key.specs.Key.{thenBy, compareKeys, sameKey}
 use Rattle.key.specs.First.{sameAs, firstSame}
 use Rattle.name.specs.Name.{isIdentifier, readIdentifier, follow, followSpace, readName}
-use Rattle.head.specs.Header.{magic, offMagic, magicEnd, unknownMinor, lengthFault, misplacedPool, misplacedDirectory, readPositions, readFields, readHeader}
-use Rattle.head.specs.Annotation.{empty, offAscii, asciiEnd, readText, readBody, readAnnotation, annotationsWithin, readAnnotations, annotationLimit}
+use Rattle.head.specs.Header.{offMagic, magicEnd, unknownMinor, lengthFault, misplacedPool, misplacedDirectory, readPositions, readFields, readHeader}
+use Rattle.head.specs.Annotation.{offAscii, asciiEnd, readText, readBody, readAnnotation, annotationsWithin, readAnnotations, annotationLimit}
 use Rattle.directory.specs.Directory.{falls, outOfOrder, lacksIid, readRow, readDirectory}
 use Rattle.types.specs.Types.{prefix, classOf, isReserved, needsPointer, lacksPointer, readIndex, readRest, typeWith, readArray, readType}
 use Rattle.method.specs.Parameter.{paramFlags, paramType, reservedParam, wrongParam, readParam}
@@ -23,10 +23,10 @@ use Rattle.method.specs.Method.{methodFlags, methodName, ruleSignature, readSig
 use Rattle.descriptor.specs.Constant.{constant, valueSize, readConstant}
 use Rattle.descriptor.specs.Rules.{isConstructor, manyConstructors, isGetter, isSetter, strayPair, strayGetter, strayPairs}
 use Rattle.descriptor.specs.Descriptor.{descriptor, parentOf, indexed, readParent, readCounted, reservedInterface, readFlags, flagsIn, namesIn, readDescriptor}
-use Rattle.typelib.specs.Entry.{Entry, entry, entryKey, entryDescriptor, readOwn, entriesOf, noEntry, keysIn, descriptorIn}
+use Rattle.typelib.specs.Entry.{entry, entryKey, entryDescriptor, readOwn, entriesOf, noEntry, keysIn, descriptorIn}
 use Rattle.typelib.specs.Directory.{ownPointer}
 use Rattle.typelib.specs.Across.{repeated, firstRepeated, parentIndex, above, aboveIn, chainEnds, circles, firstCircling, readAcross}
-use Rattle.typelib.specs.Typelib.{Typelib, typelib, poolOf, contextOf, readListed, readFront, readDescriptors, headerOf, readBehind, readTypelib, verdictOf}
+use Rattle.typelib.specs.Typelib.{poolOf, contextOf, readListed, readFront, readDescriptors, headerOf, readBehind, readTypelib}
 use Rattle.reading.specs.declared.Refusal.{Refusal}
 use Rattle.reader.specs.Reader.Marked.{P1, P2, P3}
 use Rattle.ascii.specs.Ascii.{ascii}

@@ -14,7 +14,7 @@ use Rattle.method.specs.Parameter.{Param, readParam}
 use Rattle.method.specs.Method.{ruleSignature, readSignature, readMethod}
 use Rattle.descriptor.specs.Constant.{readConstant}
 use Rattle.descriptor.specs.Descriptor.{readParent, readCounted, readFlags, readDescriptor}
-use Rattle.faults.proofs.Refusals.{Refusals, r-got, r-bad, r-if, r-unless, r-next, r-many, follow-refusals}
+use Rattle.faults.proofs.Refusals.{Refusals, r-got, r-bad, r-unless, r-next, r-many, follow-refusals}
 
 -- a number from 11 to 17, and a place in the pool
 unfoldable pub Pooled : Context → ℕ → ℕ → Type 0

@@ -5,7 +5,6 @@ ghost use lib.ListN.{length};
 ghost use Rattle.number.specs.Limits.{fileLimit};
 ghost use Rattle.head.specs.Says.{HeaderAt};
 ghost use Rattle.typelib.specs.Directory.{Lies};
-ghost use Rattle.typelib.specs.Typelib.{poolOf, contextOf};
 ghost use Rattle.faults.specs.Fault.{firstRefused, ownFault, entryAt, faultWith, faultOf};
 use head::Head;
 use head::Header;

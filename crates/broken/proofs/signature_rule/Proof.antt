@@ -1,6 +1,6 @@
 -- `broken::signature_rule` meets its contract.
 -- Assumes nothing.
-use Rattle.number.proofs.Tools.{arith, needs, refl}
+use Rattle.number.proofs.Tools.{arith, needs}
 use Rattle.reading.proofs.Rows.{accepted}
 use Rattle.method.proofs.Arguments.{arguments-end}
 use Rattle.method.proofs.RuleLaws.{result-at, result-type}

@@ -1,6 +1,6 @@
 -- `broken::table_rule` meets its contract.
 -- Assumes nothing.
-use Rattle.number.proofs.Tools.{arith, needs}
+use Rattle.number.proofs.Tools.{needs}
 use Rattle.broken.specs.Rule.{tableRule}
 use Rattle.broken.proofs.RuleLaws.{rule-stop, rule-many, rule-pair}
 use Rattle.broken.proofs.table_rule.Statement.{statement}

@@ -1,6 +1,6 @@
 -- `faults::own::refused_own` meets its contract.
 -- Assumes nothing.
-use Rattle.number.proofs.Tools.{arith, needs, sym, _∙_}
+use Rattle.number.proofs.Tools.{needs, sym, _∙_}
 use Rattle.typelib.proofs.OwnLaws.{own-shared}
 use Rattle.broken.proofs.StopLaws.{bad-end}
 use Rattle.faults.specs.Fault.{refusedOwn}

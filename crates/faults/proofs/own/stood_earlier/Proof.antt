@@ -1,6 +1,6 @@
 -- `faults::own::stood_earlier` meets its contract.
 -- Assumes nothing.
-use Rattle.number.proofs.Tools.{arith, needs, _≡_, sym, _∙_, _-_, _≤_}
+use Rattle.number.proofs.Tools.{arith, _≡_, sym, _∙_, _-_, _≤_}
 use Rattle.number.proofs.Choice.{yes-eq, not-eq}
 use Rattle.number.proofs.Scans.{Misses, misses-none, misses-more, misses-some, hits-some}
 use Rattle.typelib.specs.Directory.{ownPointer, pointsTo}
