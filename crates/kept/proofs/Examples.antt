@@ -11,7 +11,7 @@ use Rattle.number.specs.Part.{part}
 use Rattle.key.specs.Word.{compareWords, isSame, sameWord}
 use Rattle.kept.specs.declared.Kept.{Kept}
 use Rattle.kept.specs.Names.{nameIn, stateIn, isKept, rowOf, rowSet, rowAdded, oneMore}
-use Rattle.kept.specs.Room.{nothingKept, withRoom, isFound, withPair}
+use Rattle.kept.specs.Room.{nothingKept, withRoom}
 use Rattle.kept.specs.Written.{lastWithin, lastPart, ending, sameEnding, mayLead, forgotten}
 
 -- `d/a`, `a`, `d/`, and no bytes

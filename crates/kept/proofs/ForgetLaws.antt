@@ -14,8 +14,10 @@ use Rattle.number.proofs.Choice.{is-eq, no-eq, is-true, is-false, both, from-no
 use Rattle.number.proofs.Scans.{below, clash, scan-found, scan-before, scan-is}
 use Rattle.key.specs.Word.{sameWord}
 use Rattle.key.proofs.Orders.{same-word, same-word-equal, other-word}
+use Rattle.kept.specs.declared.Kept.{Kept}
 use Rattle.kept.specs.Names.{linkState, forgottenState, nameIn, stateIn, isKept, rowOf}
-use Rattle.kept.specs.Written.{ending, sameEnding, mayLead, forgotten}
+use Rattle.kept.specs.Written.{ending, sameEnding, mayLead, forgotten, Forgot}
+use Rattle.kept.proofs.FileLaws.{found-no, from-found}
 use Rattle.kept.proofs.WrittenLaws.{forgotten-length, forgotten-other}
 
 -- a test holds or fails
@@ -136,3 +138,10 @@ module _ (name path rows store : List ℕ) (n : ℕ) (room : 4 * n ≤ length ro
       (λ j a b. either (mayLead path rows store j)
       (λ t. row-gone j (omega arith) t)
       (λ t. row-stays j (omega arith) t ∙ scan-before (isKept name rows store) n 0 j a b))
+
+-- a reader's words for the two
+pub forgot : (path : List ℕ) (kept : Kept) (rows store table : List ℕ) → 4 * kept .rows ≤ length rows → table ≡ forgotten path rows store (kept .rows) → Forgot path kept rows store table
+forgot path kept rows store table h e = rw e (record {
+  none = λ name q. found-no name kept (forgotten path rows store (kept .rows)) store (forgotten-none name path rows store (kept .rows) h q);
+  apart = λ name q. forgotten-apart name path rows store (kept .rows) h (from-found name kept (forgotten path rows store (kept .rows)) store q);
+})

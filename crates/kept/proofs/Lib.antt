@@ -1,8 +1,8 @@
 pub mod RowLaws
 pub mod NameLaws
 pub mod RoomLaws
+pub mod FileLaws
 pub mod WrittenLaws
 pub mod AddLaws
-pub mod PairLaws
 pub mod ForgetLaws
 pub mod Examples

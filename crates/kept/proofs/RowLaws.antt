@@ -1,6 +1,6 @@
 -- The numbers of the table once a row was added, and that its rows lie in the store.
 -- Assumes nothing.
-use mathlib.Core.Path.{_≡_, _∙_}
+use mathlib.Core.Path.{_≡_, sym, _∙_}
 use mathlib.Core.List.{List}
 use mathlib.Core.Logic.{inl, inr}
 use Prim.Native.Nat.{ℕ, _+_, _*_, _≤_, _<_}
@@ -14,8 +14,8 @@ use Rattle.kept.specs.Table.{Tidy}
 use Rattle.kept.specs.Names.{rowSet, rowAdded, oneMore}
 use Rattle.kept.specs.Room.{nothingKept}
 
-pub tidy-nothing : (rows : List ℕ) → Tidy rows nothingKept
-tidy-nothing rows = record { few = omega arith; room = omega arith; inside = λ k h. absurd (omega arith) }
+pub tidy-nothing : (rows : List ℕ) → 256 ≡ length rows → Tidy rows nothingKept
+tidy-nothing rows e = record { whole = e; few = omega arith; room = omega arith; inside = λ k h. absurd (omega arith) }
 
 -- ---- four numbers set
 
@@ -100,8 +100,9 @@ module _ (state : ℕ) (file : Span) (kept : Kept) (rows : List ℕ) where
     added-state = row-state rows (4 * kept .rows) (kept .used) (file .from) (file .end) state h
 
     pub tidy-added : Tidy rows kept → kept .rows < 64 → kept .used ≤ file .from → file .from ≤ file .end → file .end ≤ 4210688 → Tidy (rowAdded state file kept rows) (oneMore file kept)
-    unfolding oneMore
+    unfolding oneMore rowAdded
     tidy-added t few u f e = record {
+      whole = t .whole ∙ sym (row-length rows (4 * kept .rows) (kept .used) (file .from) (file .end) state);
       few = omega arith;
       room = e;
       inside = λ k l. elim (below k (kept .rows) (omega arith)) [

@@ -71,6 +71,7 @@ module _ (path rows store : List ℕ) where
 
   pub forgotten-tidy : (kept : Kept) (n : ℕ) → Tidy rows kept → Tidy (forgotten path rows store n) kept
   forgotten-tidy kept n t = record {
+    whole = t .whole ∙ sym (forgotten-length n);
     few = t .few;
     room = t .room;
     inside = λ k l. rw (forgotten-other n (4 * k) (λ j a e. omega arith), forgotten-other n (4 * k + 1) (λ j a e. omega arith), forgotten-other n (4 * k + 2) (λ j a e. omega arith)) (t .inside k l);

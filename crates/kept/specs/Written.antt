@@ -1,12 +1,15 @@
 -- A file was written: the rows that may lead to it are forgotten.
 -- Assumes nothing.
-use mathlib.Core.Bool.{Bool, true}
+use mathlib.Core.Path.{_≡_}
+use mathlib.Core.Bool.{Bool, true, false}
 use mathlib.Core.List.{List}
 use Prim.Native.Nat.{ℕ, zero, suc, _+_, _*_}
 use lib.ListN.{length, getD, drop, set}
 use Rattle.number.specs.Choice.{if_then_else_, _=?_}
 use Rattle.key.specs.Word.{sameWord}
-use Rattle.kept.specs.Names.{linkState, forgottenState, nameIn, stateIn}
+use Rattle.kept.specs.declared.Kept.{Kept}
+use Rattle.kept.specs.Names.{linkState, forgottenState, nameIn, stateIn, rowOf}
+use Rattle.kept.specs.Files.{isFound}
 
 -- after the last `/` of the first n bytes; 0 where there is none
 unfoldable pub lastWithin : List ℕ → ℕ → ℕ
@@ -34,3 +37,8 @@ forgotten path rows store zero = rows
 forgotten path rows store (suc k) =
     let before : List ℕ = forgotten path rows store k in
     if mayLead path rows store k then set before (4 * k + 3) forgottenState else before
+
+-- afterwards no name with the last part of `path` is found, and no row is found that might have led to the file there
+pub record Forgot (path : List ℕ) (kept : Kept) (rows store table : List ℕ) : Type 0 where
+  pub none : (name : List ℕ) → ending name ≡ ending path → isFound name kept table store ≡ false
+  pub apart : (name : List ℕ) → isFound name kept table store ≡ true → mayLead path rows store (rowOf name table store (kept .rows)) ≡ false

@@ -5,10 +5,12 @@ use words::Span;
 ghost use mathlib.Core.Path.{_≡_};
 ghost use Prim.Native.Nat.{_+_, _*_, _-_, _≤_, _<_};
 ghost use lib.ListN.{length, getD};
+ghost use Rattle.number.specs.Part.{part};
 ghost use Rattle.kept.specs.Table.{Tidy};
 ghost use Rattle.kept.specs.Names.{isKept, rowOf, rowSet, rowAdded, oneMore};
-ghost use Rattle.kept.specs.Room.{withRoom, withPair};
-ghost use Rattle.kept.specs.Written.{lastPart, sameEnding, mayLead, forgotten};
+ghost use Rattle.kept.specs.Room.{storeBytes, Roomy, withRoom};
+ghost use Rattle.kept.specs.Files.{keptFile};
+ghost use Rattle.kept.specs.Written.{lastPart, sameEnding, mayLead, forgotten, Forgot};
 
 // The rows in use, and the bytes of the store that they take.
 pub struct Kept {
@@ -63,36 +65,28 @@ pub fn bytes_of(k: usize, kept: Kept, rows: &[usize; 256]) -> Span
     Span { from, end }
 }
 
+// Where the bytes stand that are kept under this name: at the front, and none, where no file is.
+pub fn file_of(name: &[u8], kept: Kept, rows: &[usize; 256], store: &[u8; 4210688]) -> Span
+    requires { ⌜ Tidy (now rows) kept ⌝ }
+    ensures { λ r. ⌜ (r .from ≤ r .end) × ((r .end ≤ storeBytes) × (part (now (store .entry)) (r .from) (r .end) ≡ keptFile (now (name .entry)) kept (now (rows .entry)) (now (store .entry)))) ⌝ }
+{
+    let k = row_of(name, kept, rows, store);
+    if k < kept.rows {
+        return bytes_of(k, kept, rows);
+    }
+    Span { from: 0, end: 0 }
+}
+
 // What is kept once there is room for n files more, each with a name of 4,095 bytes and one byte more than the largest file.
 pub fn with_room(kept: Kept, n: usize, rows: &[usize; 256]) -> Kept
     requires { ⌜ Tidy (now rows) kept × ((0 < n) × (n ≤ 2)) ⌝ }
-    ensures { λ r. ⌜ Tidy (now (rows .entry)) r × ((r .rows + n ≤ 64) × ((r .used + n * 1052672 ≤ 4210688) × (r ≡ withRoom kept n))) ⌝ }
+    ensures { λ r. ⌜ Tidy (now (rows .entry)) r × (Roomy n r × (r ≡ withRoom kept n)) ⌝ }
 {
     if 64 < kept.rows + n {
         return Kept { rows: 0, used: 0 };
     }
     if 4210688 - kept.used < n * 1052672 {
         return Kept { rows: 0, used: 0 };
-    }
-    kept
-}
-
-// What is kept once the two files of a link can be in the store together.
-pub fn with_pair(
-    first: &[u8],
-    second: &[u8],
-    kept: Kept,
-    rows: &[usize; 256],
-    store: &[u8; 4210688],
-) -> Kept
-    requires { ⌜ Tidy (now rows) kept ⌝ }
-    ensures { λ r. ⌜ Tidy (now (rows .entry)) r × (r ≡ withPair (now (first .entry)) (now (second .entry)) kept (now (rows .entry)) (now (store .entry))) ⌝ }
-{
-    if row_of(first, kept, rows, store) == kept.rows {
-        return with_room(kept, 2, rows);
-    }
-    if row_of(second, kept, rows, store) == kept.rows {
-        return with_room(kept, 2, rows);
     }
     kept
 }
@@ -163,6 +157,7 @@ fn may_lead(path: &[u8], k: usize, kept: Kept, rows: &[usize; 256], store: &[u8;
 pub fn forget(path: &[u8], kept: Kept, rows: &mut [usize; 256], store: &[u8; 4210688])
     requires { ⌜ Tidy (now rows) kept ⌝ }
     ensures { λ _. ⌜ Tidy (now (rows .exit)) kept × (now (rows .exit) ≡ forgotten (now (path .entry)) (now (rows .entry)) (now (store .entry)) (kept .rows)) ⌝ }
+    ensures { λ _. ⌜ Forgot (now (path .entry)) kept (now (rows .entry)) (now (store .entry)) (now (rows .exit)) ⌝ }
 {
     let mut k: usize = 0;
     while k < kept.rows {

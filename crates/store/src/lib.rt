@@ -1,20 +1,25 @@
-// Files by name, read where they are not kept from an earlier command of the batch (crate `kept`).
+// Files by name, read where they are not kept from an earlier command of the batch (crate `kept`). The name `-` is standard input's.
 use kept::Kept;
 use words::Span;
-ghost use Prim.Native.Nat.{_+_, _≤_};
+ghost use mathlib.Core.Path.{_≡_};
+ghost use mathlib.Core.Bool.{false};
+ghost use Prim.Native.Nat.{_+_, _≤_, _<_};
 ghost use lib.ListN.{length};
 ghost use Rattle.number.specs.Limits.{fileLimit};
-ghost use Rattle.libc.specs.Io.{Ended};
+ghost use Rattle.kept.specs.Names.{forgottenState};
 ghost use Rattle.kept.specs.Table.{Tidy};
-ghost use Rattle.store.specs.Bounds.{LoadedIn, Answered};
+ghost use Rattle.kept.specs.Room.{storeBytes, Roomy};
+ghost use Rattle.kept.specs.Files.{isFound};
+ghost use Rattle.store.specs.Loading.{isInput, isBarred, ReadBehind, Loads};
 use number::FILE_LIMIT;
 
 // One byte more than the largest typelib has, so that a longer file is told from it.
 const MOST: usize = FILE_LIMIT + 1;
 
-// Where a file's bytes stand in the store, or errno's number.
+// A file is kept under its name; standard input is the batch's own; or errno's number.
 pub enum Loaded {
-    At(Span),
+    Kept,
+    InBatch,
     Failed(i32),
 }
 
@@ -24,89 +29,87 @@ pub struct Asked {
     pub file: Loaded,
 }
 
-// Some of the file's bytes into the store from `from` up to `most`: where they end, which is `from` at the file's end; or errno's number.
-fn read_some(fd: i32, from: usize, most: usize, store: &mut [u8]) -> Loaded
+// Where what was read ends, or errno's number.
+enum Read {
+    UpTo(usize),
+    Failed(i32),
+}
+
+// Some of the file's bytes into the store from `from` up to `most`; none at the file's end.
+fn read_some(fd: i32, from: usize, most: usize, store: &mut [u8]) -> Read
     requires { ⌜ (from ≤ most) × (most ≤ length (now store)) ⌝ }
-    ensures { λ r. ⌜ LoadedIn from most r ⌝ }
+    ensures { λ r. ⌜ ReadBehind (now (store .entry)) from most r (now (store .exit)) ⌝ }
 {
     let part = &mut store[from..most];
     let got = libc::read(fd, part);
     if got < 0 {
-        return Loaded::Failed(os::errno());
+        return Read::Failed(os::errno());
     }
-    let end = from + io::count(got, part);
-    Loaded::At(Span { from, end })
+    Read::UpTo(from + io::count(got, part))
 }
 
 // The file's bytes into the store from `from` on, at most that many.
-fn read_from(fd: i32, from: usize, store: &mut [u8; 4210688]) -> Loaded
-    requires { ⌜ from + (fileLimit + 1) ≤ 4210688 ⌝ }
-    ensures { λ r. ⌜ LoadedIn from (from + (fileLimit + 1)) r ⌝ }
+fn read_from(fd: i32, from: usize, store: &mut [u8; 4210688]) -> Read
+    requires { ⌜ from + (fileLimit + 1) ≤ storeBytes ⌝ }
+    ensures { λ r. ⌜ ReadBehind (now (store .entry)) from (from + (fileLimit + 1)) r (now (store .exit)) ⌝ }
 {
     let most = from + MOST;
     let mut end = from;
     while end < most {
         let got = read_some(fd, end, most, store);
-        let Loaded::At(part) = got else {
+        let Read::UpTo(next) = got else {
             return got;
         };
-        if part.end == end {
+        if next == end {
             break;
         }
-        end = part.end;
+        end = next;
     }
-    Loaded::At(Span { from, end })
+    Read::UpTo(end)
 }
 
-// The path for C, which reads it up to a zero byte.
-fn ended(path: &[u8]) -> [u8; 4096]
-    ensures { λ r. ⌜ Ended r ⌝ }
+// The state of a row.
+fn link_state(path: &[u8]) -> usize
+    ensures { λ r. ⌜ r < forgottenState ⌝ }
 {
-    let mut all = io::buffer();
-    let mut i: usize = 0;
-    while i < path.len() {
-        if 4095 <= i {
-            break;
-        }
-        all[i] = path[i];
-        i += 1;
-    }
-    all[4095] = 0;
-    all
-}
-
-// The state of a row: 1 for a symbolic link, else 0.
-fn link_state(path: &[u8]) -> usize {
-    let all = ended(path);
+    let all = paths::ended(path);
     let mut target = [0u8; 8];
     if libc::readlink(&all, &mut target) < 0 {
-        return 0;
+        return kept::PLAIN;
     }
-    1
+    kept::LINK
 }
 
 // The open file behind what is kept, with its name before it.
 fn read_in(
     fd: i32,
+    state: usize,
     name: &[u8],
     kept: Kept,
     rows: &mut [usize; 256],
     store: &mut [u8; 4210688],
 ) -> Asked
-    requires { ⌜ Tidy (now rows) kept × ((kept .rows + 1 ≤ 64) × ((kept .used + 1052672 ≤ 4210688) × (length (now name) ≤ 4095))) ⌝ }
-    ensures { λ r. ⌜ Answered (now (rows .exit)) r ⌝ }
+    requires { ⌜ Tidy (now rows) kept × (Roomy 1 kept × ((isFound (now name) kept (now rows) (now store) ≡ false) × ((state < forgottenState) × (length (now name) ≤ 4095)))) ⌝ }
+    ensures { λ r. ⌜ Loads false (now (name .entry)) kept (now (rows .entry)) (now (store .entry)) r (now (rows .exit)) (now (store .exit)) ⌝ }
 {
     let from = text::put_bytes(store, kept.used, name);
     match read_from(fd, from, store) {
-        Loaded::Failed(error) => Asked {
+        Read::Failed(error) => Asked {
             kept,
             file: Loaded::Failed(error),
         },
-        Loaded::At(file) => Asked {
-            kept: kept::add(link_state(name), file, kept, rows),
-            file: Loaded::At(file),
+        Read::UpTo(end) => Asked {
+            kept: kept::add(state, Span { from, end }, kept, rows),
+            file: Loaded::Kept,
         },
     }
+}
+
+// The name of standard input.
+fn is_input(name: &[u8]) -> bool
+    ensures { λ r. ⌜ r ≡ isInput (now (name .entry)) ⌝ }
+{
+    words::is_same(name, b"-")
 }
 
 // The file is not kept.
@@ -116,14 +119,17 @@ fn open_and_read(
     rows: &mut [usize; 256],
     store: &mut [u8; 4210688],
 ) -> Asked
-    requires { ⌜ Tidy (now rows) kept ⌝ }
-    ensures { λ r. ⌜ Answered (now (rows .exit)) r ⌝ }
+    requires { ⌜ Tidy (now rows) kept × (Roomy 1 kept × (isFound (now name) kept (now rows) (now store) ≡ false)) ⌝ }
+    ensures { λ r. ⌜ Loads false (now (name .entry)) kept (now (rows .entry)) (now (store .entry)) r (now (rows .exit)) (now (store .exit)) ⌝ }
 {
     if 4095 < name.len() {
         return Asked {
             kept,
             file: Loaded::Failed(libc::ENAMETOOLONG),
         };
+    }
+    if is_input(name) {
+        return read_in(libc::STDIN_FILENO, kept::PLAIN, name, kept, rows, store);
     }
     let fd = os::open_read(name);
     if fd < 0 {
@@ -132,22 +138,42 @@ fn open_and_read(
             file: Loaded::Failed(os::errno()),
         };
     }
-    let roomy = kept::with_room(kept, 1, rows);
-    let asked = read_in(fd, name, roomy, rows, store);
+    let asked = read_in(fd, link_state(name), name, kept, rows, store);
     libc::close(fd);
     asked
 }
 
-// The file of this name.
-pub fn load(name: &[u8], kept: Kept, rows: &mut [usize; 256], store: &mut [u8; 4210688]) -> Asked
-    requires { ⌜ Tidy (now rows) kept ⌝ }
-    ensures { λ r. ⌜ Answered (now (rows .exit)) r ⌝ }
+// Standard input, where its lines are the batch's.
+fn is_barred(in_batch: bool, name: &[u8]) -> bool
+    ensures { λ r. ⌜ r ≡ isBarred «in_batch» (now (name .entry)) ⌝ }
 {
-    let k = kept::row_of(name, kept, rows, store);
-    if k < kept.rows {
+    if in_batch {
+        return is_input(name);
+    }
+    false
+}
+
+// The file of this name. There is room for it: see `kept::with_room`.
+pub fn load(
+    name: &[u8],
+    in_batch: bool,
+    kept: Kept,
+    rows: &mut [usize; 256],
+    store: &mut [u8; 4210688],
+) -> Asked
+    requires { ⌜ Tidy (now rows) kept × Roomy 1 kept ⌝ }
+    ensures { λ r. ⌜ Loads (isBarred «in_batch» (now (name .entry))) (now (name .entry)) kept (now (rows .entry)) (now (store .entry)) r (now (rows .exit)) (now (store .exit)) ⌝ }
+{
+    if is_barred(in_batch, name) {
         return Asked {
             kept,
-            file: Loaded::At(kept::bytes_of(k, kept, rows)),
+            file: Loaded::InBatch,
+        };
+    }
+    if kept::row_of(name, kept, rows, store) < kept.rows {
+        return Asked {
+            kept,
+            file: Loaded::Kept,
         };
     }
     open_and_read(name, kept, rows, store)

@@ -4,6 +4,7 @@ use mathlib.Core.Logic.{⊎-elim}
 use Rattle.number.proofs.Tools.{_≡_, _-_, _≤_, arith, _∙_}
 use Rattle.kept.specs.Written.{forgotten}
 use Rattle.kept.proofs.WrittenLaws.{forget-start, forget-tidy, forget-row, forget-none, forget-done}
+use Rattle.kept.proofs.ForgetLaws.{forgot}
 use Rattle.kept.proofs.forget.Statement.{statement}
 use Rattle.kept.proofs.forget.Tie as tie
 
@@ -23,7 +24,12 @@ loop-again : tie.Need-loop-again Inv-loop μ-loop
 loop-again c = (omega arith, ⊎-elim (λ w. w .1 ∙ forget-row _ _ _ _ _ (c .before .before .before .before .before .loop .inv .1) (c .before .may-lead .ensures) (w .0 .taken)) (λ w. w .1 ∙ forget-none _ _ _ _ _ (c .before .before .before .before .before .loop .inv .1) (c .before .may-lead .ensures) (w .0 .left)) (c .if2 .came))
 
 returns : tie.Need-returns Inv-loop μ-loop
-returns c = (forget-tidy _ _ _ _ _ _ (c .before .before .loop .inv .1) (c .before .before .before .before .pre), forget-done _ _ _ _ _ _ (c .before .before .loop .inv .1) (omega arith))
+returns c =
+    let l = c .before .before .loop in
+    let a = c .before .before .before .before .args in
+    let p = c .before .before .before .before .pre in
+    let e : l .rows ≡ forgotten (a .path .now) (a .rows .now) (a .store .now) (a .kept .rows) = forget-done _ _ _ _ _ _ (l .inv .1) (omega arith) in
+    ((forget-tidy _ _ _ _ _ _ (l .inv .1) p, e), forgot _ _ _ _ _ (omega arith) e)
 
 pub forget-spec : {M : Type 1} → statement M
 forget-spec =

@@ -1,0 +1,51 @@
+// What standard output gets, each line in one write.
+use failures::ROOM;
+use listed::Rest;
+ghost use mathlib.Core.List.{List};
+ghost use Prim.Native.Nat.{ℕ, _≤_};
+ghost use Rattle.failures.specs.Room.{room};
+ghost use Rattle.listed.specs.Rest.{LeftIn};
+
+// The first bytes on standard output.
+pub fn put(text: &[u8; 128], n: usize) -> bool
+    requires { ⌜ n ≤ 128 ⌝ }
+{
+    let all: &[u8] = text;
+    io::write_all(1, &all[..n])
+}
+
+// What is left of a listing on standard output, buffer by buffer; whether all of it could be written.
+pub fn put_rest(file: &[u8], first: Rest, in_batch: bool) -> bool
+    requires { ⌜ ((text : List ℕ) × LeftIn «in_batch» (now file) first text) ⌝ }
+{
+    let mut out = io::large_buffer();
+    put_each(file, first, in_batch, &mut out)
+}
+
+fn put_each(file: &[u8], first: Rest, in_batch: bool, out: &mut [u8; 65536]) -> bool
+    requires { ⌜ ((text : List ℕ) × LeftIn «in_batch» (now file) first text) ⌝ }
+{
+    let mut rest = first;
+    while !listed::is_over(rest) {
+        let more = listed::go_on(file, rest, in_batch, out);
+        let n = more.length;
+        let all: &[u8] = out;
+        if !io::write_all(1, &all[..n]) {
+            return false;
+        }
+        rest = more.rest;
+    }
+    true
+}
+
+// An `error` line on standard output, and what it says on standard error: `xpt: ` takes the place of `error `.
+pub fn put_error(text: &mut [u8; ROOM], n: usize) -> bool
+    requires { ⌜ n ≤ room ⌝ }
+{
+    let all: &[u8] = text;
+    let is_open = io::write_all(1, &all[..n]);
+    text::put_bytes(text, 1, b"xpt: ");
+    let all: &[u8] = text;
+    io::write_all(2, &all[1..n]);
+    is_open
+}
