@@ -49,7 +49,13 @@ fn fetch(
     let name = tasks::argument(line, separator, k);
     let from = name.from;
     let end = name.end;
-    let asked = store::load(&line[from..end], tasks::in_batch(separator), kept, rows, store);
+    let asked = store::load(
+        &line[from..end],
+        tasks::in_batch(separator),
+        kept,
+        rows,
+        store,
+    );
     let kept = asked.kept;
     let file = asked.file;
     match file {

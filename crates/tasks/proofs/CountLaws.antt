@@ -6,6 +6,9 @@ use Rattle.verbs.specs.declared.Question.the-variants.{Check, Iid, Key, Method,
 use Rattle.verbs.specs.declared.Verb.{Verb}
 use Rattle.verbs.specs.declared.Verb.the-variants as verb
 use Rattle.verbs.specs.Verbs.{wordsIn}
+use Rattle.tasks.specs.declared.Task.{Task}
+use Rattle.tasks.specs.declared.Task.the-variants.{Mistaken, Run}
+use Rattle.tasks.specs.Tasks.{filesRead, filesOf}
 
 pub words-few : (v : Verb) → wordsIn v ≤ 5
 unfolding wordsIn
@@ -19,3 +22,12 @@ words-few verb.List = omega arith
 words-few verb.Normal = omega arith
 words-few verb.Link = omega arith
 words-few verb.Unknown = omega arith
+
+pub files-few : (t : Task) → filesOf t ≤ 2
+unfolding filesOf filesRead
+files-few (Mistaken m) = omega arith
+files-few (Run (verb.Ask q)) = omega arith
+files-few (Run verb.List) = omega arith
+files-few (Run verb.Normal) = omega arith
+files-few (Run verb.Link) = omega arith
+files-few (Run verb.Unknown) = omega arith

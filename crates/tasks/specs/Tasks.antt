@@ -67,3 +67,11 @@ filesRead verb.Unknown = 0
 unfoldable pub filesOf : Task → ℕ
 filesOf (Mistaken m) = 0
 filesOf (Run v) = filesRead v
+
+-- it writes a file, which its last word names
+unfoldable pub isWriting : Task → Bool
+isWriting (Mistaken m) = false
+isWriting (Run v) = writesFile v
+
+abbrev pub outputWord : ℕ → List ℕ → List ℕ
+outputWord separator line = argument (filesOf (taskOf separator line) + 1) (wordsOf separator line)

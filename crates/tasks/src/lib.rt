@@ -10,7 +10,7 @@ ghost use Rattle.words.specs.Words.{wordsOf, wordIn, Spans};
 ghost use Rattle.verbs.specs.Verbs.{verbOf};
 ghost use Rattle.verbs.specs.declared.Verb.the-variants.{Ask};
 ghost use Rattle.sayings.specs.Sayings.{Says, mistaken};
-ghost use Rattle.tasks.specs.Tasks.{inBatch, writesFile, isForced, shift, wordsTask, lineTask, taskOf, filesRead, filesOf};
+ghost use Rattle.tasks.specs.Tasks.{inBatch, writesFile, isForced, shift, wordsTask, lineTask, taskOf, filesRead, filesOf, isWriting};
 ghost use Rattle.tasks.specs.Mistakes.{usageText, mistakeText};
 
 // What is wrong with a line; `Words` has the command whose words are not as many as it takes, or none that there is.
@@ -143,6 +143,24 @@ pub fn files_of(task: Task) -> usize
         Task::Mistaken(_) => 0,
         Task::Run(verb) => files_read(verb),
     }
+}
+
+// Whether it writes a file.
+pub fn is_writing(task: Task) -> bool
+    ensures { λ r. ⌜ r ≡ isWriting task ⌝ }
+{
+    match task {
+        Task::Mistaken(_) => false,
+        Task::Run(verb) => writes_file(verb),
+    }
+}
+
+// The name of the file that the line writes, which comes after those that it reads.
+pub fn output(line: &[u8], separator: u8) -> Span
+    ensures { λ r. ⌜ Spans (now (line .entry)) separator ((filesOf (taskOf separator (now (line .entry))) + 1) + shift (wordsOf separator (now (line .entry)))) r ⌝ }
+{
+    let n = files_of(task_of(line, separator));
+    argument(line, separator, n + 1)
 }
 
 // The words of a question.

@@ -1,0 +1,26 @@
+-- `tasks::output` meets its contract.
+-- Assumes nothing.
+use Rattle.number.proofs.Tools.{ap, _∙_, subst, _+_, _≤_, arith, needs}
+use Rattle.tasks.specs.Tasks.{filesOf}
+use Rattle.tasks.proofs.CountLaws.{files-few}
+use Rattle.tasks.proofs.output.Statement.{statement}
+use Rattle.tasks.proofs.output.Tie as tie
+
+add-argument : tie.Need-add-argument
+add-argument c = omega (arith, c .files-of .ensures, files-few (c .before .task-of .result))
+
+argument-requires : tie.Need-argument-requires
+argument-requires c κs = omega (arith, c .files-of .ensures, files-few (c .before .task-of .result))
+
+returns : tie.Need-returns
+returns c = rw (← c .before .before .task-of .ensures, ← c .before .files-of .ensures) (c .argument .ensures)
+
+pub output-spec : {M : Type 1} → statement M
+output-spec =
+    tie.close
+    (tie.spec
+    (λ c κs. search needs)
+    (λ c κs. search needs)
+    add-argument
+    argument-requires
+    returns)
