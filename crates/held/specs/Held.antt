@@ -3,16 +3,16 @@
 use mathlib.Core.Path.{_≡_}
 use mathlib.Core.Bool.{true}
 use mathlib.Core.List.{List}
-use Prim.Native.Nat.{ℕ, _+_, _≤_}
+use Prim.Native.Nat.{ℕ, _≤_}
 use Rattle.words.specs.declared.Span.{Span}
 use Rattle.kept.specs.declared.Kept.{Kept}
 use Rattle.kept.specs.Table.{Tidy}
-use Rattle.kept.specs.Room.{fileBytes, storeBytes}
+use Rattle.kept.specs.Room.{storeBytes}
 use Rattle.number.specs.Part.{part}
-use Rattle.kept.specs.Files.{isFound, keptFile, KeptOn}
+use Rattle.kept.specs.Files.{isFound, keptFile}
 use Rattle.tasks.specs.Tasks.{argument}
 use Rattle.held.specs.declared.Wanting.{Wanting}
-use Rattle.held.specs.declared.Wanting.the-variants.{Nothing, Input, File}
+use Rattle.held.specs.declared.Wanting.the-variants.{Nothing, Input, First, Second}
 use Rattle.held.specs.declared.Fetched.{Fetched}
 
 -- the first n files of the command with the words ws are kept
@@ -24,15 +24,8 @@ pub record Held (n : ℕ) (ws : List (List ℕ)) (kept : Kept) (rows store : Lis
 abbrev pub WhereHad : Type 0 → Wanting → Type 0
 WhereHad P Nothing = P
 WhereHad P Input = Unit {0}
-WhereHad P (File u) = Unit {0}
-
--- a file was asked for: it is kept, unless it is wanting; every other that was kept still is
-pub record Fetches (name : List ℕ) (kept : Kept) (rows store : List ℕ) (r : Fetched) (table text : List ℕ) : Type 0 where
-  pub tidy : Tidy table (r .kept)
-  pub keeps : KeptOn kept rows store (r .kept) table text
-  pub found : WhereHad (isFound name (r .kept) table text ≡ true) (r .wanting)
-  pub few : r .kept .rows ≤ kept .rows + 1
-  pub used : r .kept .used ≤ kept .used + fileBytes
+WhereHad P (First e) = Unit {0}
+WhereHad P (Second e) = Unit {0}
 
 -- the first n files of the command were asked for
 pub record FetchesAll (n : ℕ) (ws : List (List ℕ)) (r : Fetched) (table text : List ℕ) : Type 0 where

@@ -2,6 +2,7 @@
 use commands::Reply;
 use kept::Kept;
 use number::FILE_LIMIT;
+use store::Asked;
 use store::Loaded;
 use words::Span;
 ghost use mathlib.Core.Path.{_≡_};
@@ -13,25 +14,42 @@ ghost use Rattle.kept.specs.Table.{Tidy};
 ghost use Rattle.kept.specs.Files.{isFound, keptFile};
 ghost use Rattle.kept.specs.Room.{Roomy};
 ghost use Rattle.commands.specs.Answer.{answerOf, Replies};
-ghost use Rattle.held.specs.Held.{Held, WhereHad, Fetches, FetchesAll, Lies};
+ghost use Rattle.store.specs.declared.Loaded.the-variants as loaded;
+ghost use Rattle.store.specs.Loading.{isBarred, Loads};
+ghost use Rattle.held.specs.Held.{Held, WhereHad, FetchesAll, Lies};
 
-// A file that could not be read: the place of its name in the line, and errno's number.
-pub struct Unread {
-    pub name: Span,
-    pub error: i32,
-}
-
-// Whether a file is wanting: none, standard input, which has the commands of a batch, or one that could not be read.
+// Whether a file is wanting: none, standard input, which has the commands of a batch, or the first or second, by errno's number.
 pub enum Wanting {
     Nothing,
     Input,
-    File(Unread),
+    First(i32),
+    Second(i32),
 }
 
 // What is kept now, and what is wanting.
 pub struct Fetched {
     pub kept: Kept,
     pub wanting: Wanting,
+}
+
+fn first_wanting(file: Loaded) -> Wanting
+    ensures { λ r. ⌜ WhereHad (file ≡ loaded.Kept) r ⌝ }
+{
+    match file {
+        Loaded::Kept => Wanting::Nothing,
+        Loaded::InBatch => Wanting::Input,
+        Loaded::Failed(error) => Wanting::First(error),
+    }
+}
+
+fn second_wanting(file: Loaded) -> Wanting
+    ensures { λ r. ⌜ WhereHad (file ≡ loaded.Kept) r ⌝ }
+{
+    match file {
+        Loaded::Kept => Wanting::Nothing,
+        Loaded::InBatch => Wanting::Input,
+        Loaded::Failed(error) => Wanting::Second(error),
+    }
 }
 
 // The file of the k-th word into the store.
@@ -42,60 +60,60 @@ fn fetch(
     kept: Kept,
     rows: &mut [usize; 256],
     store: &mut [u8; 4210688],
-) -> Fetched
+) -> Asked
     requires { ⌜ (k ≤ 2) × (Tidy (now rows) kept × Roomy 1 kept) ⌝ }
-    ensures { λ r. ⌜ Fetches (argument k (wordsOf separator (now (line .entry)))) kept (now (rows .entry)) (now (store .entry)) r (now (rows .exit)) (now (store .exit)) ⌝ }
+    ensures { λ r. ⌜ Loads (isBarred (inBatch separator) (argument k (wordsOf separator (now (line .entry))))) (argument k (wordsOf separator (now (line .entry)))) kept (now (rows .entry)) (now (store .entry)) r (now (rows .exit)) (now (store .exit)) ⌝ }
 {
     let name = tasks::argument(line, separator, k);
     let from = name.from;
     let end = name.end;
-    let asked = store::load(
-        &line[from..end],
-        tasks::in_batch(separator),
-        kept,
-        rows,
-        store,
-    );
-    let kept = asked.kept;
-    let file = asked.file;
-    match file {
-        Loaded::Kept => Fetched {
-            kept,
-            wanting: Wanting::Nothing,
-        },
-        Loaded::InBatch => Fetched {
-            kept,
-            wanting: Wanting::Input,
-        },
-        Loaded::Failed(error) => Fetched {
-            kept,
-            wanting: Wanting::File(Unread { name, error }),
-        },
-    }
+    store::load(&line[from..end], tasks::in_batch(separator), kept, rows, store)
 }
 
-// The second file of a link, where the first is in the store.
+// The second file, where the first is kept.
 fn fetch_second(
     line: &[u8],
     separator: u8,
-    first: Fetched,
+    kept: Kept,
     rows: &mut [usize; 256],
     store: &mut [u8; 4210688],
 ) -> Fetched
-    requires { ⌜ Tidy (now rows) (first .kept) × (Roomy 1 (first .kept) × WhereHad (isFound (argument 1 (wordsOf separator (now line))) (first .kept) (now rows) (now store) ≡ true) (first .wanting)) ⌝ }
+    requires { ⌜ (Tidy (now rows) kept × Roomy 1 kept) × (isFound (argument 1 (wordsOf separator (now line))) kept (now rows) (now store) ≡ true) ⌝ }
     ensures { λ r. ⌜ ((n : ℕ) → FetchesAll n (wordsOf separator (now (line .entry))) r (now (rows .exit)) (now (store .exit))) ⌝ }
 {
-    let kept = first.kept;
-    let wanting = first.wanting;
+    let asked = fetch(line, separator, 2, kept, rows, store);
+    let file = asked.file;
+    Fetched {
+        kept: asked.kept,
+        wanting: second_wanting(file),
+    }
+}
+
+// The second file, unless the first is wanting.
+fn fetch_next(
+    line: &[u8],
+    separator: u8,
+    wanting: Wanting,
+    kept: Kept,
+    rows: &mut [usize; 256],
+    store: &mut [u8; 4210688],
+) -> Fetched
+    requires { ⌜ (Tidy (now rows) kept × Roomy 1 kept) × WhereHad (isFound (argument 1 (wordsOf separator (now line))) kept (now rows) (now store) ≡ true) wanting ⌝ }
+    ensures { λ r. ⌜ ((n : ℕ) → FetchesAll n (wordsOf separator (now (line .entry))) r (now (rows .exit)) (now (store .exit))) ⌝ }
+{
     match wanting {
-        Wanting::Nothing => fetch(line, separator, 2, kept, rows, store),
+        Wanting::Nothing => fetch_second(line, separator, kept, rows, store),
         Wanting::Input => Fetched {
             kept,
             wanting: Wanting::Input,
         },
-        Wanting::File(unread) => Fetched {
+        Wanting::First(error) => Fetched {
             kept,
-            wanting: Wanting::File(unread),
+            wanting: Wanting::First(error),
+        },
+        Wanting::Second(error) => Fetched {
+            kept,
+            wanting: Wanting::Second(error),
         },
     }
 }
@@ -118,11 +136,14 @@ pub fn fetch_all(
             wanting: Wanting::Nothing,
         };
     }
-    let first = fetch(line, separator, 1, kept, rows, store);
+    let asked = fetch(line, separator, 1, kept, rows, store);
+    let kept = asked.kept;
+    let file = asked.file;
+    let wanting = first_wanting(file);
     if n == 1 {
-        return first;
+        return Fetched { kept, wanting };
     }
-    fetch_second(line, separator, first, rows, store)
+    fetch_next(line, separator, wanting, kept, rows, store)
 }
 
 // The place in the store of the file of the k-th word, or of no bytes.

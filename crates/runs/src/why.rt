@@ -1,0 +1,109 @@
+// Why something was refused, in words on standard error.
+use failures::ROOM;
+use kept::Kept;
+use link::Which;
+use reading::Refusal;
+use tasks::Task;
+use verbs::Question;
+use verbs::Verb;
+ghost use Prim.Native.Nat.{_≤_};
+ghost use lib.ListN.{length};
+ghost use Rattle.failures.specs.Room.{wordLimit};
+ghost use Rattle.kept.specs.Table.{Tidy};
+
+// The k-th file of the line.
+fn say_file(
+    line: &[u8],
+    separator: u8,
+    k: usize,
+    why: Refusal,
+    kept: Kept,
+    rows: &[usize; 256],
+    store: &[u8; 4210688],
+    text: &mut [u8; ROOM],
+)
+    requires { ⌜ (k ≤ 2) × ((length (now line) ≤ wordLimit) × Tidy (now rows) kept) ⌝ }
+{
+    let name = tasks::argument(line, separator, k);
+    let file = held::file_at(line, separator, k, kept, rows, store);
+    let a = name.from;
+    let b = name.end;
+    let c = file.from;
+    let d = file.end;
+    let all: &[u8] = store;
+    remarks::refused(&line[a..b], &all[c..d], why, text);
+}
+
+// The union of its two files, whose names are parts of one line.
+fn say_union(
+    line: &[u8],
+    separator: u8,
+    why: Refusal,
+    kept: Kept,
+    rows: &[usize; 256],
+    store: &[u8; 4210688],
+    text: &mut [u8; ROOM],
+)
+    requires { ⌜ (length (now line) ≤ wordLimit) × Tidy (now rows) kept ⌝ }
+{
+    let first = tasks::argument(line, separator, 1);
+    let second = tasks::argument(line, separator, 2);
+    let file = held::file_at(line, separator, 1, kept, rows, store);
+    let a = first.from;
+    let b = first.end;
+    let c = second.from;
+    let d = second.end;
+    let e = file.from;
+    let f = file.end;
+    if (b - a) + (d - c) <= line.len() {
+        let all: &[u8] = store;
+        remarks::united(&line[a..b], &line[c..d], &all[e..f], why, text);
+    }
+}
+
+// A question; the word after the next is a name where the question has one.
+fn say_question(line: &[u8], separator: u8, question: Question, text: &mut [u8; ROOM])
+    requires { ⌜ length (now line) ≤ wordLimit ⌝ }
+{
+    let name = words::word(line, separator, 1);
+    let word = words::word(line, separator, 3);
+    let a = name.from;
+    let b = name.end;
+    let c = word.from;
+    let d = word.end;
+    remarks::asked(&line[a..b], question, &line[c..d], text);
+}
+
+// Its words: only a question is malformed.
+fn say_words(line: &[u8], separator: u8, text: &mut [u8; ROOM])
+    requires { ⌜ length (now line) ≤ wordLimit ⌝ }
+{
+    if let Task::Run(verb) = tasks::task_of(line, separator) {
+        if let Verb::Ask(question) = verb {
+            say_question(line, separator, question, text);
+        }
+    }
+}
+
+// The line, or of its files the one that is meant.
+pub fn say(
+    line: &[u8],
+    separator: u8,
+    whose: Which,
+    why: Refusal,
+    kept: Kept,
+    rows: &[usize; 256],
+    store: &[u8; 4210688],
+    text: &mut [u8; ROOM],
+)
+    requires { ⌜ (length (now line) ≤ wordLimit) × Tidy (now rows) kept ⌝ }
+{
+    if why.no == 20 {
+        return say_words(line, separator, text);
+    }
+    match whose {
+        Which::First => say_file(line, separator, 1, why, kept, rows, store, text),
+        Which::Second => say_file(line, separator, 2, why, kept, rows, store, text),
+        Which::Union => say_union(line, separator, why, kept, rows, store, text),
+    }
+}
