@@ -1,0 +1,4 @@
+pub mod Room
+pub mod Shown
+pub mod Reasons
+pub mod Lines
