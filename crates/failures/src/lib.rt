@@ -85,7 +85,11 @@ fn put_question(question: Question, text: &mut [u8; ROOM], at: usize) -> usize
         Question::Check => text::put_bytes(text, at, b"check FILE"),
         Question::Iid => text::put_bytes(text, at, b"iid FILE HEX"),
         Question::Key => text::put_bytes(text, at, b"key FILE NAMESPACE NAME"),
-        Question::Method => text::put_bytes(text, at, b"method FILE INDEX NAME getter|setter|plain"),
+        Question::Method => text::put_bytes(
+            text,
+            at,
+            b"method FILE INDEX NAME getter|setter|plain",
+        ),
         Question::Slot => text::put_bytes(text, at, b"slot FILE INDEX SLOT"),
         Question::Constant => text::put_bytes(text, at, b"const FILE INDEX NAME"),
     }
@@ -161,7 +165,7 @@ pub fn put_shown(out: &mut [u8], at: usize, word: &[u8]) -> usize
 // A label and a name, at the front.
 pub fn put_named(label: &[u8], name: &[u8], text: &mut [u8; ROOM]) -> usize
     requires { ⌜ (length (now label) ≤ 64) × (length (now name) ≤ wordLimit) ⌝ }
-    ensures { λ r. ⌜ Wrote (now (text .entry)) 0 (now (label .entry) ++ shownWord (now (name .entry))) r (now (text .exit)) × (r ≤ 65600) ⌝ }
+    ensures { λ r. ⌜ Wrote (now (text .entry)) 0 (now (label .entry) ++ shownWord (now (name .entry))) r (now (text .exit)) × (r ≡ length (now (label .entry)) + length (now (name .entry))) ⌝ }
 {
     let at = text::put_bytes(text, 0, label);
     put_shown(text, at, name)
@@ -282,7 +286,10 @@ pub fn aside(name: &[u8], line: &[u8], text: &mut [u8; ROOM]) -> usize
 pub fn hint(text: &mut [u8; ROOM]) -> usize
     ensures { λ r. ⌜ Made hintText (now (text .entry)) r (now (text .exit)) ⌝ }
 {
-    say(b"xpt: `xpt help` shows the commands and their words\n", text)
+    say(
+        b"xpt: `xpt help` shows the commands and their words\n",
+        text,
+    )
 }
 
 pub fn output_gone(text: &mut [u8; ROOM]) -> usize
