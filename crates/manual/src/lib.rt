@@ -53,11 +53,7 @@ fn put_purpose(verb: Verb, text: &mut [u8; ROOM], at: usize) -> usize
 {
     match verb {
         Verb::Ask(question) => put_answer(question, text, at),
-        Verb::List => text::put_bytes(
-            text,
-            at,
-            b"every interface with its methods and constants",
-        ),
+        Verb::List => text::put_bytes(text, at, b"every interface with its methods and constants"),
         Verb::Normal => text::put_bytes(text, at, b"writes the normal form of FILE to OUT"),
         Verb::Link => text::put_bytes(text, at, b"writes the union of A and B to OUT"),
         Verb::Unknown => at,
