@@ -1,141 +1,107 @@
-// The reason of a refusal in plain words, as one line on standard error: the file, the number, the place and the rule.
+// The reason of a refusal in plain words: one line for standard error, made whole at the front of a lent buffer.
+mod sentence;
+
+use failures::ROOM;
 use reading::Refusal;
+ghost use mathlib.Core.Path.{_≡_};
+ghost use mathlib.Core.List.{_++_};
+ghost use Prim.Native.Nat.{_+_, _≤_};
+ghost use lib.ListN.{length};
+ghost use Rattle.printed.specs.Writing.{Wrote};
+ghost use Rattle.failures.specs.Room.{room, wordLimit, Made};
+ghost use Rattle.ascii.specs.Ascii.{ascii};
+ghost use Rattle.decimal.specs.Digits.{digitsOf};
+ghost use Rattle.reasons.specs.Refusals.{keyLimit, placeText, keyText, whereText, whyText, refusedText, askedText, unitedText};
 
-// 1 to 8: the header.
-fn say_header(no: u8) -> bool {
+// An index in the first of two files, from `at` on.
+fn put_index(place: u64, text: &mut [u8; ROOM], at: usize) -> usize
+    requires { ⌜ at + 64 ≤ room ⌝ }
+    ensures { λ r. ⌜ Wrote (now (text .entry)) at ((ascii " at interface " ++ digitsOf place) ++ ascii " of the first file") r (now (text .exit)) × (r ≤ at + 64) ⌝ }
+{
+    let end = text::put_labelled(text, at, b" at interface ", place);
+    text::put_bytes(text, end, b" of the first file")
+}
+
+// What the place counts, from `at` on.
+fn put_place(no: u8, place: u64, text: &mut [u8; ROOM], at: usize) -> usize
+    requires { ⌜ at + 64 ≤ room ⌝ }
+    ensures { λ r. ⌜ Wrote (now (text .entry)) at (placeText no place) r (now (text .exit)) × (r ≤ at + 64) ⌝ }
+{
     match no {
-        1 => io::write_all(2, b": the file has fewer bytes than the 32 of a header\n"),
-        2 => io::write_all(2, b": the file has more than 1,048,576 bytes\n"),
-        3 => io::write_all(
-            2,
-            b": the file does not begin with the magic of a typelib\n",
-        ),
-        4 => io::write_all(2, b": the major version is not 1\n"),
-        5 => io::write_all(2, b": the minor version is not 0 or 1\n"),
-        6 => io::write_all(
-            2,
-            b": the length in the header is not the number of bytes in the file\n",
-        ),
-        7 => io::write_all(2, b": there are more than 1,024 interfaces\n"),
-        _ => io::write_all(
-            2,
-            b": the offset of the pool or the directory does not fit the file\n",
-        ),
+        20 => at,
+        27 => text::put_labelled(text, at, b" at the needed length ", place),
+        0..=19 => text::put_labelled(text, at, b" at byte ", place),
+        21..=24 => put_index(place, text, at),
+        _ => at,
     }
 }
 
-// 9 to 14: annotations, the directory, pointers and reserved bits.
-fn say_directory(no: u8) -> bool {
-    match no {
-        9 => io::write_all(
-            2,
-            b": an annotation has an unknown tag or a bad text, or none is marked last\n",
-        ),
-        10 => io::write_all(
-            2,
-            b": the IIDs fall, or one that is not zero stands twice\n",
-        ),
-        11 => io::write_all(
-            2,
-            b": a name is absent, or is not 1 to 255 letters, digits or _ with a zero byte after them\n",
-        ),
-        12 => io::write_all(2, b": an interface has a descriptor but no IID\n"),
-        13 => io::write_all(
-            2,
-            b": a pointer leads out of the pool, or a field does not fit in it\n",
-        ),
-        _ => io::write_all(2, b": a reserved bit is set, or a type's tag is reserved\n"),
+// The key of an interface, from `at` on.
+fn put_key(before: &[u8], key: &[u8], text: &mut [u8; ROOM], at: usize) -> usize
+    requires { ⌜ (length (now before) ≤ 8) × ((length (now key) ≤ keyLimit) × (at + 520 ≤ room)) ⌝ }
+    ensures { λ r. ⌜ Wrote (now (text .entry)) at (keyText (now (before .entry)) (now (key .entry))) r (now (text .exit)) × (r ≤ at + 520) ⌝ }
+{
+    if key.len() == 0 {
+        return at;
     }
+    let end = text::put_bytes(text, at, before);
+    failures::put_shown(text, end, key)
 }
 
-// 15 to 20: descriptors, rules across entries, questions.
-fn say_rule(no: u8) -> bool {
-    match no {
-        15 => io::write_all(2, b": an index names no interface of the directory\n"),
-        16 => io::write_all(
-            2,
-            b": a rule between fields is broken, or a constant's type is unknown\n",
-        ),
-        17 => io::write_all(
-            2,
-            b": there are more than 1,024 methods or constants, or more than eight arrays one inside another\n",
-        ),
-        18 => io::write_all(2, b": two interfaces have one namespace and name\n"),
-        19 => io::write_all(2, b": the parents of this interface run in a circle\n"),
-        _ => io::write_all(
-            2,
-            b": the question is malformed: an IID has 32 digits and is not zero, a name is an identifier, an index runs from 1 to the number of interfaces\n",
-        ),
-    }
-}
-
-// 21 to 27: links and outputs.
-fn say_link(no: u8) -> bool {
-    match no {
-        21 => io::write_all(2, b": one namespace and name has two different IIDs\n"),
-        22 => io::write_all(2, b": one IID has two different namespaces or names\n"),
-        23 => io::write_all(2, b": one interface has two different descriptors\n"),
-        24 => io::write_all(
-            2,
-            b": in the union the parents of this interface run in a circle\n",
-        ),
-        25 => io::write_all(2, b": the union has more than 1,024 interfaces\n"),
-        26 => io::write_all(
-            2,
-            b": the normal form would have more than 1,048,576 bytes\n",
-        ),
-        _ => io::write_all(
-            2,
-            b": the output has room for fewer bytes than are needed\n",
-        ),
-    }
-}
-
-fn say_what(no: u8) -> bool {
-    match no {
-        0..=8 => say_header(no),
-        9..=14 => say_directory(no),
-        15..=20 => say_rule(no),
-        _ => say_link(no),
-    }
-}
-
-// What the place counts: bytes, entries of the first file, or needed bytes; 20, 25 and 26 have none.
-fn say_place(no: u8, place: usize) -> bool {
-    match no {
-        0..=19 => io::write_all(2, b" at byte "),
-        21..=24 => io::write_all(2, b" at interface "),
-        27 => io::write_all(2, b" at the needed length "),
-        _ => {
-            return true;
-        }
-    }
-    ;
-    io::print_decimal(2, place as u64)
-}
-
-// The refusal of one file, or of a question about it.
-pub fn say(name: &[u8], why: Refusal) {
+// Number, place and key, from `at` on.
+fn put_where(why: Refusal, before: &[u8], key: &[u8], text: &mut [u8; ROOM], at: usize) -> usize
+    requires { ⌜ (length (now before) ≤ 8) × ((length (now key) ≤ keyLimit) × (at ≤ 65600)) ⌝ }
+    ensures { λ r. ⌜ Wrote (now (text .entry)) at (whereText why (now (before .entry)) (now (key .entry))) r (now (text .exit)) × (r ≤ at + 600) ⌝ }
+{
     let no = why.no;
-    let place = why.place;
-    io::write_all(2, b"xpt: ");
-    io::write_all(2, name);
-    io::write_all(2, b": refused ");
-    io::print_decimal(2, no as u64);
-    say_place(no, place);
-    say_what(no);
+    let place = why.place as u64;
+    let placed = text::put_labelled(text, at, b": refused ", no as u64);
+    let keyed = put_place(no, place, text, placed);
+    put_key(before, key, text, keyed)
 }
 
-// The refusal of the union of two files; the place counts interfaces of the first.
-pub fn say_of_union(first: &[u8], second: &[u8], why: Refusal) {
-    let no = why.no;
-    let place = why.place;
-    io::write_all(2, b"xpt: ");
-    io::write_all(2, first);
-    io::write_all(2, b" with ");
-    io::write_all(2, second);
-    io::write_all(2, b": refused ");
-    io::print_decimal(2, no as u64);
-    say_place(no, place);
-    say_what(no);
+// Those and the rule, from `at` on to the line's end.
+fn put_why(
+    why: Refusal,
+    rule: u8,
+    before: &[u8],
+    key: &[u8],
+    text: &mut [u8; ROOM],
+    at: usize,
+) -> usize
+    requires { ⌜ (length (now before) ≤ 8) × ((length (now key) ≤ keyLimit) × (at ≤ 65600)) ⌝ }
+    ensures { λ r. ⌜ Wrote (now (text .entry)) at (whyText why rule (now (before .entry)) (now (key .entry))) r (now (text .exit)) × (r ≤ room) ⌝ }
+{
+    let colon = put_where(why, before, key, text, at);
+    let rest = text::put_bytes(text, colon, b": ");
+    let end = sentence::put_sentence(why.no, rule, text, rest);
+    text::put_bytes(text, end, b"\n")
+}
+
+// The refusal of one file: its rule for 8 and 16 (0 for none), and the key of the interface it is of (none where it is empty).
+pub fn refused(name: &[u8], why: Refusal, rule: u8, key: &[u8], text: &mut [u8; ROOM]) -> usize
+    requires { ⌜ (length (now name) ≤ wordLimit) × (length (now key) ≤ keyLimit) ⌝ }
+    ensures { λ r. ⌜ Made (refusedText (now (name .entry)) why rule (now (key .entry))) (now (text .entry)) r (now (text .exit)) ⌝ }
+{
+    let at = failures::put_named(b"xpt: ", name, text);
+    put_why(why, rule, b", in ", key, text, at)
+}
+
+// The refusal of a question, 20: by the word that is at fault, 0 for none.
+pub fn asked(name: &[u8], word: u8, text: &mut [u8; ROOM]) -> usize
+    requires { ⌜ length (now name) ≤ wordLimit ⌝ }
+    ensures { λ r. ⌜ Made (askedText (now (name .entry)) word) (now (text .entry)) r (now (text .exit)) ⌝ }
+{
+    refused(name, Refusal { no: 20, place: 0 }, word, b"", text)
+}
+
+// The refusal of the union of two files, and the key of the interface of the first that it is of.
+pub fn united(first: &[u8], second: &[u8], why: Refusal, key: &[u8], text: &mut [u8; ROOM]) -> usize
+    requires { ⌜ (length (now first) + length (now second) ≤ wordLimit) × (length (now key) ≤ keyLimit) ⌝ }
+    ensures { λ r. ⌜ Made (unitedText (now (first .entry)) (now (second .entry)) why (now (key .entry))) (now (text .entry)) r (now (text .exit)) ⌝ }
+{
+    let with = failures::put_named(b"xpt: ", first, text);
+    let other = text::put_bytes(text, with, b" with ");
+    let at = failures::put_shown(text, other, second);
+    put_why(why, 0, b", ", key, text, at)
 }

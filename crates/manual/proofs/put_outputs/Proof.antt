@@ -1,0 +1,30 @@
+-- `manual::put_outputs` meets its contract.
+-- Assumes nothing.
+use mathlib.Core.List.{_++_}
+use Rattle.number.proofs.Tools.{arith, needs}
+use Rattle.printed.proofs.WritingLaws.{wrote, wrote-then}
+use Rattle.verbs.specs.declared.Verb.the-variants as verb
+use Rattle.manual.specs.Manual.{entryText, batchText, optionText, outputText}
+use Rattle.manual.proofs.put_outputs.Statement.{statement}
+use Rattle.manual.proofs.put_outputs.Tie as tie
+
+returns : tie.Need-returns
+unfolding outputText
+returns c =
+    let a = c .before .before .before .before .before .before .before .before .before .before .args in
+    let t = a .text .now in
+    let step1 = wrote-then t (entryText verb.Normal) (entryText verb.Link) (a .at) (c .before .before .before .before .before .before .before .before .put-entry .ensures .0) (c .before .before .before .before .before .before .put-entry2 .ensures .0) in
+    let step2 = wrote-then t (entryText verb.Normal ++ entryText verb.Link) batchText (a .at) step1 (wrote _ batchText _ (c .before .before .before .put-bytes .ensures)) in
+    (wrote-then t ((entryText verb.Normal ++ entryText verb.Link) ++ batchText) optionText (a .at) step2 (wrote _ optionText _ (c .put-bytes2 .ensures)), omega arith)
+
+pub put-outputs-spec : {M : Type 1} → statement M
+put-outputs-spec =
+    tie.close
+    (tie.spec
+    (λ c κs. omega arith)
+    (λ c κs. omega arith)
+    (λ c. search needs)
+    (λ c κs. omega arith)
+    (λ c. search needs)
+    (λ c κs. omega arith)
+    returns)

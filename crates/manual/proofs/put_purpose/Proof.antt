@@ -1,0 +1,50 @@
+-- `manual::put_purpose` meets its contract.
+-- Assumes nothing.
+use Rattle.number.proofs.Tools.{arith, needs}
+use Rattle.printed.proofs.WritingLaws.{wrote}
+use Rattle.failures.proofs.MadeLaws.{none-written}
+use Rattle.manual.specs.Manual.{purposeText}
+use Rattle.manual.proofs.put_purpose.Statement.{statement}
+use Rattle.manual.proofs.put_purpose.Tie as tie
+
+returns : tie.Need-returns
+unfolding purposeText
+returns c = rw (c .before .before .before .verb .given .1) (c .put-answer .ensures)
+
+returns-2 : tie.Need-returns-2
+unfolding purposeText
+returns-2 c = (rw (c .before .before .before .enum-told .given .1) (wrote _ _ _ (c .put-bytes .ensures)), omega arith)
+
+returns-3 : tie.Need-returns-3
+unfolding purposeText
+returns-3 c = (rw (c .before .before .before .enum-told2 .given .1) (wrote _ _ _ (c .put-bytes2 .ensures)), omega arith)
+
+returns-4 : tie.Need-returns-4
+unfolding purposeText
+returns-4 c = (rw (c .before .before .before .enum-told3 .given .1) (wrote _ _ _ (c .put-bytes3 .ensures)), omega arith)
+
+returns-5 : tie.Need-returns-5
+unfolding purposeText
+returns-5 c = (rw (c .enum-told4 .given .1) (none-written _ _), omega arith)
+
+pub put-purpose-spec : {M : Type 1} → statement M
+put-purpose-spec =
+    tie.close
+    (tie.spec
+    (λ c. search needs)
+    (λ c κs. search needs)
+    (λ c. search needs)
+    (λ c. search needs)
+    (λ c κs. omega arith)
+    (λ c. search needs)
+    (λ c. search needs)
+    (λ c κs. omega arith)
+    (λ c. search needs)
+    (λ c. search needs)
+    (λ c κs. omega arith)
+    (λ c. search needs)
+    returns
+    returns-2
+    returns-3
+    returns-4
+    returns-5)

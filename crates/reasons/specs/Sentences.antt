@@ -1,0 +1,88 @@
+-- The rule that a refusal is of, in plain words, by the refusal's number; for 8, 16 and 20 by a second number, which is 0 where it is not known.
+-- Assumes nothing.
+use mathlib.Core.List.{List}
+use Prim.Native.Nat.{ℕ}
+use Rattle.number.specs.Choice.{if_then_else_, _<?_, _=?_}
+use Rattle.ascii.specs.Ascii.{ascii}
+
+-- of 8, by the rule: where the directory and the pool may stand
+unfoldable pub positionText : ℕ → List ℕ
+positionText rule =
+    if rule =? 1 then ascii "the directory's offset is not a multiple of 4" else
+    if rule =? 2 then ascii "the directory does not fit between the first annotation and the pool" else
+    if rule =? 3 then ascii "the pool's offset is below 33 or past the file's end" else
+    if rule =? 4 then ascii "there are no interfaces, but the directory's offset is not 0" else
+    ascii "the offset of the pool or the directory does not fit the file"
+
+-- of 16, by the rule: its number among the rules between fields, or 8 for a constant's type
+unfoldable pub betweenText : ℕ → List ℕ
+betweenText rule =
+    if rule =? 1 then ascii "a type has unique or reference, or a tag from 16 to 22, without the pointer bit" else
+    if rule =? 2 then ascii "an argument has retval without out" else
+    if rule =? 3 then ascii "a result has in or out" else
+    if rule =? 4 then ascii "an argument number does not name an argument of its kind: a pointer to nsIID for interface-is, a uint32 for a size or a length" else
+    if rule =? 5 then ascii "a result without retval is not void or uint32, or has the pointer bit, and the method is not marked not-XPCOM" else
+    if rule =? 6 then ascii "an interface has more than one constructor" else
+    if rule =? 7 then ascii "a setter does not follow right after the getter of its name" else
+    if rule =? 8 then ascii "the type of a constant is not 1, 2, 5 or 6" else
+    ascii "a rule between fields is broken, or a constant's type is unknown"
+
+-- of 20, by the word that is at fault: 1 the IID, 2 the namespace, 3 the name, 4 the index
+unfoldable pub wordText : ℕ → List ℕ
+wordText rule =
+    if rule =? 1 then ascii "an IID has 32 hexadecimal digits and is not zero" else
+    if rule =? 2 then ascii "the namespace is no identifier (1 to 255 letters, digits or _)" else
+    if rule =? 3 then ascii "the name is no identifier (1 to 255 letters, digits or _)" else
+    if rule =? 4 then ascii "an index runs from 1 to the number of interfaces" else
+    ascii "the question is malformed: an IID has 32 digits and is not zero, a name is an identifier, an index runs from 1 to the number of interfaces"
+
+-- 1 to 8: the header
+unfoldable pub headerText : ℕ → ℕ → List ℕ
+headerText n rule =
+    if n =? 1 then ascii "the file has fewer bytes than the 32 of a header" else
+    if n =? 2 then ascii "the file has more than 1,048,576 bytes" else
+    if n =? 3 then ascii "the file does not begin with the magic of a typelib" else
+    if n =? 4 then ascii "the major version is not 1" else
+    if n =? 5 then ascii "the minor version is not 0 or 1" else
+    if n =? 6 then ascii "the length in the header is not the number of bytes in the file" else
+    if n =? 7 then ascii "there are more than 1,024 interfaces" else
+    positionText rule
+
+-- 9 to 14: annotations, the directory, pointers and reserved bits
+unfoldable pub directoryText : ℕ → List ℕ
+directoryText n =
+    if n =? 9 then ascii "an annotation has an unknown tag or a bad text, or none is marked last" else
+    if n =? 10 then ascii "the IIDs fall, or one that is not zero stands twice" else
+    if n =? 11 then ascii "a name is absent, or is not 1 to 255 letters, digits or _ with a zero byte after them" else
+    if n =? 12 then ascii "an interface has a descriptor but no IID" else
+    if n =? 13 then ascii "a pointer leads out of the pool, or a field does not fit in it" else
+    ascii "a reserved bit is set, or a type's tag is reserved"
+
+-- 15 to 20: descriptors, rules across entries, questions
+unfoldable pub ownText : ℕ → ℕ → List ℕ
+ownText n rule =
+    if n =? 15 then ascii "an index names no interface of the directory" else
+    if n =? 16 then betweenText rule else
+    if n =? 17 then ascii "there are more than 1,024 methods or constants, or more than eight arrays one inside another" else
+    if n =? 18 then ascii "two interfaces have one namespace and name" else
+    if n =? 19 then ascii "the parents of this interface run in a circle" else
+    wordText rule
+
+-- 21 to 27: links and outputs
+unfoldable pub linkText : ℕ → List ℕ
+linkText n =
+    if n =? 21 then ascii "one namespace and name has two different IIDs" else
+    if n =? 22 then ascii "one IID has two different namespaces or names" else
+    if n =? 23 then ascii "one interface has two different descriptors" else
+    if n =? 24 then ascii "in the union the parents of this interface run in a circle" else
+    if n =? 25 then ascii "the union has more than 1,024 interfaces" else
+    if n =? 26 then ascii "the normal form would have more than 1,048,576 bytes" else
+    ascii "the output has room for fewer bytes than are needed"
+
+-- all of them
+unfoldable pub sentenceText : ℕ → ℕ → List ℕ
+sentenceText n rule =
+    if n <? 9 then headerText n rule else
+    if n <? 15 then directoryText n else
+    if n <? 21 then ownText n rule else
+    linkText n
