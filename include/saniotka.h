@@ -23,7 +23,7 @@
  * Threads. The functions keep no state, allocate nothing and call nothing of the system: any number of threads may call
  * them at once, as long as nobody changes what is lent for a call while it runs.
  *
- * Stack. A call needs at most SANIOTKA_STACK bytes of it, which a small thread may not have.
+ * Stack. A call needs fewer than SANIOTKA_STACK bytes of it.
  */
 #ifndef SANIOTKA_H
 #define SANIOTKA_H
@@ -42,7 +42,7 @@ extern "C" {
 #define SANIOTKA_BUFFER 1048576
 
 /* Bytes of stack that are enough for any call. */
-#define SANIOTKA_STACK 262144
+#define SANIOTKA_STACK 131072
 
 /* What a call returns. */
 enum {

@@ -138,14 +138,14 @@ static void kinds(void) {
 }
 
 static void forms(void) {
-    EXPECT(saniotka_normal(FILE_OF(gas), out, sizeof out, list(), NUMBERS), "0: [0] 0 [1] 475");
-    HOLD(untouched_from(475) && !untouched_from(474));
-    memcpy(again, out, 475);
-    EXPECT(saniotka_normal(again, 475, out, 475, list(), NUMBERS), "0: [0] 0 [1] 475");
-    HOLD(untouched_from(475) && memcmp(out, again, 475) == 0);
-    EXPECT(saniotka_normal(FILE_OF(gas), out, 474, list(), NUMBERS), "0: [0] 3 [1] 27 [2] 475");
+    EXPECT(saniotka_normal(FILE_OF(gas), out, sizeof out, list(), NUMBERS), "0: [0] 0 [1] 379");
+    HOLD(untouched_from(379) && !untouched_from(378));
+    memcpy(again, out, 379);
+    EXPECT(saniotka_normal(again, 379, out, 379, list(), NUMBERS), "0: [0] 0 [1] 379");
+    HOLD(untouched_from(379) && memcmp(out, again, 379) == 0);
+    EXPECT(saniotka_normal(FILE_OF(gas), out, 378, list(), NUMBERS), "0: [0] 3 [1] 27 [2] 379");
     HOLD(untouched_from(0));
-    EXPECT(saniotka_normal(FILE_OF(gas), NULL, 0, list(), NUMBERS), "0: [0] 3 [1] 27 [2] 475");
+    EXPECT(saniotka_normal(FILE_OF(gas), NULL, 0, list(), NUMBERS), "0: [0] 3 [1] 27 [2] 379");
     EXPECT(saniotka_normal(FILE_OF(gas_torn), out, sizeof out, list(), NUMBERS), "0: [0] 3 [1] 6 [2] 20");
     HOLD(untouched_from(0));
 }
@@ -159,8 +159,8 @@ static void links(void) {
     EXPECT(saniotka_link(FILE_OF(gas), FILE_OF(gas_torn), out, sizeof out, list(), NUMBERS),
            "0: [0] 3 [1] 2 [2] 6 [3] 20");
     EXPECT(saniotka_link(FILE_OF(alarms), FILE_OF(gas), NULL, 0, list(), NUMBERS), "0: [0] 3 [1] 0 [2] 27 [3] 786");
-    EXPECT(saniotka_link(FILE_OF(gas), FILE_OF(gas), out, sizeof out, list(), NUMBERS), "0: [0] 0 [1] 475");
-    HOLD(untouched_from(475) && memcmp(out, again, 475) == 0);
+    EXPECT(saniotka_link(FILE_OF(gas), FILE_OF(gas), out, sizeof out, list(), NUMBERS), "0: [0] 0 [1] 379");
+    HOLD(untouched_from(379) && memcmp(out, again, 379) == 0);
     EXPECT(saniotka_link(FILE_OF(gas), FILE_OF(alarms), out, sizeof out, list(), NUMBERS), "0: [0] 0 [1] 786");
     memcpy(again, out, 786);
     EXPECT(saniotka_link(FILE_OF(alarms), FILE_OF(gas), out, sizeof out, list(), NUMBERS), "0: [0] 0 [1] 786");

@@ -35,17 +35,13 @@ pub fn check(file: &[u8], answer: &mut [u64]) -> i32 {
 
 pub fn iid(file: &[u8], iid: &[u8], answer: &mut [u64]) -> i32 {
     let (f, a) = (file, answer);
-    unsafe {
-        saniotka_iid(f.as_ptr(), f.len(), iid.as_ptr(), iid.len(), a.as_mut_ptr(), a.len())
-    }
+    unsafe { saniotka_iid(f.as_ptr(), f.len(), iid.as_ptr(), iid.len(), a.as_mut_ptr(), a.len()) }
 }
 
 pub fn key(file: &[u8], space: &[u8], name: &[u8], answer: &mut [u64]) -> i32 {
     let (f, a, s, s_length) = (file, answer, space.as_ptr(), space.len());
     let (n, n_length) = (name.as_ptr(), name.len());
-    unsafe {
-        saniotka_key(f.as_ptr(), f.len(), s, s_length, n, n_length, a.as_mut_ptr(), a.len())
-    }
+    unsafe { saniotka_key(f.as_ptr(), f.len(), s, s_length, n, n_length, a.as_mut_ptr(), a.len()) }
 }
 
 /// Any kind but 0, 1 and 2 is a malformed question.
@@ -63,9 +59,7 @@ pub fn slot(file: &[u8], index: u64, slot: u64, answer: &mut [u64]) -> i32 {
 
 pub fn constant(file: &[u8], index: u64, name: &[u8], answer: &mut [u64]) -> i32 {
     let (f, a, n, n_length) = (file, answer, name.as_ptr(), name.len());
-    unsafe {
-        saniotka_constant(f.as_ptr(), f.len(), index, n, n_length, a.as_mut_ptr(), a.len())
-    }
+    unsafe { saniotka_constant(f.as_ptr(), f.len(), index, n, n_length, a.as_mut_ptr(), a.len()) }
 }
 
 pub fn normal(file: &[u8], out: &mut [u8], answer: &mut [u64]) -> i32 {
@@ -74,18 +68,8 @@ pub fn normal(file: &[u8], out: &mut [u8], answer: &mut [u64]) -> i32 {
 }
 
 pub fn link(first: &[u8], second: &[u8], out: &mut [u8], answer: &mut [u64]) -> i32 {
-    let (f, g, a) = (first, second, answer);
-    let (o, o_length) = (out.as_mut_ptr(), out.len());
-    unsafe {
-        saniotka_link(
-            f.as_ptr(),
-            f.len(),
-            g.as_ptr(),
-            g.len(),
-            o,
-            o_length,
-            a.as_mut_ptr(),
-            a.len(),
-        )
-    }
+    let (f, f_length, g, g_length) = (first.as_ptr(), first.len(), second.as_ptr(), second.len());
+    let (o, o_length, a, a_length) =
+        (out.as_mut_ptr(), out.len(), answer.as_mut_ptr(), answer.len());
+    unsafe { saniotka_link(f, f_length, g, g_length, o, o_length, a, a_length) }
 }

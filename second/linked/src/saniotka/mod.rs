@@ -72,11 +72,14 @@ pub enum Which {
 
 /// Whether a file is a typelib: how many interfaces it has.
 pub fn check(file: &[u8]) -> Result<usize, Refusal> {
-    told(|list| lists::check(file, list), |numbers| match *numbers {
-        [0, n, KEPT, KEPT, KEPT] => Some(Ok(n as usize)),
-        [number, place, KEPT, KEPT, KEPT] => Some(Err(refusal(number, place)?)),
-        _ => None,
-    })
+    told(
+        |list| lists::check(file, list),
+        |numbers| match *numbers {
+            [0, n, KEPT, KEPT, KEPT] => Some(Ok(n as usize)),
+            [number, place, KEPT, KEPT, KEPT] => Some(Err(refusal(number, place)?)),
+            _ => None,
+        },
+    )
 }
 
 /// Interface by IID: 16 bytes, not all zero.
@@ -107,20 +110,26 @@ pub fn constant_by_name(file: &[u8], index: u64, name: &[u8]) -> Answer<Constant
 /// Writes the normal form of a file to the front of `out`: its length. Where it is refused `out` is as
 /// it was; 27 has the length that is needed as its place.
 pub fn normalise(file: &[u8], out: &mut [u8]) -> Result<usize, Refusal> {
-    told(|list| lists::normal(file, out, list), |numbers| match *numbers {
-        [0, length, KEPT, KEPT, KEPT] => Some(Ok(length as usize)),
-        [3, number, place, KEPT, KEPT] => Some(Err(refusal(number, place)?)),
-        _ => None,
-    })
+    told(
+        |list| lists::normal(file, out, list),
+        |numbers| match *numbers {
+            [0, length, KEPT, KEPT, KEPT] => Some(Ok(length as usize)),
+            [3, number, place, KEPT, KEPT] => Some(Err(refusal(number, place)?)),
+            _ => None,
+        },
+    )
 }
 
 /// Writes the normal form of the union of two files to the front of `out`, likewise.
 pub fn link(first: &[u8], second: &[u8], out: &mut [u8]) -> Result<usize, (Which, Refusal)> {
-    told(|list| lists::link(first, second, out, list), |numbers| match *numbers {
-        [0, length, KEPT, KEPT, KEPT] => Some(Ok(length as usize)),
-        [3, which, number, place, KEPT] => Some(Err((file(which)?, refusal(number, place)?))),
-        _ => None,
-    })
+    told(
+        |list| lists::link(first, second, out, list),
+        |numbers| match *numbers {
+            [0, length, KEPT, KEPT, KEPT] => Some(Ok(length as usize)),
+            [3, which, number, place, KEPT] => Some(Err((file(which)?, refusal(number, place)?))),
+            _ => None,
+        },
+    )
 }
 
 // From numbers to enums.
