@@ -113,6 +113,10 @@ static void members(void) {
     EXPECT(saniotka_method(FILE_OF(alarms), 3, TEXT("acknowledge"), SANIOTKA_PLAIN, list(), NUMBERS),
            "0: [0] 0 [1] 3 [2] 2 [3] 0 [4] 10");
     EXPECT(saniotka_method(FILE_OF(alarms), 3, TEXT("acknowledge"), SANIOTKA_GETTER, list(), NUMBERS), "0: [0] 1");
+    EXPECT(saniotka_method(FILE_OF(alarms), 3, TEXT("shift"), SANIOTKA_GETTER, list(), NUMBERS),
+           "0: [0] 0 [1] 2 [2] 2 [3] 0 [4] 5");
+    EXPECT(saniotka_method(FILE_OF(alarms), 3, TEXT("shift"), SANIOTKA_SETTER, list(), NUMBERS),
+           "0: [0] 0 [1] 2 [2] 3 [3] 0 [4] 6");
     EXPECT(saniotka_method(FILE_OF(gas), 4, TEXT("acknowledgeLowOxygen"), SANIOTKA_PLAIN, list(), NUMBERS),
            "0: [0] 0 [1] 4 [2] 0 [3] 1 [4] 2");
     EXPECT(saniotka_method(FILE_OF(gas), 4, TEXT("acknowledge"), SANIOTKA_PLAIN, list(), NUMBERS), "0: [0] 2 [1] 2");
@@ -189,6 +193,40 @@ static void short_lists(void) {
     EXPECT(saniotka_check(FILE_OF(alarms), NULL, 0), "1:");
 }
 
+/* The header's names for what comes back. */
+static void names(void) {
+    HOLD(saniotka_check(FILE_OF(gas), list(), SANIOTKA_ROOM - 1) == SANIOTKA_TOO_SHORT);
+    HOLD(saniotka_check(FILE_OF(gas), list(), SANIOTKA_ROOM) == SANIOTKA_ANSWERED);
+    saniotka_slot(FILE_OF(alarms), 3, 2, list(), NUMBERS);
+    HOLD(answer[0] == SANIOTKA_FOUND && answer[3] == SANIOTKA_SLOT_KNOWN);
+    saniotka_method(FILE_OF(gas), 4, TEXT("worstArea"), SANIOTKA_GETTER, list(), NUMBERS);
+    HOLD(answer[0] == SANIOTKA_FOUND && answer[3] == SANIOTKA_SLOT_UNDETERMINED);
+    saniotka_slot(FILE_OF(gas), 4, 0, list(), NUMBERS);
+    HOLD(answer[0] == SANIOTKA_UNDETERMINED);
+    saniotka_slot(FILE_OF(alarms), 3, 100, list(), NUMBERS);
+    HOLD(answer[0] == SANIOTKA_NONE);
+    saniotka_slot(FILE_OF(alarms), 0, 0, list(), NUMBERS);
+    HOLD(answer[0] == SANIOTKA_REFUSED && answer[1] == SANIOTKA_MALFORMED);
+    saniotka_constant(FILE_OF(alarms), 3, TEXT("NO_ALARM"), list(), NUMBERS);
+    HOLD(answer[1] == SANIOTKA_I16 && (int16_t)answer[2] == -1);
+    saniotka_constant(FILE_OF(alarms), 3, TEXT("PRIORITY_HIGH"), list(), NUMBERS);
+    HOLD(answer[1] == SANIOTKA_U16 && answer[2] == 900);
+    saniotka_constant(FILE_OF(gas), 3, TEXT("WARM_UP_SECONDS"), list(), NUMBERS);
+    HOLD(answer[1] == SANIOTKA_U32);
+    saniotka_constant(FILE_OF(gas), 4, TEXT("LOW_OXYGEN"), list(), NUMBERS);
+    HOLD(answer[1] == SANIOTKA_I32 && (int32_t)answer[2] == -200);
+    saniotka_normal(FILE_OF(gas), out, 0, list(), NUMBERS);
+    HOLD(answer[0] == SANIOTKA_REFUSED && answer[1] == SANIOTKA_SHORT_BUFFER);
+    saniotka_link(FILE_OF(gas), FILE_OF(gas_old), out, sizeof out, list(), NUMBERS);
+    HOLD(answer[0] == SANIOTKA_REFUSED && answer[1] == SANIOTKA_THE_LINK);
+    saniotka_link(FILE_OF(gas_torn), FILE_OF(gas), out, sizeof out, list(), NUMBERS);
+    HOLD(answer[1] == SANIOTKA_FIRST);
+    saniotka_link(FILE_OF(gas), FILE_OF(gas_torn), out, sizeof out, list(), NUMBERS);
+    HOLD(answer[1] == SANIOTKA_SECOND);
+    saniotka_link(FILE_OF(gas), FILE_OF(alarms), out, sizeof out, list(), NUMBERS);
+    HOLD(answer[0] == SANIOTKA_WRITTEN);
+}
+
 int main(int count, char **arguments) {
     const char *folder = count > 1 ? arguments[1] : "examples";
     alarms_length = load(folder, "alarms.xpt", alarms, sizeof alarms);
@@ -202,6 +240,7 @@ int main(int count, char **arguments) {
     forms();
     links();
     short_lists();
+    names();
     printf("%d comparisons, %d wrong\n", runs, failures);
     return failures == 0 ? 0 : 1;
 }
