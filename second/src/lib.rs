@@ -15,8 +15,10 @@
 //! - a fault with a known refusal: `making/faults.rs`, in its field's row; damage of another kind:
 //!   a function in `making/damage.rs` and a line in `damage::everything`;
 //! - a floor: a row of `floors.txt`; what counts for it is the row's name in `Tally::add`;
-//! - a call of the library: a field of `library::Program`, its `extern` in `linked/src/lib.rs`, a
-//!   kind of `Asked` in `library/cases.rs`, and a driver beside `library/questions.rs`;
+//! - a call of the library: a field of `library::Program`, its `extern` in
+//!   `linked/src/saniotka/lists.rs` and its enums beside that, a kind of `Asked` in
+//!   `library/cases.rs`, its numbers in `library/lists.rs`, and a driver beside
+//!   `library/questions.rs`;
 //! - a command of `xpt`: its answer in `line/answers.rs`, a method of `Script`, and a story.
 
 pub mod floors;

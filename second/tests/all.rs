@@ -2,7 +2,8 @@
 //! file; and that a planted difference is found, made smaller and kept.
 
 use second::library::cases::{read, replay, shown, Asked, Case};
-use second::library::{checks, links, questions, questions::Found, Program, Session, OWN};
+use second::library::{checks, links, lists, lists::ROOM, questions};
+use second::library::{questions::Found, Program, Session, OWN};
 use second::line::{compare::tells, listing, process, Folder};
 use second::making::{builder::*, generate::marked, generate::rich};
 use second::program::{check::check, listing::program, questions::Lookup, questions::Slot};
@@ -274,6 +275,28 @@ fn planted_differences() {
         ..OWN
     };
     planted("links", links::run, wrong);
+    // A kind that there is not is "none"; a list that is too short is told as answered.
+    let wrong = Program {
+        on_list: |asked, files, out, list| {
+            let returned = (OWN.on_list)(asked, files, out, list);
+            if matches!(asked, Asked::Kind(..)) && returned == 0 && list[1] == 20 {
+                list[0] = 1;
+            }
+            returned
+        },
+        ..OWN
+    };
+    let case = planted("lists", lists::run, wrong);
+    assert!(matches!(case.asked, Asked::List(asked, ROOM..) if matches!(*asked, Asked::Kind(..))));
+    let wrong = Program {
+        on_list: |asked, files, out, list| match list.len() {
+            4 => 0,
+            _ => (OWN.on_list)(asked, files, out, list),
+        },
+        ..OWN
+    };
+    let case = planted("lists", lists::run, wrong);
+    assert_eq!(case.asked.line(), "list 4 check");
     // `cat` prints its input in place of the listing.
     let cat = process::Program::named("cat");
     assert!(!listing::run(&cat, 2, 10, 1).unwrap());
@@ -292,6 +315,7 @@ fn what_is_told_and_counted() {
     }
     let short = |numbers| tally.short(&[(("refusal 9", ""), numbers)]).len();
     assert_eq!([[3, 3, 1, 1], [4, 3, 1, 1], [3, 4, 1, 1], [3, 3, 2, 1]].map(short), [0, 1, 1, 1]);
-    let parts = ["compare", "checks", "questions", "links", "listings", "batches", "alone"];
-    assert_eq!(parts.map(|part| floors::of(part).len()).iter().sum::<usize>(), 834);
+    let parts =
+        ["compare", "checks", "questions", "lists", "links", "listings", "batches", "alone"];
+    assert_eq!(parts.map(|part| floors::of(part).len()).iter().sum::<usize>(), 855);
 }

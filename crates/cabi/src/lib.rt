@@ -1,82 +1,97 @@
-// The check and the questions for callers in C and Rust: numbers and slices only.
+// The check and the questions for callers in C and Rust: numbers and slices only. include/saniotka.h describes each call.
+// A call returns 0, and its answer stands in the first places of `answer`; where that has too little room for any answer the call
+// returns 1 and writes nothing. The first number of an answer: 0 found, 1 none, 2 undetermined with the index, 3 refused with
+// number and place.
 ghost use mathlib.Core.Path.{_≡_};
 ghost use Rattle.reader.specs.Reader.{decode, checkOf};
 ghost use Rattle.lookup.specs.Question.{askIid, askKey, askSlot, askConstant};
-ghost use Rattle.numbers.specs.Answer.{answered};
-ghost use Rattle.numbers.specs.Numbers.{written, interfaceNumbers, methodNumbers, methodWritten, constantNumbers};
-use lookup::Kind;
+ghost use Rattle.numbers.specs.Call.{Called};
+ghost use Rattle.numbers.specs.Numbers.{verdictNumbers, interfaceNumbers, methodNumbers, constantNumbers};
+ghost use Rattle.cabi.specs.Kind.{askKind};
 
+mod kinds;
 mod links;
 
-// Into the first two places of `answer` the refusal's number and its place, or 0 and the number of interfaces
-// for an accepted file; nothing where there is less room.
-#[no_mangle]
-pub extern "C" fn saniotka_check(file: &[u8], answer: &mut [u64])
-    ensures { λ _. ⌜ now (answer .exit) ≡ answered (checkOf (now (file .entry))) (now (answer .entry)) ⌝ }
-{
-    numbers::put_verdict(reader::check(file), answer);
-}
+// What a call returns.
+pub const ANSWERED: i32 = 0;
 
-// The answers below stand in the first places of `answer`, which has room for five; nothing is written where there is less.
-// The first number: 0 found, 1 none, 2 undetermined with the index, 3 refused with number and place.
+pub const TOO_SHORT: i32 = 1;
+
+// The check: the refusal's number and its place, or 0 and the number of interfaces for an accepted file.
+#[no_mangle]
+pub extern "C" fn saniotka_check(file: &[u8], answer: &mut [u64]) -> i32
+    ensures { λ r. ⌜ Called (verdictNumbers (checkOf (now (file .entry)))) (now (answer .entry)) r (now (answer .exit)) ⌝ }
+{
+    if answer.len() < numbers::ROOM {
+        return TOO_SHORT;
+    }
+    numbers::put_verdict(reader::check(file), answer);
+    ANSWERED
+}
 
 // Interface by IID. Found: its index.
 #[no_mangle]
-pub extern "C" fn saniotka_iid(file: &[u8], iid: &[u8], answer: &mut [u64])
-    ensures { λ _. ⌜ now (answer .exit) ≡ written (interfaceNumbers (askIid (decode (now (file .entry))) (now (iid .entry)))) (now (answer .entry)) ⌝ }
+pub extern "C" fn saniotka_iid(file: &[u8], iid: &[u8], answer: &mut [u64]) -> i32
+    ensures { λ r. ⌜ Called (interfaceNumbers (askIid (decode (now (file .entry))) (now (iid .entry)))) (now (answer .entry)) r (now (answer .exit)) ⌝ }
 {
+    if answer.len() < numbers::ROOM {
+        return TOO_SHORT;
+    }
     numbers::put_interface(lookup::interface_by_iid(file, iid), answer);
+    ANSWERED
 }
 
 // Interface by key; an empty namespace asks for the default. Found: its index.
 #[no_mangle]
-pub extern "C" fn saniotka_key(file: &[u8], space: &[u8], name: &[u8], answer: &mut [u64])
-    ensures { λ _. ⌜ now (answer .exit) ≡ written (interfaceNumbers (askKey (decode (now (file .entry))) (now (space .entry)) (now (name .entry)))) (now (answer .entry)) ⌝ }
+pub extern "C" fn saniotka_key(file: &[u8], space: &[u8], name: &[u8], answer: &mut [u64]) -> i32
+    ensures { λ r. ⌜ Called (interfaceNumbers (askKey (decode (now (file .entry))) (now (space .entry)) (now (name .entry)))) (now (answer .entry)) r (now (answer .exit)) ⌝ }
 {
+    if answer.len() < numbers::ROOM {
+        return TOO_SHORT;
+    }
     numbers::put_interface(lookup::interface_by_key(file, space, name), answer);
+    ANSWERED
 }
 
-// Method by index, name and kind: 0 getter, 1 setter, 2 plain; nothing is written for another kind.
+// Method by index, name and kind: 0 getter, 1 setter, 2 plain; a question with another kind is malformed.
 // Found: owner, position, and the slot: 0 and its number, or 1 and the unresolved ancestor's index.
 #[no_mangle]
 pub extern "C" fn saniotka_method(
     file: &[u8],
     index: u64,
     name: &[u8],
-    kind: u8,
+    kind: u64,
     answer: &mut [u64],
-)
-    ensures { λ _. ⌜ now (answer .exit) ≡ methodWritten (decode (now (file .entry))) index (now (name .entry)) kind (now (answer .entry)) ⌝ }
+) -> i32
+    ensures { λ r. ⌜ Called (methodNumbers (askKind (decode (now (file .entry))) index (now (name .entry)) kind)) (now (answer .entry)) r (now (answer .exit)) ⌝ }
 {
-    match kind {
-        0 => numbers::put_method(
-            lookup::method_by_name(file, index, name, Kind::Getter),
-            answer,
-        ),
-        1 => numbers::put_method(
-            lookup::method_by_name(file, index, name, Kind::Setter),
-            answer,
-        ),
-        2 => numbers::put_method(
-            lookup::method_by_name(file, index, name, Kind::Plain),
-            answer,
-        ),
-        _ => {}
+    if answer.len() < numbers::ROOM {
+        return TOO_SHORT;
     }
+    numbers::put_method(kinds::method_of_kind(file, index, name, kind), answer);
+    ANSWERED
 }
 
 // Method by index and slot. Found: as above.
 #[no_mangle]
-pub extern "C" fn saniotka_slot(file: &[u8], index: u64, slot: u64, answer: &mut [u64])
-    ensures { λ _. ⌜ now (answer .exit) ≡ written (methodNumbers (askSlot (decode (now (file .entry))) index slot)) (now (answer .entry)) ⌝ }
+pub extern "C" fn saniotka_slot(file: &[u8], index: u64, slot: u64, answer: &mut [u64]) -> i32
+    ensures { λ r. ⌜ Called (methodNumbers (askSlot (decode (now (file .entry))) index slot)) (now (answer .entry)) r (now (answer .exit)) ⌝ }
 {
+    if answer.len() < numbers::ROOM {
+        return TOO_SHORT;
+    }
     numbers::put_method(lookup::method_by_slot(file, index, slot), answer);
+    ANSWERED
 }
 
 // Constant by index and name. Found: its type byte and the bits of its value, as stored.
 #[no_mangle]
-pub extern "C" fn saniotka_constant(file: &[u8], index: u64, name: &[u8], answer: &mut [u64])
-    ensures { λ _. ⌜ now (answer .exit) ≡ written (constantNumbers (askConstant (decode (now (file .entry))) index (now (name .entry)))) (now (answer .entry)) ⌝ }
+pub extern "C" fn saniotka_constant(file: &[u8], index: u64, name: &[u8], answer: &mut [u64]) -> i32
+    ensures { λ r. ⌜ Called (constantNumbers (askConstant (decode (now (file .entry))) index (now (name .entry)))) (now (answer .entry)) r (now (answer .exit)) ⌝ }
 {
+    if answer.len() < numbers::ROOM {
+        return TOO_SHORT;
+    }
     numbers::put_constant(lookup::constant_by_name(file, index, name), answer);
+    ANSWERED
 }

@@ -1,15 +1,11 @@
--- The answers to questions as numbers, and where they are written.
+-- Verdicts and the answers to questions as numbers.
 -- Assumes nothing.
 use mathlib.Core.List.{List, [], _∷_}
 use Prim.Native.Nat.{ℕ}
-use lib.ListN.{length}
-use lib.Seq.{sets}
-use Rattle.number.specs.Choice.{if_then_else_, _<?_, _=?_}
-use Rattle.reading.specs.Got.{Got}
 use Rattle.reading.specs.declared.Refusal.{Refusal}
+use Rattle.reading.specs.declared.Verdict.{Verdict}
+use Rattle.reading.specs.declared.Verdict.the-variants as verdict
 use Rattle.signed.specs.Bits.{bitsOf}
-use Rattle.reader.specs.Values.{Typelib}
-use Rattle.lookup.specs.declared.Kind.the-variants.{Getter, Setter, Plain}
 use Rattle.lookup.specs.declared.Slot.{Slot}
 use Rattle.lookup.specs.declared.Slot.the-variants as slot
 use Rattle.lookup.specs.declared.FoundMethod.{FoundMethod}
@@ -21,7 +17,11 @@ use Rattle.lookup.specs.declared.MethodAnswer.{MethodAnswer}
 use Rattle.lookup.specs.declared.MethodAnswer.the-variants as method
 use Rattle.lookup.specs.declared.ConstantAnswer.{ConstantAnswer}
 use Rattle.lookup.specs.declared.ConstantAnswer.the-variants as constant
-use Rattle.lookup.specs.Question.{askMethod}
+
+-- document 01's number and place; 0, which is no refusal's number, and n for an accepted file
+unfoldable pub verdictNumbers : Verdict → List ℕ
+verdictNumbers (verdict.Accepted n) = 0 ∷ n ∷ []
+verdictNumbers (verdict.Refused why) = why .no ∷ why .place ∷ []
 
 -- document 01's number and place
 unfoldable pub refusalNumbers : Refusal → List ℕ
@@ -58,15 +58,3 @@ constantNumbers (constant.Found v) = valueNumbers v
 constantNumbers constant.None = 1 ∷ []
 constantNumbers (constant.Undetermined r) = 2 ∷ r ∷ []
 constantNumbers (constant.Refused why) = refusalNumbers why
-
--- the caller's numbers afterwards: the first replaced by xs, the rest as they were; all as they were where there are fewer than five
-unfoldable pub written : List ℕ → List ℕ → List ℕ
-written xs before = if length before <? 5 then before else sets before 0 xs
-
--- method by index, name and kind: 0 getter, 1 setter, 2 plain; all as they were for another kind
-unfoldable pub methodWritten : Got Typelib → ℕ → List ℕ → ℕ → List ℕ → List ℕ
-methodWritten g i w k before =
-    if k =? 0 then written (methodNumbers (askMethod g i w Getter)) before else
-    if k =? 1 then written (methodNumbers (askMethod g i w Setter)) before else
-    if k =? 2 then written (methodNumbers (askMethod g i w Plain)) before else
-    before

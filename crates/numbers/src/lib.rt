@@ -1,12 +1,12 @@
-// Answers as numbers, written at the front of the caller's, for C and Rust. The first number of an answer to a question:
-// 0 found, 1 none, 2 undetermined with the index, 3 refused with number and place.
+// Answers as numbers, written at the front of a list of the caller's that has room for any answer, for C and Rust.
+// The first number of an answer to a question: 0 found, 1 none, 2 undetermined with the index, 3 refused with number and place.
 ghost use mathlib.Core.Path.{_≡_};
 ghost use mathlib.Core.List.{[], _∷_};
 ghost use Prim.Native.Nat.{_≤_};
 ghost use lib.ListN.{length};
 ghost use lib.Seq.{sets};
-ghost use Rattle.numbers.specs.Answer.{answered};
-ghost use Rattle.numbers.specs.Numbers.{refusalNumbers, foundNumbers, valueNumbers, interfaceNumbers, methodNumbers, constantNumbers, written};
+ghost use Rattle.numbers.specs.Call.{room};
+ghost use Rattle.numbers.specs.Numbers.{verdictNumbers, refusalNumbers, foundNumbers, valueNumbers, interfaceNumbers, methodNumbers, constantNumbers};
 use lookup::ConstantAnswer;
 use lookup::FoundMethod;
 use lookup::InterfaceAnswer;
@@ -16,14 +16,14 @@ use lookup::Value;
 use reading::Refusal;
 use reading::Verdict;
 
-// A verdict into the first two places: the refusal's number and its place, or 0 and the number of interfaces for an accepted
-// file; nothing where there is less room.
+// How many numbers the longest answer has.
+pub const ROOM: usize = 5;
+
+// The refusal's number and its place, or 0 and the number of interfaces for an accepted file.
 pub fn put_verdict(v: Verdict, answer: &mut [u64])
-    ensures { λ _. ⌜ now (answer .exit) ≡ answered v (now (answer .entry)) ⌝ }
+    requires { ⌜ room ≤ length (now answer) ⌝ }
+    ensures { λ _. ⌜ now (answer .exit) ≡ sets (now (answer .entry)) 0 (verdictNumbers v) ⌝ }
 {
-    if answer.len() < 2 {
-        return;
-    }
     match v {
         Verdict::Accepted(n) => {
             answer[0] = 0;
@@ -39,7 +39,7 @@ pub fn put_verdict(v: Verdict, answer: &mut [u64])
 }
 
 pub fn put_refusal(why: Refusal, answer: &mut [u64])
-    requires { ⌜ 5 ≤ length (now answer) ⌝ }
+    requires { ⌜ room ≤ length (now answer) ⌝ }
     ensures { λ _. ⌜ now (answer .exit) ≡ sets (now (answer .entry)) 0 (refusalNumbers why) ⌝ }
 {
     let no = why.no as u64;
@@ -50,7 +50,7 @@ pub fn put_refusal(why: Refusal, answer: &mut [u64])
 }
 
 fn put_found(m: FoundMethod, answer: &mut [u64])
-    requires { ⌜ 5 ≤ length (now answer) ⌝ }
+    requires { ⌜ room ≤ length (now answer) ⌝ }
     ensures { λ _. ⌜ now (answer .exit) ≡ sets (now (answer .entry)) 0 (foundNumbers m) ⌝ }
 {
     let owner = m.owner as u64;
@@ -72,7 +72,7 @@ fn put_found(m: FoundMethod, answer: &mut [u64])
 }
 
 fn put_pair(kind: u64, bits: u64, answer: &mut [u64])
-    requires { ⌜ 5 ≤ length (now answer) ⌝ }
+    requires { ⌜ room ≤ length (now answer) ⌝ }
     ensures { λ _. ⌜ now (answer .exit) ≡ sets (now (answer .entry)) 0 (0 ∷ kind ∷ bits ∷ []) ⌝ }
 {
     answer[0] = 0;
@@ -81,7 +81,7 @@ fn put_pair(kind: u64, bits: u64, answer: &mut [u64])
 }
 
 fn put_value(value: Value, answer: &mut [u64])
-    requires { ⌜ 5 ≤ length (now answer) ⌝ }
+    requires { ⌜ room ≤ length (now answer) ⌝ }
     ensures { λ _. ⌜ now (answer .exit) ≡ sets (now (answer .entry)) 0 (valueNumbers value) ⌝ }
 {
     match value {
@@ -93,11 +93,9 @@ fn put_value(value: Value, answer: &mut [u64])
 }
 
 pub fn put_interface(a: InterfaceAnswer, answer: &mut [u64])
-    ensures { λ _. ⌜ now (answer .exit) ≡ written (interfaceNumbers a) (now (answer .entry)) ⌝ }
+    requires { ⌜ room ≤ length (now answer) ⌝ }
+    ensures { λ _. ⌜ now (answer .exit) ≡ sets (now (answer .entry)) 0 (interfaceNumbers a) ⌝ }
 {
-    if answer.len() < 5 {
-        return;
-    }
     match a {
         InterfaceAnswer::Found(i) => {
             answer[0] = 0;
@@ -111,11 +109,9 @@ pub fn put_interface(a: InterfaceAnswer, answer: &mut [u64])
 }
 
 pub fn put_method(a: MethodAnswer, answer: &mut [u64])
-    ensures { λ _. ⌜ now (answer .exit) ≡ written (methodNumbers a) (now (answer .entry)) ⌝ }
+    requires { ⌜ room ≤ length (now answer) ⌝ }
+    ensures { λ _. ⌜ now (answer .exit) ≡ sets (now (answer .entry)) 0 (methodNumbers a) ⌝ }
 {
-    if answer.len() < 5 {
-        return;
-    }
     match a {
         MethodAnswer::Found(m) => put_found(m, answer),
         MethodAnswer::None => {
@@ -130,11 +126,9 @@ pub fn put_method(a: MethodAnswer, answer: &mut [u64])
 }
 
 pub fn put_constant(a: ConstantAnswer, answer: &mut [u64])
-    ensures { λ _. ⌜ now (answer .exit) ≡ written (constantNumbers a) (now (answer .entry)) ⌝ }
+    requires { ⌜ room ≤ length (now answer) ⌝ }
+    ensures { λ _. ⌜ now (answer .exit) ≡ sets (now (answer .entry)) 0 (constantNumbers a) ⌝ }
 {
-    if answer.len() < 5 {
-        return;
-    }
     match a {
         ConstantAnswer::Found(value) => put_value(value, answer),
         ConstantAnswer::None => {

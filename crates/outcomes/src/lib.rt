@@ -5,7 +5,7 @@ ghost use lib.ListN.{length};
 ghost use lib.Seq.{sets};
 ghost use Rattle.link.specs.declared.Linked.the-variants as linked;
 ghost use Rattle.sayings.specs.Sayings.{Says};
-ghost use Rattle.numbers.specs.Numbers.{written};
+ghost use Rattle.numbers.specs.Call.{room};
 ghost use Rattle.outcomes.specs.Numbers.{normalNumbers, linkRefusalNumbers, linkNumbers};
 ghost use Rattle.outcomes.specs.Lines.{whichNumber, sayNormalised, sayLinked};
 use joining::Normalised;
@@ -60,13 +60,11 @@ pub fn linked(l: Linked, line: &mut [u8; 128]) -> Said
     }
 }
 
-// Written: 0 and the length; refused: 3, number and place. Nothing where there is room for fewer than five numbers.
+// Written: 0 and the length; refused: 3, number and place.
 pub fn put_normalised(a: Normalised, answer: &mut [u64])
-    ensures { λ _. ⌜ now (answer .exit) ≡ written (normalNumbers a) (now (answer .entry)) ⌝ }
+    requires { ⌜ room ≤ length (now answer) ⌝ }
+    ensures { λ _. ⌜ now (answer .exit) ≡ sets (now (answer .entry)) 0 (normalNumbers a) ⌝ }
 {
-    if answer.len() < 5 {
-        return;
-    }
     match a {
         Normalised::Written(n) => {
             answer[0] = 0;
@@ -77,7 +75,7 @@ pub fn put_normalised(a: Normalised, answer: &mut [u64])
 }
 
 fn put_link_refusal(x: LinkRefusal, answer: &mut [u64])
-    requires { ⌜ 5 ≤ length (now answer) ⌝ }
+    requires { ⌜ room ≤ length (now answer) ⌝ }
     ensures { λ _. ⌜ now (answer .exit) ≡ sets (now (answer .entry)) 0 (linkRefusalNumbers x) ⌝ }
 {
     let w = x.which;
@@ -93,11 +91,9 @@ fn put_link_refusal(x: LinkRefusal, answer: &mut [u64])
 
 // The same, with which file was refused before the number: 1 or 2, 0 for the link itself.
 pub fn put_linked(a: Linked, answer: &mut [u64])
-    ensures { λ _. ⌜ now (answer .exit) ≡ written (linkNumbers a) (now (answer .entry)) ⌝ }
+    requires { ⌜ room ≤ length (now answer) ⌝ }
+    ensures { λ _. ⌜ now (answer .exit) ≡ sets (now (answer .entry)) 0 (linkNumbers a) ⌝ }
 {
-    if answer.len() < 5 {
-        return;
-    }
     match a {
         Linked::Written(n) => {
             answer[0] = 0;

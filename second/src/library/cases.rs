@@ -3,7 +3,7 @@
 
 use super::buffers::{lent, strayed, GUARD};
 use super::questions::{Found, Question, Reply};
-use super::{shrink::shrink, Program, OWN};
+use super::{lists, shrink::shrink, Program, OWN};
 use crate::program::{link::LinkRefusal, questions::Kind, Answer, Refusal};
 use crate::tally::hash;
 use std::{fs, io, path::Path, path::PathBuf, time::Duration};
@@ -19,9 +19,13 @@ const PATIENCE: Duration = Duration::from_secs(20);
 pub enum Asked {
     Check,
     Question(Question),
+    /// A method by index, name and the number of its kind.
+    Kind(u64, Vec<u8>, u64),
     /// With the length of the buffer.
     Normal(usize),
     Link(usize),
+    /// Answered in a list of so many numbers.
+    List(Box<Asked>, usize),
 }
 
 #[derive(Clone, Debug, PartialEq, Eq)]
@@ -39,6 +43,8 @@ impl Case {
             Asked::Check => shown((program.check)(files[0])),
             Asked::Question(question) => format!("{:?}", program.ask(files[0], question)),
             Asked::Normal(room) | Asked::Link(room) => written(program, &files, *room),
+            Asked::Kind(..) => lists::call(program, &self.asked, &files, lists::ROOM).to_string(),
+            Asked::List(asked, room) => lists::call(program, asked, &files, *room).to_string(),
         };
         if copies != self.files {
             text.push_str(", but changed a file");
@@ -64,16 +70,24 @@ pub fn shown(answer: Answer) -> String {
     }
 }
 
+/// Not the hash of the standard library, which may change: a case is kept for long.
+pub fn fnv(bytes: &[u8]) -> u64 {
+    let mix = |sum: u64, byte: &u8| (sum ^ u64::from(*byte)).wrapping_mul(0x100_0000_01b3);
+    bytes.iter().fold(0xcbf2_9ce4_8422_2325, mix)
+}
+
+/// What a buffer of this length holds before a call, and its guards.
+pub fn noise(room: usize) -> Vec<u8> {
+    (0..room + 2 * GUARD).map(|i| (i * 7 + 13) as u8).collect()
+}
+
 /// What a program writes into a buffer of this length.
 fn written(program: &Program, files: &[&[u8]], room: usize) -> String {
-    let before: Vec<u8> = (0..room + 2 * GUARD).map(|i| (i * 7 + 13) as u8).collect();
+    let before = noise(room);
     let (answer, bytes) = lent(&before, room, |out| program.write(files, out));
     let mut text = match answer {
         Ok(length) if length <= room => {
-            // Not the hash of the standard library, which may change: a case is kept for long.
-            let mix = |sum: u64, byte: &u8| (sum ^ u64::from(*byte)).wrapping_mul(0x100_0000_01b3);
-            let sum = bytes[GUARD..][..length].iter().fold(0xcbf2_9ce4_8422_2325, mix);
-            format!("written {length} bytes, FNV-1a {sum:016x}")
+            format!("written {length} bytes, FNV-1a {:016x}", fnv(&bytes[GUARD..][..length]))
         }
         Ok(length) => format!("written {length} bytes"),
         Err((0, refusal)) => shown(Err(refusal)),
@@ -121,12 +135,23 @@ pub fn kind_word(kind: Kind) -> &'static str {
 }
 
 impl Asked {
+    /// How many files it is asked of.
+    fn files(&self) -> usize {
+        match self {
+            Asked::Link(_) => 2,
+            Asked::List(asked, _) => asked.files(),
+            _ => 1,
+        }
+    }
+
     /// The line that `parse` reads.
     pub fn line(&self) -> String {
         match self {
             Asked::Check => "check".to_string(),
             Asked::Normal(room) => format!("normal {room}"),
             Asked::Link(room) => format!("link {room}"),
+            Asked::Kind(index, name, kind) => format!("kind {index} {} {kind}", hex(name)),
+            Asked::List(asked, room) => format!("list {room} {}", asked.line()),
             Asked::Question(question) => match question {
                 Question::Iid(iid) => format!("iid {}", hex(iid)),
                 Question::Key(space, name) => format!("key {} {}", hex(space), hex(name)),
@@ -140,11 +165,17 @@ impl Asked {
     }
 
     pub fn parse(line: &str) -> Option<Asked> {
+        if let Some((room, asked)) = line.strip_prefix("list ").and_then(|l| l.split_once(' ')) {
+            return Some(Asked::List(Box::new(Asked::parse(asked)?), room.parse().ok()?));
+        }
         let words: Vec<&str> = line.split(' ').collect();
         let question = match words[..] {
             ["check"] => return Some(Asked::Check),
             ["normal", room] => return Some(Asked::Normal(room.parse().ok()?)),
             ["link", room] => return Some(Asked::Link(room.parse().ok()?)),
+            ["kind", index, name, kind] => {
+                return Some(Asked::Kind(index.parse().ok()?, bytes(name)?, kind.parse().ok()?))
+            }
             ["iid", iid] => Question::Iid(bytes(iid)?),
             ["key", space, name] => Question::Key(bytes(space)?, bytes(name)?),
             ["method", index, name, kind] => {
@@ -221,8 +252,7 @@ pub fn read(path: &Path) -> Result<(Case, String), String> {
         let name = format!("{i}.xpt");
         fs::read(path.join(&name)).map_err(|error| format!("{name}: {error}"))
     };
-    let files = if matches!(asked, Asked::Link(_)) { 2 } else { 1 };
-    let files = (1..=files).map(file).collect::<Result<_, _>>()?;
+    let files = (1..=asked.files()).map(file).collect::<Result<_, _>>()?;
     Ok((Case { asked, files }, field(EXPECTED).unwrap_or(UNDECIDED).to_string()))
 }
 

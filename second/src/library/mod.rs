@@ -4,6 +4,7 @@ pub mod buffers;
 pub mod cases;
 pub mod checks;
 pub mod links;
+pub mod lists;
 pub mod questions;
 pub mod shrink;
 
@@ -25,6 +26,9 @@ pub struct Program {
     pub constant: fn(&[u8], u64, &[u8]) -> Lookup<Constant>,
     pub normalise: fn(&[u8], &mut [u8]) -> Result<usize, Refusal>,
     pub link: fn(&[u8], &[u8], &mut [u8]) -> Result<usize, LinkRefusal>,
+    /// Any of these, answered in a list of numbers: what is asked, of which files, the buffer for
+    /// bytes and the list. What it returns is 0, or 1 where the list is too short.
+    pub on_list: fn(&Asked, &[&[u8]], &mut [u8], &mut [u64]) -> i32,
 }
 
 pub const OWN: Program = Program {
@@ -36,6 +40,7 @@ pub const OWN: Program = Program {
     constant: |file, index, name| asked(file, |lib| lib.constant(index, name)),
     normalise,
     link,
+    on_list: lists::on_list,
 };
 
 /// A part of a run with one seed.
@@ -68,10 +73,11 @@ impl Session {
 /// A part: its name, what it runs, and the rows that count comparisons.
 type Part = (&'static str, fn(&mut Session), &'static [&'static str]);
 
-pub const PARTS: [Part; 3] = [
+pub const PARTS: [Part; 4] = [
     ("links", links::run, &["links", "normal forms"]),
     ("checks", checks::run, &["checks"]),
     ("questions", questions::run, &["questions"]),
+    ("lists", lists::run, &["calls"]),
 ];
 
 /// What a run is asked for: names of parts, none for all, a seed, and how many seeds from there.

@@ -98,7 +98,7 @@ impl Constant {
     }
 }
 
-const MALFORMED: Refusal = Refusal { number: refusal::QUESTION, place: 0 };
+pub const MALFORMED: Refusal = Refusal { number: refusal::QUESTION, place: 0 };
 
 /// Asks a file that is accepted.
 pub fn of<'a, T>(file: &'a [u8], ask: impl FnOnce(&Accepted<'a>) -> Lookup<T>) -> Lookup<T> {

@@ -1,14 +1,16 @@
 -- `cabi::saniotka_check` meets its contract.
 -- Assumes nothing.
-use Rattle.reading.specs.declared.Verdict.{Verdict}
-use Rattle.number.proofs.Tools.{ap, _∙_, needs}
-use Rattle.numbers.specs.Answer.{answered}
+use Rattle.number.proofs.Tools.{arith, needs}
+use Rattle.numbers.specs.Numbers.{verdictNumbers}
+use Rattle.numbers.proofs.Calls.{short, answers}
 use Rattle.cabi.proofs.saniotka_check.Statement.{statement}
 use Rattle.cabi.proofs.saniotka_check.Tie as tie
 
 returns : tie.Need-returns
-returns c = c .before .before .put-verdict .ensures ∙ ap (λ (x : Verdict). answered x (c .before .before .before .before .before .before .before .args .answer .now)) (c .before .before .before .before .check .ensures)
+returns c = short (omega arith)
+
+returns-2 : tie.Need-returns-2
+returns-2 c = answers verdictNumbers (omega arith) (c .before .before .before .before .check .ensures) (c .before .before .put-verdict .ensures)
 
 pub saniotka-check-spec : {M : Type 1} → statement M
-saniotka-check-spec =
-    tie.close (tie.spec (λ c κs. search needs) (λ c κs. search needs) (λ c. search needs) returns)
+saniotka-check-spec = tie.close (tie.spec returns (λ c κs. search needs) (λ c κs. search needs) (λ c. search needs) returns-2)

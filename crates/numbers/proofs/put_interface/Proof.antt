@@ -3,13 +3,9 @@
 use lib.ListN.{length-set}
 use borrow.Author.Needs.{needs}
 use Rattle.number.proofs.Tools.{arith, refl}
-use Rattle.numbers.proofs.Writes.{kept, put}
 use Rattle.numbers.specs.Numbers.{interfaceNumbers}
 use Rattle.numbers.proofs.put_interface.Statement.{statement}
 use Rattle.numbers.proofs.put_interface.Tie as tie
-
-returns : tie.Need-returns
-returns c = kept _ _ (omega arith)
 
 enum-known-a : tie.Need-enum-known-a
 enum-known-a c = search needs
@@ -35,29 +31,28 @@ put-refusal-requires c κs = search needs
 same-length : tie.Need-same-length
 same-length c = search needs
 
-returns-2 : tie.Need-returns-2
+returns : tie.Need-returns
 unfolding interfaceNumbers
-returns-2 c = put _ _ (omega arith) (rw (c .before .a .given .1) refl)
+returns c = rw (c .before .a .given .1) refl
 
 same-length-2 : tie.Need-same-length-2
 same-length-2 c = search needs
 
-returns-3 : tie.Need-returns-3
+returns-2 : tie.Need-returns-2
 unfolding interfaceNumbers
-returns-3 c = put _ _ (omega arith) (rw (c .enum-told .given .1) refl)
+returns-2 c = rw (c .enum-told .given .1) refl
 
 same-length-3 : tie.Need-same-length-3
 same-length-3 c = search needs
 
-returns-4 : tie.Need-returns-4
+returns-3 : tie.Need-returns-3
 unfolding interfaceNumbers
-returns-4 c = put _ _ (omega arith) (rw (c .before .before .before .before .before .a2 .given .1) (c .before .before .put-refusal .ensures))
+returns-3 c = rw (c .before .before .before .before .before .a2 .given .1) (c .before .before .put-refusal .ensures)
 
 pub put-interface-spec : {M : Type 1} → statement M
 put-interface-spec =
     tie.close
     (tie.spec
-    returns
     enum-known-a
     slice-write-answer
     slice-write-answer-2
@@ -66,8 +61,8 @@ put-interface-spec =
     enum-known-a-2
     put-refusal-requires
     same-length
-    returns-2
+    returns
     same-length-2
-    returns-3
+    returns-2
     same-length-3
-    returns-4)
+    returns-3)

@@ -3,33 +3,28 @@
 use lib.ListN.{length-set}
 use borrow.Author.Needs.{needs}
 use Rattle.number.proofs.Tools.{arith, refl}
-use Rattle.numbers.proofs.Writes.{kept, put}
 use Rattle.outcomes.specs.Numbers.{linkNumbers}
 use Rattle.outcomes.proofs.put_linked.Statement.{statement}
 use Rattle.outcomes.proofs.put_linked.Tie as tie
 
 returns : tie.Need-returns
-returns c = kept _ _ (omega arith)
+unfolding linkNumbers
+returns c = rw (c .before .a .given .1) refl
 
 returns-2 : tie.Need-returns-2
 unfolding linkNumbers
-returns-2 c = put _ _ (omega arith) (rw (c .before .a .given .1) refl)
-
-returns-3 : tie.Need-returns-3
-unfolding linkNumbers
-returns-3 c = put _ _ (omega arith) (rw (c .before .before .before .before .before .a2 .given .1) (c .before .before .put-link-refusal .ensures))
+returns-2 c = rw (c .before .before .before .before .before .a2 .given .1) (c .before .before .put-link-refusal .ensures)
 
 pub put-linked-spec : {M : Type 1} → statement M
 put-linked-spec =
     tie.close
     (tie.spec
-    returns
     (λ c. search needs)
     (λ c. search needs)
     (λ c. simp length-set (omega arith))
     (λ c. search needs)
     (λ c κs. search needs)
     (λ c. search needs)
-    returns-2
+    returns
     (λ c. search needs)
-    returns-3)
+    returns-2)

@@ -1,0 +1,175 @@
+/* Saniotka for C and C++: the check of XPCOM typelibs, the five questions, the normal form and the link of two files.
+ *
+ * Every function is proved to answer what the definitions in the sources say, for every input. docs/FORMAT.md there says
+ * what a typelib is, what each refusal means and what its place counts. The library is made by `rt staticlib cabi`, as
+ * target/staticlib/libcabi.a, for Linux on x86-64; a program that includes this header is linked with it and needs
+ * nothing else:
+ *
+ *     cc -Iinclude program.c target/staticlib/libcabi.a
+ *
+ * What goes in. A run of bytes is a pointer and its length; texts have no zero byte at their end. With the length 0 the
+ * pointer is not followed and may be NULL. Nothing is written to what is const, and const runs may be one another's
+ * bytes, so that a file can be linked with itself; `out` and `answer` share no byte with any other argument. A file may
+ * have any bytes and any length: what is no typelib is refused.
+ *
+ * What comes out. A call returns SANIOTKA_ANSWERED, and its answer is in the first numbers of `answer`, a list of
+ * `answers` numbers; those that the answer has no use for keep what they held. A list of fewer than SANIOTKA_ROOM numbers
+ * has too little room for some answer: the call then returns SANIOTKA_TOO_SHORT and writes nothing, neither there nor to
+ * `out`. Beside `answer` and `out` nothing is written, ever.
+ *
+ *     uint64_t answer[SANIOTKA_ROOM];
+ *     saniotka_check(file, length, answer, SANIOTKA_ROOM);
+ *
+ * Threads. The functions keep no state, allocate nothing and call nothing of the system: any number of threads may call
+ * them at once, as long as nobody changes what is lent for a call while it runs.
+ *
+ * Stack. A call needs fewer than SANIOTKA_STACK bytes of it.
+ */
+#ifndef SANIOTKA_H
+#define SANIOTKA_H
+
+#include <stddef.h>
+#include <stdint.h>
+
+#ifdef __cplusplus
+extern "C" {
+#endif
+
+/* Numbers that any answer fits in. */
+#define SANIOTKA_ROOM 5
+
+/* Bytes that any normal form and any link fit in; a longer file is none. */
+#define SANIOTKA_BUFFER 1048576
+
+/* Bytes of stack that are enough for any call. */
+#define SANIOTKA_STACK 131072
+
+/* What a call returns. */
+enum {
+    SANIOTKA_ANSWERED = 0,
+    SANIOTKA_TOO_SHORT = 1
+};
+
+/* The first number of an answer to a question, and of a normal form or a link. */
+enum {
+    SANIOTKA_FOUND = 0,
+    SANIOTKA_WRITTEN = 0,
+    SANIOTKA_NONE = 1,
+    SANIOTKA_UNDETERMINED = 2,
+    SANIOTKA_REFUSED = 3
+};
+
+/* Kinds of methods: with the getter bit, with the setter bit, with neither. */
+enum {
+    SANIOTKA_GETTER = 0,
+    SANIOTKA_SETTER = 1,
+    SANIOTKA_PLAIN = 2
+};
+
+/* Whether the slot of a method that was found is known. */
+enum {
+    SANIOTKA_SLOT_KNOWN = 0,
+    SANIOTKA_SLOT_UNDETERMINED = 1
+};
+
+/* The types of constants. */
+enum {
+    SANIOTKA_I16 = 1,
+    SANIOTKA_I32 = 2,
+    SANIOTKA_U16 = 5,
+    SANIOTKA_U32 = 6
+};
+
+/* Which file of a link is refused. */
+enum {
+    SANIOTKA_THE_LINK = 0,
+    SANIOTKA_FIRST = 1,
+    SANIOTKA_SECOND = 2
+};
+
+/* Refusals that a program may want to tell from the others, which docs/FORMAT.md lists: 1 to 19 are of a file, and 21 to
+ * 25 of a link. */
+enum {
+    SANIOTKA_MALFORMED = 20,   /* the question; its place is 0 */
+    SANIOTKA_OVER_LIMIT = 26,  /* the normal form has more than SANIOTKA_BUFFER bytes; its place is 0 */
+    SANIOTKA_SHORT_BUFFER = 27 /* its place is the length that is needed */
+};
+
+/* Is this a typelib?
+ *
+ *     0, n            it is accepted, and has n interfaces (0 to 1,024)
+ *     number, place   it is refused, with the first refusal that applies (1 to 19) and its place
+ */
+int saniotka_check(const uint8_t *file, size_t length, uint64_t *answer, size_t answers);
+
+/* Which interface has this IID? It is 16 bytes, not all zero; anything else is malformed.
+ *
+ *     SANIOTKA_FOUND, index             the interface's, counted from 1
+ *     SANIOTKA_NONE
+ *     SANIOTKA_REFUSED, number, place   the file's refusal as above, or else SANIOTKA_MALFORMED and 0
+ */
+int saniotka_iid(const uint8_t *file, size_t length, const uint8_t *iid, size_t iid_length, uint64_t *answer,
+                 size_t answers);
+
+/* Which interface has this key? An empty namespace asks for the default one. Names and namespaces are 1 to 255 letters,
+ * digits and `_`, here and below; anything else is malformed. Answered as above.
+ */
+int saniotka_key(const uint8_t *file, size_t length, const uint8_t *space, size_t space_length, const uint8_t *name,
+                 size_t name_length, uint64_t *answer, size_t answers);
+
+/* Which method of this name and kind has the interface `index`, its own or an inherited one? An index of 0 or past the
+ * last interface, and a kind that is none of the three, are malformed.
+ *
+ *     SANIOTKA_FOUND, owner, position, SANIOTKA_SLOT_KNOWN, slot
+ *                                       the interface whose own method it is, its position there from 0, and its slot
+ *     SANIOTKA_FOUND, owner, position, SANIOTKA_SLOT_UNDETERMINED, index
+ *                                       the slot rests on this interface, which the file only names
+ *     SANIOTKA_NONE
+ *     SANIOTKA_UNDETERMINED, index      this interface, which the file only names, may have or inherit it
+ *     SANIOTKA_REFUSED, number, place   the file's refusal, or else SANIOTKA_MALFORMED and 0
+ */
+int saniotka_method(const uint8_t *file, size_t length, uint64_t index, const uint8_t *name, size_t name_length,
+                    uint64_t kind, uint64_t *answer, size_t answers);
+
+/* Which method is in this slot of the interface `index`? Answered as above; what is found has this slot, and
+ * SANIOTKA_NONE is a slot past the last one. An index of 0 or past the last interface is malformed.
+ */
+int saniotka_slot(const uint8_t *file, size_t length, uint64_t index, uint64_t slot, uint64_t *answer, size_t answers);
+
+/* Which constant of this name has the interface `index`, its own or an inherited one? An index of 0 or past the last
+ * interface is malformed.
+ *
+ *     SANIOTKA_FOUND, type, bits        one of the four types, and the value: 16 or 32 bits as stored, in two's
+ *                                       complement where the type is signed, the others zero
+ *     SANIOTKA_NONE
+ *     SANIOTKA_UNDETERMINED, index      this interface, which the file only names, may have or inherit it
+ *     SANIOTKA_REFUSED, number, place   the file's refusal, or else SANIOTKA_MALFORMED and 0
+ */
+int saniotka_constant(const uint8_t *file, size_t length, uint64_t index, const uint8_t *name, size_t name_length,
+                      uint64_t *answer, size_t answers);
+
+/* The normal form of a file, at the front of `out`. The bytes of `out` past it keep what they held; where it is refused
+ * all of them do. SANIOTKA_BUFFER bytes are room for any.
+ *
+ *     SANIOTKA_WRITTEN, n               n bytes were written
+ *     SANIOTKA_REFUSED, number, place   the file's refusal, SANIOTKA_OVER_LIMIT, or SANIOTKA_SHORT_BUFFER
+ */
+int saniotka_normal(const uint8_t *file, size_t length, uint8_t *out, size_t out_length, uint64_t *answer,
+                    size_t answers);
+
+/* The normal form of the union of two files, at the front of `out`, with which it is as above.
+ *
+ *     SANIOTKA_WRITTEN, n               n bytes were written
+ *     SANIOTKA_REFUSED, which, number, place
+ *                                       SANIOTKA_FIRST or SANIOTKA_SECOND: that file's own refusal;
+ *                                       SANIOTKA_THE_LINK: 21 to 24 with an index in the first file, 25 with 0 (more
+ *                                       than 1,024 interfaces), SANIOTKA_OVER_LIMIT, or SANIOTKA_SHORT_BUFFER
+ */
+int saniotka_link(const uint8_t *first, size_t first_length, const uint8_t *second, size_t second_length, uint8_t *out,
+                  size_t out_length, uint64_t *answer, size_t answers);
+
+#ifdef __cplusplus
+}
+#endif
+
+#endif

@@ -1,0 +1,75 @@
+//! The calls themselves, on the caller's list of numbers. Each returns `ANSWERED`; or `TOO_SHORT` where
+//! the list has fewer than `ROOM` numbers, and then nothing was written.
+
+/// The answer stands at the front of the list.
+pub const ANSWERED: i32 = 0;
+
+/// The list has too little room for some answer.
+pub const TOO_SHORT: i32 = 1;
+
+// As include/saniotka.h declares them: a slice is a pointer and a length.
+type In = *const u8;
+type Out = *mut u8;
+type List = *mut u64;
+
+#[rustfmt::skip]
+extern "C" {
+    fn saniotka_check(f: In, fl: usize, a: List, al: usize) -> i32;
+    fn saniotka_iid(f: In, fl: usize, iid: In, il: usize, a: List, al: usize) -> i32;
+    fn saniotka_key(f: In, fl: usize, s: In, sl: usize, n: In, nl: usize, a: List, al: usize) -> i32;
+    fn saniotka_method(f: In, fl: usize, i: u64, n: In, nl: usize, k: u64, a: List, al: usize) -> i32;
+    fn saniotka_slot(f: In, fl: usize, i: u64, slot: u64, a: List, al: usize) -> i32;
+    fn saniotka_constant(f: In, fl: usize, i: u64, n: In, nl: usize, a: List, al: usize) -> i32;
+    fn saniotka_normal(f: In, fl: usize, o: Out, ol: usize, a: List, al: usize) -> i32;
+    fn saniotka_link(f: In, fl: usize, g: In, gl: usize, o: Out, ol: usize, a: List, al: usize) -> i32;
+}
+
+// SAFETY, of all calls: the library reads at most as many bytes as it is told from what is lent
+// shared, and writes at most as many as it is told to what is lent mutably, all of it during the call.
+// That nothing else is lent of the same bytes is what a mutable reference says.
+
+pub fn check(file: &[u8], answer: &mut [u64]) -> i32 {
+    let (f, a) = (file, answer);
+    unsafe { saniotka_check(f.as_ptr(), f.len(), a.as_mut_ptr(), a.len()) }
+}
+
+pub fn iid(file: &[u8], iid: &[u8], answer: &mut [u64]) -> i32 {
+    let (f, a) = (file, answer);
+    unsafe { saniotka_iid(f.as_ptr(), f.len(), iid.as_ptr(), iid.len(), a.as_mut_ptr(), a.len()) }
+}
+
+pub fn key(file: &[u8], space: &[u8], name: &[u8], answer: &mut [u64]) -> i32 {
+    let (f, a, s, s_length) = (file, answer, space.as_ptr(), space.len());
+    let (n, n_length) = (name.as_ptr(), name.len());
+    unsafe { saniotka_key(f.as_ptr(), f.len(), s, s_length, n, n_length, a.as_mut_ptr(), a.len()) }
+}
+
+/// Any kind but 0, 1 and 2 is a malformed question.
+pub fn method(file: &[u8], index: u64, name: &[u8], kind: u64, answer: &mut [u64]) -> i32 {
+    let (f, a, n, n_length) = (file, answer, name.as_ptr(), name.len());
+    unsafe {
+        saniotka_method(f.as_ptr(), f.len(), index, n, n_length, kind, a.as_mut_ptr(), a.len())
+    }
+}
+
+pub fn slot(file: &[u8], index: u64, slot: u64, answer: &mut [u64]) -> i32 {
+    let (f, a) = (file, answer);
+    unsafe { saniotka_slot(f.as_ptr(), f.len(), index, slot, a.as_mut_ptr(), a.len()) }
+}
+
+pub fn constant(file: &[u8], index: u64, name: &[u8], answer: &mut [u64]) -> i32 {
+    let (f, a, n, n_length) = (file, answer, name.as_ptr(), name.len());
+    unsafe { saniotka_constant(f.as_ptr(), f.len(), index, n, n_length, a.as_mut_ptr(), a.len()) }
+}
+
+pub fn normal(file: &[u8], out: &mut [u8], answer: &mut [u64]) -> i32 {
+    let (f, a, o, o_length) = (file, answer, out.as_mut_ptr(), out.len());
+    unsafe { saniotka_normal(f.as_ptr(), f.len(), o, o_length, a.as_mut_ptr(), a.len()) }
+}
+
+pub fn link(first: &[u8], second: &[u8], out: &mut [u8], answer: &mut [u64]) -> i32 {
+    let (f, f_length, g, g_length) = (first.as_ptr(), first.len(), second.as_ptr(), second.len());
+    let (o, o_length, a, a_length) =
+        (out.as_mut_ptr(), out.len(), answer.as_mut_ptr(), answer.len());
+    unsafe { saniotka_link(f, f_length, g, g_length, o, o_length, a, a_length) }
+}

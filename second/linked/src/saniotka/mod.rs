@@ -1,0 +1,198 @@
+//! The proved library for Rust: the calls of include/saniotka.h as safe functions, with enums for their
+//! answers. Nothing else of this package is named here, so that any program that links the library
+//! (build.rs) can have a copy of this folder.
+
+pub mod lists;
+
+use lists::ANSWERED;
+
+/// Numbers that any answer fits in.
+pub const ROOM: usize = 5;
+
+/// Bytes that any normal form and any link fit in.
+pub const BUFFER: usize = 1_048_576;
+
+/// The number of a refusal, and its place.
+#[derive(Clone, Copy, Debug, PartialEq, Eq)]
+pub struct Refusal {
+    pub number: u32,
+    pub place: usize,
+}
+
+/// The answer to a question. Interfaces are told by their index, counted from 1.
+#[derive(Clone, Copy, Debug, PartialEq, Eq)]
+pub enum Answer<T> {
+    Found(T),
+    None,
+    /// This interface, which the file only names, may have it.
+    Undetermined(usize),
+    /// The file's refusal, or 20 at 0 for a malformed question.
+    Refused(Refusal),
+}
+
+#[derive(Clone, Copy, Debug, PartialEq, Eq)]
+pub enum Kind {
+    Getter,
+    Setter,
+    /// Neither.
+    Plain,
+}
+
+#[derive(Clone, Copy, Debug, PartialEq, Eq)]
+pub enum Slot {
+    Known(u64),
+    /// It rests on this interface, which the file only names.
+    Undetermined(usize),
+}
+
+#[derive(Clone, Copy, Debug, PartialEq, Eq)]
+pub struct Method {
+    /// The interface whose own method it is.
+    pub owner: usize,
+    /// From 0, among the owner's methods.
+    pub position: usize,
+    pub slot: Slot,
+}
+
+#[derive(Clone, Copy, Debug, PartialEq, Eq)]
+pub enum Constant {
+    I16(i16),
+    I32(i32),
+    U16(u16),
+    U32(u32),
+}
+
+/// What of a link is refused.
+#[derive(Clone, Copy, Debug, PartialEq, Eq)]
+pub enum Which {
+    Link,
+    First,
+    Second,
+}
+
+/// Whether a file is a typelib: how many interfaces it has.
+pub fn check(file: &[u8]) -> Result<usize, Refusal> {
+    told(
+        |list| lists::check(file, list),
+        |numbers| match *numbers {
+            [0, n, KEPT, KEPT, KEPT] => Some(Ok(n as usize)),
+            [number, place, KEPT, KEPT, KEPT] => Some(Err(refusal(number, place)?)),
+            _ => None,
+        },
+    )
+}
+
+/// Interface by IID: 16 bytes, not all zero.
+pub fn interface_by_iid(file: &[u8], iid: &[u8]) -> Answer<usize> {
+    asked(|list| lists::iid(file, iid, list), interface)
+}
+
+/// Interface by key; an empty namespace asks for the default.
+pub fn interface_by_key(file: &[u8], space: &[u8], name: &[u8]) -> Answer<usize> {
+    asked(|list| lists::key(file, space, name, list), interface)
+}
+
+/// Method by the index of an interface, name and kind.
+pub fn method_by_name(file: &[u8], index: u64, name: &[u8], kind: Kind) -> Answer<Method> {
+    asked(|list| lists::method(file, index, name, kind as u64, list), method)
+}
+
+/// Method by the index of an interface and slot.
+pub fn method_by_slot(file: &[u8], index: u64, slot: u64) -> Answer<Method> {
+    asked(|list| lists::slot(file, index, slot, list), method)
+}
+
+/// Constant by the index of an interface and name.
+pub fn constant_by_name(file: &[u8], index: u64, name: &[u8]) -> Answer<Constant> {
+    asked(|list| lists::constant(file, index, name, list), constant)
+}
+
+/// Writes the normal form of a file to the front of `out`: its length. Where it is refused `out` is as
+/// it was; 27 has the length that is needed as its place.
+pub fn normalise(file: &[u8], out: &mut [u8]) -> Result<usize, Refusal> {
+    told(
+        |list| lists::normal(file, out, list),
+        |numbers| match *numbers {
+            [0, length, KEPT, KEPT, KEPT] => Some(Ok(length as usize)),
+            [3, number, place, KEPT, KEPT] => Some(Err(refusal(number, place)?)),
+            _ => None,
+        },
+    )
+}
+
+/// Writes the normal form of the union of two files to the front of `out`, likewise.
+pub fn link(first: &[u8], second: &[u8], out: &mut [u8]) -> Result<usize, (Which, Refusal)> {
+    told(
+        |list| lists::link(first, second, out, list),
+        |numbers| match *numbers {
+            [0, length, KEPT, KEPT, KEPT] => Some(Ok(length as usize)),
+            [3, which, number, place, KEPT] => Some(Err((file(which)?, refusal(number, place)?))),
+            _ => None,
+        },
+    )
+}
+
+// From numbers to enums.
+
+/// What a list holds before a call: numbers that the answer has no use for keep it.
+const KEPT: u64 = 0x5e5e_a1a1_0f0f_c3c3;
+
+type Numbers = [u64; ROOM];
+
+/// Makes a call and reads its answer. The library is proved to give one of those that are read.
+fn told<T>(call: impl FnOnce(&mut Numbers) -> i32, read: impl Fn(&Numbers) -> Option<T>) -> T {
+    let mut numbers = [KEPT; ROOM];
+    let returned = call(&mut numbers);
+    let answer = if returned == ANSWERED { read(&numbers) } else { None };
+    answer.unwrap_or_else(|| panic!("no answer of the library: {returned}, {numbers:x?}"))
+}
+
+/// Asks a question and reads what was found.
+fn asked<T>(
+    call: impl FnOnce(&mut Numbers) -> i32,
+    found: impl Fn(&Numbers) -> Option<T>,
+) -> Answer<T> {
+    told(call, |numbers| match *numbers {
+        [0, ..] => found(numbers).map(Answer::Found),
+        [1, KEPT, KEPT, KEPT, KEPT] => Some(Answer::None),
+        [2, index, KEPT, KEPT, KEPT] => Some(Answer::Undetermined(index as usize)),
+        [3, number, place, KEPT, KEPT] => Some(Answer::Refused(refusal(number, place)?)),
+        _ => None,
+    })
+}
+
+fn refusal(number: u64, place: u64) -> Option<Refusal> {
+    Some(Refusal { number: number.try_into().ok()?, place: place as usize })
+}
+
+fn interface(numbers: &Numbers) -> Option<usize> {
+    match *numbers {
+        [_, index, KEPT, KEPT, KEPT] => Some(index as usize),
+        _ => None,
+    }
+}
+
+fn method(numbers: &Numbers) -> Option<Method> {
+    let [_, owner, position, known, slot] = *numbers;
+    let slot = match known {
+        0 => Slot::Known(slot),
+        1 => Slot::Undetermined(slot as usize),
+        _ => return None,
+    };
+    Some(Method { owner: owner as usize, position: position as usize, slot })
+}
+
+fn constant(numbers: &Numbers) -> Option<Constant> {
+    let [_, kind, bits, KEPT, KEPT] = *numbers else { return None };
+    match kind {
+        1 => Some(Constant::I16(u16::try_from(bits).ok()? as i16)),
+        2 => Some(Constant::I32(u32::try_from(bits).ok()? as i32)),
+        5 => Some(Constant::U16(bits.try_into().ok()?)),
+        6 => Some(Constant::U32(bits.try_into().ok()?)),
+        _ => None,
+    }
+}
+
+fn file(which: u64) -> Option<Which> {
+    [Which::Link, Which::First, Which::Second].get(usize::try_from(which).ok()?).copied()
+}
