@@ -67,7 +67,13 @@ fn fetch(
     let name = tasks::argument(line, separator, k);
     let from = name.from;
     let end = name.end;
-    store::load(&line[from..end], tasks::in_batch(separator), kept, rows, store)
+    store::load(
+        &line[from..end],
+        tasks::in_batch(separator),
+        kept,
+        rows,
+        store,
+    )
 }
 
 // The second file, where the first is kept.

@@ -7,21 +7,14 @@ ghost use Rattle.failures.specs.Room.{room};
 ghost use Rattle.listed.specs.Rest.{LeftIn};
 
 // The first bytes on standard output.
-pub fn put(text: &[u8; 128], n: usize) -> bool
+pub fn put(head: &[u8; 128], n: usize) -> bool
     requires { ⌜ n ≤ 128 ⌝ }
 {
-    let all: &[u8] = text;
+    let all: &[u8] = head;
     io::write_all(1, &all[..n])
 }
 
-// What is left of a listing on standard output, buffer by buffer; whether all of it could be written.
-pub fn put_rest(file: &[u8], first: Rest, in_batch: bool) -> bool
-    requires { ⌜ ((text : List ℕ) × LeftIn «in_batch» (now file) first text) ⌝ }
-{
-    let mut out = io::large_buffer();
-    put_each(file, first, in_batch, &mut out)
-}
-
+// What is left of a listing, buffer by buffer; whether all of it could be written.
 fn put_each(file: &[u8], first: Rest, in_batch: bool, out: &mut [u8; 65536]) -> bool
     requires { ⌜ ((text : List ℕ) × LeftIn «in_batch» (now file) first text) ⌝ }
 {
@@ -38,14 +31,23 @@ fn put_each(file: &[u8], first: Rest, in_batch: bool, out: &mut [u8; 65536]) -> 
     true
 }
 
-// An `error` line on standard output, and what it says on standard error: `xpt: ` takes the place of `error `.
+pub fn put_rest(file: &[u8], rest: Rest, in_batch: bool) -> bool
+    requires { ⌜ ((text : List ℕ) × LeftIn «in_batch» (now file) rest text) ⌝ }
+{
+    let mut out = io::large_buffer();
+    put_each(file, rest, in_batch, &mut out)
+}
+
+// An `error` line on standard output, and what it says on standard error, where `xpt: ` takes the place of `error `.
 pub fn put_error(text: &mut [u8; ROOM], n: usize) -> bool
     requires { ⌜ n ≤ room ⌝ }
 {
-    let all: &[u8] = text;
-    let is_open = io::write_all(1, &all[..n]);
-    text::put_bytes(text, 1, b"xpt: ");
-    let all: &[u8] = text;
-    io::write_all(2, &all[1..n]);
+    let line: &[u8] = text;
+    let is_open = io::write_all(1, &line[..n]);
+    if 1 < n {
+        text::put_bytes(text, 1, b"xpt: ");
+        let line: &[u8] = text;
+        io::write_all(2, &line[1..n]);
+    }
     is_open
 }
