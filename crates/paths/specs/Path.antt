@@ -1,0 +1,31 @@
+-- Paths that the system can be asked about. The numbers of errors are those of errno.
+-- Assumes nothing.
+use mathlib.Core.Bool.{Bool}
+use mathlib.Core.List.{List}
+use Prim.Native.Nat.{ℕ}
+use lib.IntN.{pos}
+use lib.ListN.{length, getD, take, replicate}
+use lib.Seq.{sets}
+use Rattle.number.specs.Choice.{if_then_else_, _<?_, _=?_}
+use Rattle.number.specs.Scan.{some}
+use Rattle.paths.specs.declared.Judged.{Judged}
+use Rattle.paths.specs.declared.Judged.the-variants.{Path, Not}
+
+unfoldable pub isZeroAt : List ℕ → ℕ → Bool
+isZeroAt path i = getD path i 0 =? 0
+
+-- a byte of it is 0, where C would end it
+unfoldable pub hasZero : List ℕ → Bool
+hasZero path = some (isZeroAt path) (length path)
+
+-- 2: there is no such file; 36: the name is too long; 22: it is no name
+unfoldable pub judged : List ℕ → Judged
+judged path =
+    if length path =? 0 then Not (pos 2) else
+    if 4095 <? length path then Not (pos 36) else
+    if hasZero path then Not (pos 22) else
+    Path
+
+-- the first 4,095 bytes, and zeros behind: 4,096 together
+unfoldable pub endedOf : List ℕ → List ℕ
+endedOf path = sets (replicate 4096 0) 0 (take 4095 path)
