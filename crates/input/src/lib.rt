@@ -39,3 +39,8 @@ pub fn read_all(fd: i32, buf: &mut [u8]) -> Came
     }
     Came::To(end)
 }
+
+// Standard input failed; it is said on standard output, in place of an answer.
+pub fn say_failed() -> bool {
+    io::write_all(1, b"error standard input cannot be read\n")
+}
