@@ -2,21 +2,19 @@
 -- Assumes nothing.
 use mathlib.Core.Bool.{Bool}
 use Prim.Native.Nat.{ℕ, _+_, _/_, _%_}
-use lib.IntN.{ℤ, pos}
 use Rattle.number.specs.Choice.{if_then_else_, _=?_}
-use Rattle.signed.specs.Bits.{orZero}
-use Rattle.saving.specs.declared.standing.Seen.{Seen}
-use Rattle.saving.specs.declared.standing.Seen.the-variants as seen
-use Rattle.saving.specs.declared.standing.Leave.{Leave}
-use Rattle.saving.specs.declared.standing.Leave.the-variants.{Given, Denied}
-use Rattle.saving.specs.declared.standing.Stands.{Stands}
-use Rattle.saving.specs.declared.standing.Stands.the-variants as stands
-use Rattle.saving.specs.declared.standing.Decision.{Decision}
-use Rattle.saving.specs.declared.standing.Decision.the-variants as decide
+use Rattle.standing.specs.declared.Seen.{Seen}
+use Rattle.standing.specs.declared.Seen.the-variants as seen
+use Rattle.standing.specs.declared.Leave.{Leave}
+use Rattle.standing.specs.declared.Leave.the-variants.{Given, Denied}
+use Rattle.standing.specs.declared.Stands.{Stands}
+use Rattle.standing.specs.declared.Stands.the-variants as stands
+use Rattle.standing.specs.declared.Decision.{Decision}
+use Rattle.standing.specs.declared.Decision.the-variants as decide
 
 -- 2: there is no such file
-unfoldable pub failedBy : ℤ → Seen
-failedBy e = if orZero e =? 2 then seen.Missing else seen.Failed e
+unfoldable pub failedBy : ℕ → Seen
+failedBy e = if e =? 2 then seen.Missing else seen.Failed e
 
 -- the four bits of the mode that tell the kind: 8 is an ordinary file, 10 a symbolic link
 unfoldable pub isFile : ℕ → Bool
@@ -32,7 +30,7 @@ isShut mode = mode / 128 % 2 + mode / 16 % 2 + mode / 2 % 2 =? 0
 -- a read-only file is never replaced; 13: permission denied
 unfoldable pub ofFile : ℕ → Leave → Stands
 ofFile mode (Denied e) = stands.Barred e
-ofFile mode Given = if isShut mode then stands.Barred (pos 13) else stands.File (mode % 512)
+ofFile mode Given = if isShut mode then stands.Barred 13 else stands.File (mode % 512)
 
 -- what the link leads to
 unfoldable pub ofLink : Seen → Leave → Stands
@@ -49,10 +47,14 @@ standing (seen.Mode mode) led leave =
 standing seen.Missing led leave = stands.Nothing
 standing (seen.Failed e) led leave = stands.Barred e
 
+-- one of two, by whether an output is forced
+unfoldable pub ifForced : Bool → Decision → Decision → Decision
+ifForced forced one other = if forced then one else other
+
 -- what is there is replaced only where it is asked for, and only a file or a link
 unfoldable pub decision : Stands → Bool → Decision
-decision stands.Nothing forced = if forced then decide.Instead else decide.New
-decision (stands.File bits) forced = if forced then decide.Alike bits else decide.Taken
-decision stands.LooseLink forced = if forced then decide.Instead else decide.Taken
+decision stands.Nothing forced = ifForced forced decide.Instead decide.New
+decision (stands.File bits) forced = ifForced forced (decide.Alike bits) decide.Taken
+decision stands.LooseLink forced = ifForced forced decide.Instead decide.Taken
 decision stands.NoFile forced = decide.NoFile
 decision (stands.Barred e) forced = decide.Failed e

@@ -1,18 +1,18 @@
 // What stands at a path, as the system tells it, and what is then done with an output there. The system's answers come in as values.
 ghost use mathlib.Core.Path.{_≡_};
-ghost use Rattle.saving.specs.Standing.{isFile, isLink, isShut, failedBy, ofFile, ofLink, standing, decision};
+ghost use Rattle.standing.specs.Standing.{isFile, isLink, isShut, failedBy, ofFile, ofLink, standing, ifForced, decision};
 
 // What lstat or stat tells: the mode, that there is nothing, or errno's number.
 pub enum Seen {
     Mode(u32),
     Missing,
-    Failed(i32),
+    Failed(u32),
 }
 
 // What access tells: that the file may be written, or errno's number.
 pub enum Leave {
     Given,
-    Denied(i32),
+    Denied(u32),
 }
 
 // Nothing; a file that may be replaced, itself or through a link, with its permission bits; a link that leads to nothing; what is no
@@ -22,7 +22,7 @@ pub enum Stands {
     File(u32),
     LooseLink,
     NoFile,
-    Barred(i32),
+    Barred(u32),
 }
 
 // An output that is a new file, and only as long as its name is free; one that takes the place of what stands there, with the usual
@@ -33,14 +33,14 @@ pub enum Decision {
     Alike(u32),
     Taken,
     NoFile,
-    Failed(i32),
+    Failed(u32),
 }
 
 // What a failed lstat or stat tells.
-pub fn failed_by(error: i32) -> Seen
+pub fn failed_by(error: u32) -> Seen
     ensures { λ r. ⌜ r ≡ failedBy error ⌝ }
 {
-    if signed::unsigned(error) == 2 {
+    if error == 2 {
         return Seen::Missing;
     }
     Seen::Failed(error)
@@ -72,7 +72,7 @@ fn of_file(mode: u32, leave: Leave) -> Stands
         Leave::Denied(error) => Stands::Barred(error),
         Leave::Given => {
             if is_shut(mode) {
-                return Stands::Barred(libc::EACCES);
+                return Stands::Barred(13);
             }
             Stands::File(mode % 512)
         }
@@ -115,18 +115,18 @@ pub fn standing_of(own: Seen, led: Seen, leave: Leave) -> Stands
 }
 
 // One of two decisions, by whether an output is forced.
-fn if_forced(is_forced: bool, yes: Decision, no: Decision) -> Decision
-    ensures { λ r. ⌜ r ≡ (if is_forced then yes else no) ⌝ }
+fn if_forced(is_forced: bool, one: Decision, other: Decision) -> Decision
+    ensures { λ r. ⌜ r ≡ ifForced «is_forced» one other ⌝ }
 {
     if is_forced {
-        return yes;
+        return one;
     }
-    no
+    other
 }
 
 // What is done with an output.
 pub fn decide(there: Stands, is_forced: bool) -> Decision
-    ensures { λ r. ⌜ r ≡ decision there is_forced ⌝ }
+    ensures { λ r. ⌜ r ≡ decision there «is_forced» ⌝ }
 {
     match there {
         Stands::Nothing => if_forced(is_forced, Decision::Instead, Decision::New),
