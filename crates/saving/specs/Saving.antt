@@ -1,14 +1,12 @@
 -- What is known of a saved output, whatever the system does.
 -- Assumes nothing.
 use mathlib.Core.Path.{_≡_}
-use mathlib.Core.List.{List}
-use Prim.Native.Nat.{ℕ}
-use lib.IntN.{ℤ}
-use Rattle.paths.specs.declared.Judged.the-variants.{Not}
-use Rattle.paths.specs.Path.{judged}
+use Rattle.paths.specs.declared.Judged.{Judged}
+use Rattle.paths.specs.declared.Judged.the-variants.{Path, Not}
 use Rattle.saving.specs.declared.Saved.{Saved}
 use Rattle.saving.specs.declared.Saved.the-variants.{Failed}
 
--- no file is written by a path that is none
-abbrev pub NoPath : List ℕ → Saved → Type 0
-NoPath path r = (e : ℤ) → judged path ≡ Not e → r ≡ Failed e
+-- nothing is written by a path that is none
+abbrev pub Told : Judged → Saved → Type 0
+Told Path r = Unit {0}
+Told (Not e) r = r ≡ Failed e

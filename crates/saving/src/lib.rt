@@ -1,15 +1,14 @@
 // An output put in place whole: written to a temporary file in the same folder, then renamed.
-pub mod standing;
-
 use paths::Judged;
 use standing::Decision;
 use standing::Leave;
 use standing::Seen;
 use standing::Stands;
 ghost use mathlib.Core.Path.{_≡_};
-ghost use Prim.Native.Nat.{_≤_};
+ghost use Prim.Native.Nat.{_≤_, _<_};
 ghost use Rattle.libc.specs.Io.{Ended};
-ghost use Rattle.saving.specs.Saving.{NoPath};
+ghost use Rattle.paths.specs.Path.{judged};
+ghost use Rattle.saving.specs.Saving.{Told};
 
 // Written; left as it was, since it is there and not to be replaced, since it is no ordinary file, or by errno's number.
 pub enum Saved {
@@ -25,51 +24,26 @@ struct Made {
     length: usize,
 }
 
-// Room for what the system tells of a file.
-fn unknown() -> libc::types::stat {
-    let never = libc::types::timespec {
-        tv_sec: 0,
-        tv_nsec: 0,
-    };
-    libc::types::stat {
-        st_dev: 0,
-        st_ino: 0,
-        st_nlink: 0,
-        st_mode: 0,
-        st_uid: 0,
-        st_gid: 0,
-        __pad: 0,
-        st_rdev: 0,
-        st_size: 0,
-        st_blksize: 0,
-        st_blocks: 0,
-        st_atim: never,
-        st_mtim: never,
-        st_ctim: never,
-        __unused: [0; 3],
+// What errno says, as a number; an error of the device where it says nothing.
+fn reason() -> u32
+    ensures { λ r. ⌜ r < 2147483648 ⌝ }
+{
+    let error = signed::unsigned(os::errno());
+    if error == 0 {
+        return 5;
     }
+    if 2147483647 < error {
+        return 5;
+    }
+    error as u32
 }
 
-// The name itself.
-fn see_own(path: &[u8; 4096]) -> Seen
-    requires { ⌜ Ended (now path) ⌝ }
-{
-    let mut told = unknown();
-    if libc::lstat(path, &mut told) < 0 {
-        return standing::failed_by(os::errno());
+// What a mode tells; 0 is that of no file.
+fn seen(mode: u32) -> Seen {
+    if mode == 0 {
+        return standing::failed_by(reason());
     }
-    Seen::Mode(told.st_mode)
-}
-
-// What the name leads to.
-fn see_led(path: &[u8; 4096]) -> Seen
-    requires { ⌜ Ended (now path) ⌝ }
-{
-    let mut told = unknown();
-    if libc::stat(path, &mut told) < 0 {
-        return standing::failed_by(os::errno());
-    }
-    Seen::Mode(told.st_mode)
+    Seen::Mode(mode)
 }
 
 // Whether what the name leads to may be written.
@@ -77,7 +51,7 @@ fn see_leave(path: &[u8; 4096]) -> Leave
     requires { ⌜ Ended (now path) ⌝ }
 {
     if libc::access(path, libc::W_OK) < 0 {
-        return Leave::Denied(os::errno());
+        return Leave::Denied(reason());
     }
     Leave::Given
 }
@@ -85,8 +59,8 @@ fn see_leave(path: &[u8; 4096]) -> Leave
 // What stands at the path.
 fn look(path: &[u8]) -> Stands {
     let all = paths::ended(path);
-    let own = see_own(&all);
-    let led = see_led(&all);
+    let own = seen(modes::own_mode(&all));
+    let led = seen(modes::led_mode(&all));
     let leave = see_leave(&all);
     standing::standing_of(own, led, leave)
 }
@@ -130,13 +104,16 @@ fn make_beside(path: &[u8], name: &mut [u8; 4096]) -> Made
     Made { fd: -1, length: 0 }
 }
 
-// What errno says; an error of the device where it says nothing.
 fn failure() -> Saved {
-    let error = os::errno();
-    if error == 0 {
+    Saved::Failed(reason() as i32)
+}
+
+// A reason of the system; an error of the device where it is no number of errno's.
+fn failed(error: u32) -> Saved {
+    if 2147483647 < error {
         return Saved::Failed(libc::EIO);
     }
-    Saved::Failed(error)
+    Saved::Failed(error as i32)
 }
 
 // The permissions of the file whose place it takes; the usual ones stay where there was none.
@@ -253,13 +230,13 @@ fn carry_out(path: &[u8], bytes: &[u8], how: Decision) -> Saved {
         Decision::Alike(_) => save_as(path, bytes, how),
         Decision::Taken => Saved::Taken,
         Decision::NoFile => Saved::NoFile,
-        Decision::Failed(error) => Saved::Failed(error),
+        Decision::Failed(error) => failed(error),
     }
 }
 
 // The file at `path` has these bytes afterwards, or is as it was.
 pub fn save(path: &[u8], bytes: &[u8], is_forced: bool) -> Saved
-    ensures { λ r. ⌜ NoPath (now (path .entry)) r ⌝ }
+    ensures { λ r. ⌜ Told (judged (now (path .entry))) r ⌝ }
 {
     if let Judged::Not(error) = paths::judge(path) {
         return Saved::Failed(error);
