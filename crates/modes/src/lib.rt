@@ -34,12 +34,3 @@ pub fn own_mode(path: &[u8; 4096]) -> u32
     libc::lstat(path, &mut told);
     told.st_mode
 }
-
-// Of what the name leads to.
-pub fn led_mode(path: &[u8; 4096]) -> u32
-    requires { ⌜ Ended (now path) ⌝ }
-{
-    let mut told = unknown();
-    libc::stat(path, &mut told);
-    told.st_mode
-}

@@ -1,12 +1,8 @@
 // An output put in place whole: written to a temporary file in the same folder, then renamed.
 use paths::Judged;
 use standing::Decision;
-use standing::Leave;
-use standing::Seen;
-use standing::Stands;
 ghost use mathlib.Core.Path.{_≡_};
-ghost use Prim.Native.Nat.{_≤_, _<_};
-ghost use Rattle.libc.specs.Io.{Ended};
+ghost use Prim.Native.Nat.{_≤_};
 ghost use Rattle.paths.specs.Path.{judged};
 ghost use Rattle.saving.specs.Saving.{Told};
 
@@ -22,47 +18,6 @@ pub enum Saved {
 struct Made {
     fd: i32,
     length: usize,
-}
-
-// What errno says, as a number; an error of the device where it says nothing.
-fn reason() -> u32
-    ensures { λ r. ⌜ r < 2147483648 ⌝ }
-{
-    let error = signed::unsigned(os::errno());
-    if error == 0 {
-        return 5;
-    }
-    if 2147483647 < error {
-        return 5;
-    }
-    error as u32
-}
-
-// What a mode tells; 0 is that of no file.
-fn seen(mode: u32) -> Seen {
-    if mode == 0 {
-        return standing::failed_by(reason());
-    }
-    Seen::Mode(mode)
-}
-
-// Whether what the name leads to may be written.
-fn see_leave(path: &[u8; 4096]) -> Leave
-    requires { ⌜ Ended (now path) ⌝ }
-{
-    if libc::access(path, libc::W_OK) < 0 {
-        return Leave::Denied(reason());
-    }
-    Leave::Given
-}
-
-// What stands at the path.
-fn look(path: &[u8]) -> Stands {
-    let all = paths::ended(path);
-    let own = seen(modes::own_mode(&all));
-    let led = seen(modes::led_mode(&all));
-    let leave = see_leave(&all);
-    standing::standing_of(own, led, leave)
 }
 
 // The number of this process, for a name that no other run takes.
@@ -105,7 +60,7 @@ fn make_beside(path: &[u8], name: &mut [u8; 4096]) -> Made
 }
 
 fn failure() -> Saved {
-    Saved::Failed(reason() as i32)
+    Saved::Failed(looking::reason() as i32)
 }
 
 // A reason of the system; an error of the device where it is no number of errno's.
@@ -241,5 +196,5 @@ pub fn save(path: &[u8], bytes: &[u8], is_forced: bool) -> Saved
     if let Judged::Not(error) = paths::judge(path) {
         return Saved::Failed(error);
     }
-    carry_out(path, bytes, standing::decide(look(path), is_forced))
+    carry_out(path, bytes, standing::decide(looking::look(path), is_forced))
 }

@@ -32,7 +32,7 @@ unfoldable pub ofFile : ℕ → Leave → Stands
 ofFile mode (Denied e) = stands.Barred e
 ofFile mode Given = if isShut mode then stands.Barred 13 else stands.File (mode % 512)
 
--- what the link leads to
+-- what the link leads to; another link, such as that of a descriptor, is no file
 unfoldable pub ofLink : Seen → Leave → Stands
 ofLink (seen.Mode mode) leave = if isFile mode then ofFile mode leave else stands.NoFile
 ofLink seen.Missing leave = stands.LooseLink

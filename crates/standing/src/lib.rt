@@ -79,7 +79,7 @@ fn of_file(mode: u32, leave: Leave) -> Stands
     }
 }
 
-// A symbolic link, by what it leads to.
+// A symbolic link, by what stands where it leads.
 fn of_link(led: Seen, leave: Leave) -> Stands
     ensures { λ r. ⌜ r ≡ ofLink led leave ⌝ }
 {
