@@ -196,5 +196,9 @@ pub fn save(path: &[u8], bytes: &[u8], is_forced: bool) -> Saved
     if let Judged::Not(error) = paths::judge(path) {
         return Saved::Failed(error);
     }
-    carry_out(path, bytes, standing::decide(looking::look(path), is_forced))
+    carry_out(
+        path,
+        bytes,
+        standing::decide(looking::look(path), is_forced),
+    )
 }
