@@ -4,7 +4,7 @@ use standing::Decision;
 ghost use mathlib.Core.Path.{_≡_};
 ghost use Prim.Native.Nat.{_≤_};
 ghost use Rattle.paths.specs.Path.{judged};
-ghost use Rattle.saving.specs.Saving.{Told};
+ghost use Rattle.saving.specs.Saving.{Told, Carried};
 
 // Written; left as it was, since it is there and not to be replaced, since it is no ordinary file, or by errno's number.
 pub enum Saved {
@@ -178,7 +178,9 @@ fn save_as(path: &[u8], bytes: &[u8], how: Decision) -> Saved {
 }
 
 // An output as it was decided.
-fn carry_out(path: &[u8], bytes: &[u8], how: Decision) -> Saved {
+fn carry_out(path: &[u8], bytes: &[u8], how: Decision) -> Saved
+    ensures { λ r. ⌜ Carried how r ⌝ }
+{
     match how {
         Decision::New => save_as(path, bytes, how),
         Decision::Instead => save_as(path, bytes, how),
