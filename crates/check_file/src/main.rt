@@ -5,6 +5,7 @@ ghost use lib.ListN.{length};
 ghost use lib.Seq.{sets};
 ghost use Rattle.reader.specs.Reader.{checkOf};
 ghost use Rattle.text.specs.Line.{lineOf};
+use input::Came;
 use number::FILE_LIMIT;
 
 // One byte more than the largest typelib has, so that a longer input is refused for its length.
@@ -24,11 +25,18 @@ fn report(file: &[u8], line: &mut [u8; 64]) {
     io::write_all(1, &all[..n]);
 }
 
+// A failed read is no end of the input: nothing is judged then.
 fn run(buf: &mut [u8; ROOM]) {
-    let n = io::read_full(0, buf);
-    let all: &[u8] = buf;
-    let mut line = [0u8; 64];
-    report(&all[..n], &mut line);
+    match input::read_all(0, buf) {
+        Came::To(n) => {
+            let all: &[u8] = buf;
+            let mut line = [0u8; 64];
+            report(&all[..n], &mut line);
+        }
+        Came::Failed(_) => {
+            input::say_failed();
+        }
+    }
 }
 
 fn main() {

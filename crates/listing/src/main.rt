@@ -1,4 +1,5 @@
 // Lists the typelib on standard input.
+use input::Came;
 use lines::Cursor;
 use reader::Layout;
 ghost use mathlib.Core.Path.{_≡_};
@@ -41,12 +42,19 @@ fn report(file: &[u8], line: &mut [u8; 64], out: &mut [u8; 65536])
 }
 
 // Room for one byte more than is listed, so that a longer input is told from one of 65,536 bytes.
+// A failed read is no end of the input: nothing is listed then.
 fn run(buf: &mut [u8; 65537]) {
-    let n = io::read_full(0, buf);
-    let all: &[u8] = buf;
-    let mut line = [0u8; 64];
-    let mut out = [0u8; 65536];
-    report(&all[..n], &mut line, &mut out);
+    match input::read_all(0, buf) {
+        Came::To(n) => {
+            let all: &[u8] = buf;
+            let mut line = [0u8; 64];
+            let mut out = [0u8; 65536];
+            report(&all[..n], &mut line, &mut out);
+        }
+        Came::Failed(_) => {
+            input::say_failed();
+        }
+    }
 }
 
 fn main() {

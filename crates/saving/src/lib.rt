@@ -1,11 +1,16 @@
 // An output put in place whole: written to a temporary file in the same folder, then renamed.
+use paths::Judged;
+use standing::Decision;
 ghost use mathlib.Core.Path.{_≡_};
 ghost use Prim.Native.Nat.{_≤_};
-ghost use Rattle.saving.specs.Text.{startsWith, isDevice};
+ghost use Rattle.paths.specs.Path.{judged};
+ghost use Rattle.saving.specs.Saving.{Told, Carried};
 
-// errno's number where it failed.
+// Written; left as it was, since it is there and not to be replaced, since it is no ordinary file, or by errno's number.
 pub enum Saved {
     Done,
+    Taken,
+    NoFile,
     Failed(i32),
 }
 
@@ -20,13 +25,13 @@ fn process() -> u64 {
     signed::unsigned(libc::getpid())
 }
 
-// The k-th name beside the file at `path`; 0 where the folder's name is too long.
+// The k-th name beside the file at `path`; 4,096 bytes, which are no path, where the folder's name is too long.
 fn name_beside(path: &[u8], k: u64, name: &mut [u8; 4096]) -> usize
     ensures { λ r. ⌜ r ≤ 4096 ⌝ }
 {
     let n = kept::last_part(path);
     if 4000 < n {
-        return 0;
+        return 4096;
     }
     let folder = text::put_bytes(name, 0, &path[..n]);
     let stem = text::put_labelled(name, folder, b".xpt-", process());
@@ -54,17 +59,31 @@ fn make_beside(path: &[u8], name: &mut [u8; 4096]) -> Made
     Made { fd: -1, length: 0 }
 }
 
-// What errno says; an error of the device where it says nothing.
 fn failure() -> Saved {
-    let error = os::errno();
-    if error == 0 {
+    Saved::Failed(looking::reason() as i32)
+}
+
+// A reason of the system; an error of the device where it is no number of errno's.
+fn failed(error: u32) -> Saved {
+    if 2147483647 < error {
         return Saved::Failed(libc::EIO);
     }
-    Saved::Failed(error)
+    Saved::Failed(error as i32)
+}
+
+// The permissions of the file whose place it takes; the usual ones stay where there was none.
+fn set_mode(fd: i32, how: Decision) -> bool {
+    match how {
+        Decision::Alike(bits) => 0 <= libc::fchmod(fd, bits),
+        _ => true,
+    }
 }
 
 // All the bytes, down to the device.
-fn write_out(fd: i32, bytes: &[u8]) -> Saved {
+fn write_out(fd: i32, bytes: &[u8], how: Decision) -> Saved {
+    if !set_mode(fd, how) {
+        return failure();
+    }
     if !io::write_all(fd, bytes) {
         return failure();
     }
@@ -74,31 +93,64 @@ fn write_out(fd: i32, bytes: &[u8]) -> Saved {
     Saved::Done
 }
 
-// All the bytes, and the descriptor closed.
-fn write_and_close(fd: i32, bytes: &[u8]) -> Saved {
-    let written = write_out(fd, bytes);
+// The descriptor closed, after what was done with it.
+fn close_after(fd: i32, written: Saved) -> Saved {
     let closed = libc::close(fd);
-    match written {
-        Saved::Failed(error) => Saved::Failed(error),
-        Saved::Done => {
-            if closed < 0 {
-                return failure();
-            }
-            Saved::Done
-        }
+    let Saved::Done = written else {
+        return written;
+    };
+    if closed < 0 {
+        return failure();
     }
+    Saved::Done
 }
 
-// The temporary file takes the place of the one at `path`.
-fn put_in_place(name: &[u8], path: &[u8]) -> Saved {
+// A new file, empty, at `path`, where the name is still free.
+fn claim(path: &[u8]) -> Saved {
+    let fd = os::create(path);
+    if 0 <= fd {
+        libc::close(fd);
+        return Saved::Done;
+    }
+    if os::errno() == libc::EEXIST {
+        return Saved::Taken;
+    }
+    failure()
+}
+
+// The temporary file takes the place of what stands at `path`.
+fn put_over(name: &[u8], path: &[u8]) -> Saved {
     if os::rename(name, path) < 0 {
         return failure();
     }
     Saved::Done
 }
 
+// The temporary file takes a name that is free. There is no call that renames only where a name is free, so it is claimed first: of two
+// runs one has it. One that is killed between the two calls leaves an empty file.
+fn put_new(name: &[u8], path: &[u8]) -> Saved {
+    let claimed = claim(path);
+    let Saved::Done = claimed else {
+        return claimed;
+    };
+    let put = put_over(name, path);
+    let Saved::Done = put else {
+        os::unlink(path);
+        return put;
+    };
+    put
+}
+
+// The temporary file, written, is put in place.
+fn put_in_place(name: &[u8], path: &[u8], how: Decision) -> Saved {
+    match how {
+        Decision::New => put_new(name, path),
+        _ => put_over(name, path),
+    }
+}
+
 // The temporary file, whose name is made in `name`, written and put in place, or removed.
-fn save_by(path: &[u8], bytes: &[u8], name: &mut [u8; 4096]) -> Saved {
+fn save_by(path: &[u8], bytes: &[u8], how: Decision, name: &mut [u8; 4096]) -> Saved {
     let made = make_beside(path, name);
     let fd = made.fd;
     let length = made.length;
@@ -107,39 +159,48 @@ fn save_by(path: &[u8], bytes: &[u8], name: &mut [u8; 4096]) -> Saved {
     }
     let all: &[u8] = name;
     let temporary = &all[..length];
-    let saved = match write_and_close(fd, bytes) {
-        Saved::Done => put_in_place(temporary, path),
-        Saved::Failed(error) => Saved::Failed(error),
+    let written = close_after(fd, write_out(fd, bytes, how));
+    let saved = match written {
+        Saved::Done => put_in_place(temporary, path, how),
+        _ => written,
     };
-    if let Saved::Failed(_) = saved {
+    let Saved::Done = saved else {
         os::unlink(temporary);
-    }
+        return saved;
+    };
     saved
 }
 
-// The file at `path` has these bytes afterwards, or is as it was.
-pub fn save(path: &[u8], bytes: &[u8]) -> Saved {
+// An output that is to be written.
+fn save_as(path: &[u8], bytes: &[u8], how: Decision) -> Saved {
     let mut name = io::buffer();
-    save_by(path, bytes, &mut name)
+    save_by(path, bytes, how, &mut name)
 }
 
-// Whether the path starts so.
-fn starts_with(path: &[u8], start: &[u8]) -> bool
-    ensures { λ r. ⌜ r ≡ startsWith (now (path .entry)) (now (start .entry)) ⌝ }
+// An output as it was decided.
+fn carry_out(path: &[u8], bytes: &[u8], how: Decision) -> Saved
+    ensures { λ r. ⌜ Carried how r ⌝ }
 {
-    let n = start.len();
-    if path.len() < n {
-        return false;
+    match how {
+        Decision::New => save_as(path, bytes, how),
+        Decision::Instead => save_as(path, bytes, how),
+        Decision::Alike(_) => save_as(path, bytes, how),
+        Decision::Taken => Saved::Taken,
+        Decision::NoFile => Saved::NoFile,
+        Decision::Failed(error) => failed(error),
     }
-    words::is_same(&path[..n], start)
 }
 
-// A rename there would replace a device.
-pub fn is_device(path: &[u8]) -> bool
-    ensures { λ r. ⌜ r ≡ isDevice (now (path .entry)) ⌝ }
+// The file at `path` has these bytes afterwards, or is as it was.
+pub fn save(path: &[u8], bytes: &[u8], is_forced: bool) -> Saved
+    ensures { λ r. ⌜ Told (judged (now (path .entry))) r ⌝ }
 {
-    if starts_with(path, b"/dev/") {
-        return true;
+    if let Judged::Not(error) = paths::judge(path) {
+        return Saved::Failed(error);
     }
-    starts_with(path, b"/proc/")
+    carry_out(
+        path,
+        bytes,
+        standing::decide(looking::look(path), is_forced),
+    )
 }
