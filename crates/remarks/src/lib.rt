@@ -41,16 +41,22 @@ fn faulty_word(question: Question, name: &[u8]) -> u8
     }
 }
 
-// Why a file was refused.
-pub fn refused(name: &[u8], file: &[u8], why: Refusal, text: &mut [u8; ROOM])
+// Why a file was refused, with room for the key of the interface that it is of.
+fn refused_by(name: &[u8], file: &[u8], why: Refusal, key: &mut [u8; 512], text: &mut [u8; ROOM])
     requires { ⌜ length (now name) ≤ wordLimit ⌝ }
 {
     let fault = faults::fault_of(file, why);
-    let mut key = [0u8; 512];
-    let n = faults::key_of(file, fault.entry, &mut key);
-    let all: &[u8] = &key;
+    let n = faults::key_of(file, fault.entry, key);
+    let all: &[u8] = key;
     let end = reasons::refused(name, why, fault.rule, &all[..n], text);
     put(text, end);
+}
+
+pub fn refused(name: &[u8], file: &[u8], why: Refusal, text: &mut [u8; ROOM])
+    requires { ⌜ length (now name) ≤ wordLimit ⌝ }
+{
+    let mut key = [0u8; 512];
+    refused_by(name, file, why, &mut key, text);
 }
 
 // Why a question about a file was refused, where the file is accepted; its own words come after the file's.
@@ -62,14 +68,27 @@ pub fn asked(name: &[u8], question: Question, word: &[u8], text: &mut [u8; ROOM]
 }
 
 // Why a link was refused; the place of 21 to 24 counts interfaces of the first file.
+fn united_by(
+    first: &[u8],
+    second: &[u8],
+    file: &[u8],
+    why: Refusal,
+    key: &mut [u8; 512],
+    text: &mut [u8; ROOM],
+)
+    requires { ⌜ length (now first) + length (now second) ≤ wordLimit ⌝ }
+{
+    let n = faults::key_of(file, why.place, key);
+    let all: &[u8] = key;
+    let end = reasons::united(first, second, why, &all[..n], text);
+    put(text, end);
+}
+
 pub fn united(first: &[u8], second: &[u8], file: &[u8], why: Refusal, text: &mut [u8; ROOM])
     requires { ⌜ length (now first) + length (now second) ≤ wordLimit ⌝ }
 {
     let mut key = [0u8; 512];
-    let n = faults::key_of(file, why.place, &mut key);
-    let all: &[u8] = &key;
-    let end = reasons::united(first, second, why, &all[..n], text);
-    put(text, end);
+    united_by(first, second, file, why, &mut key, text);
 }
 
 // What the line on standard output says, which begins with `error `, of the file of this name, or of none.

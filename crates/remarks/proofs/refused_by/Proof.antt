@@ -1,8 +1,8 @@
 use borrow.Author.Needs.{needs}
-use Rattle.remarks.proofs.refused.Statement.{statement}
-use Rattle.remarks.proofs.refused.Tie as tie
-use Rattle.remarks.proofs.refused.Reads as reads
-use Rattle.remarks.proofs.refused.Lts as lts
+use Rattle.remarks.proofs.refused_by.Statement.{statement}
+use Rattle.remarks.proofs.refused_by.Tie as tie
+use Rattle.remarks.proofs.refused_by.Reads as reads
+use Rattle.remarks.proofs.refused_by.Lts as lts
 use Rattle.faults.proofs.fault_of.Reads as fault-of-reads
 use Rattle.faults.proofs.key_of.Reads as key-of-reads
 use Rattle.reasons.proofs.refused.Reads as refused-reads
@@ -12,23 +12,19 @@ use Rattle.remarks.proofs.put.Reads as put-reads
 fault-of-requires : tie.Need-fault-of-requires
 fault-of-requires c κs = search needs
 
--- src/lib.rt:50:9
+-- src/lib.rt:49:9
 key-of-requires : tie.Need-key-of-requires
 key-of-requires c κs = search needs
 
--- src/lib.rt:51:9
-slice-aggregate-all : tie.Need-slice-aggregate-all
-slice-aggregate-all c = ?
-
--- src/lib.rt:52:55
+-- src/lib.rt:51:55
 slice-aggregate-refused : tie.Need-slice-aggregate-refused
 slice-aggregate-refused c = ?
 
--- src/lib.rt:52:9
+-- src/lib.rt:51:9
 refused-requires : tie.Need-refused-requires
 refused-requires c κs = ?
 
--- src/lib.rt:53:5
+-- src/lib.rt:52:5
 put-requires : tie.Need-put-requires
 put-requires c κs = search needs
 
@@ -36,13 +32,12 @@ put-requires c κs = search needs
 returns : tie.Need-returns
 returns c = search needs
 
-pub refused-spec : {M : Type 1} → statement M
-refused-spec =
+pub refused-by-spec : {M : Type 1} → statement M
+refused-by-spec =
     tie.close
     (tie.spec
     fault-of-requires
     key-of-requires
-    slice-aggregate-all
     slice-aggregate-refused
     refused-requires
     put-requires
