@@ -14,7 +14,6 @@ use Rattle.words.specs.declared.Span.{Span}
 use Rattle.kept.specs.declared.Kept.{Kept}
 use Rattle.kept.specs.Names.{forgottenState, rowOf, rowAdded, oneMore}
 use Rattle.kept.specs.Table.{Tidy}
-use Rattle.kept.specs.Room.{storeBytes, Roomy}
 use Rattle.kept.specs.Files.{isFound}
 use Rattle.kept.proofs.AddLaws.{keeps-files, added-found, added-file, added-keeps}
 use Rattle.kept.proofs.FileLaws.{found-yes, found-no}
@@ -85,10 +84,13 @@ module _ (name : List ℕ) (kept : Kept) (rows store written text : List ℕ) (f
         record {
           tidy = t;
           keeps = added-keeps name state file kept rows store text h tidy used-stays;
-          file = (refl, record {
-            found = added-found name state file kept rows store text h tidy used-stays q name-stands lost;
-            bytes = λ _. added-file name state file kept rows store text h tidy used-stays q name-stands lost ∙ ap (λ (i : ℕ). part text i end) w;
-          });
+          file = (
+            refl,
+            record {
+              found = added-found name state file kept rows store text h tidy used-stays q name-stands lost;
+              bytes = λ _. added-file name state file kept rows store text h tidy used-stays q name-stands lost ∙ ap (λ (i : ℕ). part text i end) w;
+            },
+          );
           few = omega arith;
           used = omega arith;
         }

@@ -1,43 +1,29 @@
-use borrow.Author.Needs.{needs}
+-- `store::load` meets its contract.
+-- Assumes nothing.
+use Rattle.number.proofs.Tools.{refl, sym, _∙_, needs}
+use Rattle.store.proofs.LoadLaws.{same-kept, is-there, not-there, loads-as}
 use Rattle.store.proofs.load.Statement.{statement}
 use Rattle.store.proofs.load.Tie as tie
-use Rattle.store.proofs.load.Reads as reads
-use Rattle.store.proofs.load.Lts as lts
-use Rattle.kept.proofs.row_of.Reads as row-of-reads
-use Rattle.store.proofs.is_barred.Reads as is-barred-reads
-use Rattle.store.proofs.open_and_read.Reads as open-and-read-reads
 
--- src/lib.rt:167:8
-is-barred-requires : tie.Need-is-barred-requires
-is-barred-requires c κs = search needs
-
--- src/lib.rt:168:9
 returns : tie.Need-returns
-returns c = ?
+returns c = same-kept _ _ _ _ _ (c .before .before .before .pre .0) _ _ refl (sym (c .before .is-barred .ensures) ∙ c .if1 .taken)
 
--- src/lib.rt:173:8
-row-of-requires : tie.Need-row-of-requires
-row-of-requires c κs = search needs
-
--- src/lib.rt:174:9
 returns-2 : tie.Need-returns-2
-returns-2 c = ?
+returns-2 c =
+    let r = c .before .before in
+    let e = r .before .before .before in
+    is-there _ _ _ _ _ (e .before .before .before .pre .0) (sym (e .before .is-barred .ensures) ∙ e .if1 .left) (r .row-of .ensures .1) (c .if2 .taken)
 
--- src/lib.rt:179:5
 open-and-read-requires : tie.Need-open-and-read-requires
-open-and-read-requires c κs = ?
+open-and-read-requires c κs =
+    let r = c .before .before .before .before in
+    let s = r .before .before .before .before .before .before in
+    (s .pre .0, (s .pre .1, not-there _ _ _ _ (r .row-of .ensures .1) (r .row-of .ensures .0) (c .before .before .if2 .left)))
 
--- src/lib.rt:157:1
 returns-3 : tie.Need-returns-3
-returns-3 c = ?
+returns-3 c =
+    let e = c .before .before .before .before .before .before .before .before in
+    loads-as _ _ _ _ _ _ _ (sym (e .if1 .left) ∙ e .before .is-barred .ensures) (c .open-and-read .ensures)
 
 pub load-spec : {M : Type 1} → statement M
-load-spec =
-    tie.close
-    (tie.spec
-    is-barred-requires
-    returns
-    row-of-requires
-    returns-2
-    open-and-read-requires
-    returns-3)
+load-spec = tie.close (tie.spec (λ c κs. search needs) returns (λ c κs. search needs) returns-2 open-and-read-requires returns-3)

@@ -1,7 +1,7 @@
 -- `store::read_from` meets its contract. The loop's invariant: what was read ends between `from` and `most`, and what stands before `from` is as it was. The
 -- measure is the room that is left.
 -- Assumes nothing.
-use Rattle.number.proofs.Tools.{_≡_, refl, sym, _∙_, subst, _+_, _-_, _≤_, arith, needs, take}
+use Rattle.number.proofs.Tools.{_≡_, refl, sym, subst, _+_, _-_, _≤_, arith, needs, take}
 use Rattle.store.specs.Loading.{EndsIn}
 use Rattle.store.proofs.LoadLaws.{stays-before}
 use Rattle.store.proofs.read_from.Statement.{statement}
