@@ -15,7 +15,7 @@ use Rattle.kept.specs.declared.Kept.{Kept}
 use Rattle.kept.specs.Names.{forgottenState, rowOf, rowAdded, oneMore}
 use Rattle.kept.specs.Table.{Tidy}
 use Rattle.kept.specs.Files.{isFound}
-use Rattle.kept.proofs.AddLaws.{keeps-files, added-found, added-file, added-keeps}
+use Rattle.kept.proofs.AddLaws.{keeps-files, still-lost, added-found, added-file, added-others, added-keeps}
 use Rattle.kept.proofs.FileLaws.{found-yes, found-no}
 use Rattle.store.specs.Loading.{Answers, Loads}
 use Rattle.store.specs.declared.Loaded.{Loaded}
@@ -33,6 +33,7 @@ module _ (barred : Bool) (name : List ℕ) (kept : Kept) (rows store : List ℕ)
   same-kept text file e a = record {
     tidy = tidy;
     keeps = keeps-files kept rows store rows text tidy (λ i h. refl) e kept (omega arith);
+    others = λ other _ lost. still-lost kept rows store rows text tidy (λ i h. refl) e other kept (omega arith) (λ h. absurd (omega arith)) lost;
     file = a;
     few = omega arith;
     used = omega arith;
@@ -84,6 +85,7 @@ module _ (name : List ℕ) (kept : Kept) (rows store written text : List ℕ) (f
         record {
           tidy = t;
           keeps = added-keeps name state file kept rows store text h tidy used-stays;
+          others = added-others name state file kept rows store text h tidy used-stays name-stands;
           file = (
             refl,
             record {
