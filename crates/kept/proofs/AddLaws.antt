@@ -4,6 +4,7 @@
 use mathlib.Core.Path.{_≡_, refl, sym, ap, _∙_}
 use mathlib.Core.Bool.{true, false}
 use mathlib.Core.List.{List}
+use mathlib.Core.Logic.{inl, inr}
 use Prim.Native.Nat.{ℕ, _+_, _*_, _≤_, _<_}
 use native.Mathlib.Omega.{arith}
 use lib.ListN.{length, getD, take, drop}
@@ -11,7 +12,7 @@ use lib.Seq.{take-take}
 use Rattle.number.specs.Scan.{scan}
 use Rattle.number.specs.Part.{part}
 use Rattle.number.proofs.Choice.{no-eq}
-use Rattle.number.proofs.Scans.{scan-found, scan-before, scan-is}
+use Rattle.number.proofs.Scans.{below, scan-found, scan-before, scan-is, some-no, none-found}
 use Rattle.key.proofs.Orders.{same-word}
 use Rattle.words.specs.declared.Span.{Span}
 use Rattle.kept.specs.declared.Kept.{Kept}
@@ -20,9 +21,10 @@ use Rattle.kept.specs.Names.{forgottenState, nameIn, stateIn, isKept, ro
 use Rattle.kept.specs.Files.{bytesIn, isFound, fileOf, KeptOn}
 use Rattle.kept.proofs.RowLaws.{added-other, added-from, added-bytes, added-end, added-state}
 use Rattle.kept.proofs.FileLaws.{found-yes, from-found, from-lost}
+use Rattle.kept.proofs.ForgetLaws.{other-name}
 
 -- a part of the bytes that stayed
-pub same-part : (s t : List ℕ) (n i j : ℕ) → j ≤ n → take n s ≡ take n t → part s i j ≡ part t i j
+same-part : (s t : List ℕ) (n i j : ℕ) → j ≤ n → take n s ≡ take n t → part s i j ≡ part t i j
 unfolding part
 same-part s t n i j h e = ap (drop i) (sym (take-take j n s h) ∙ ap (take j) e ∙ take-take j n t h)
 
@@ -66,6 +68,15 @@ module _ (kept : Kept) (rows before table store : List ℕ) (tidy : Tidy rows ke
         ap (bytesIn table store) (same-place name (after .rows) g h) ∙ same-bytes (rowOf name rows before (kept .rows)) h;
   }
 
+  -- a file that was not kept, and is not the one in a row more
+  pub still-lost : (name : List ℕ) (after : Kept) → after .rows ≤ kept .rows + 1 → (kept .rows < after .rows → isKept name table store (kept .rows) ≡ false) → isFound name kept rows before ≡ false → isFound name after table store ≡ false
+  unfolding isFound
+  still-lost name after g f e =
+      some-no (isKept name table store) (after .rows) (λ j l. elim (below j (kept .rows) (omega arith)) [
+        | inl q ↦ ap (isKept name table store) q ∙ f (omega arith)
+        | inr q ↦ same-row name j q ∙ none-found (isKept name rows before) (kept .rows) j e q
+      ])
+
 -- ---- the row that was added
 
 module _ (name : List ℕ) (state : ℕ) (file : Span) (kept : Kept) (rows before store : List ℕ) (room : 4 * kept .rows + 3 < length rows) (tidy : Tidy rows kept) (stayed : take (kept .used) store ≡ take (kept .used) before) where
@@ -99,6 +110,13 @@ module _ (name : List ℕ) (state : ℕ) (file : Span) (kept : Kept) (rows befor
     pub added-file : fileOf name (oneMore file kept) (rowAdded state file kept rows) store ≡ part store (file .from) (file .end)
     unfolding oneMore fileOf
     added-file = ap (bytesIn (rowAdded state file kept rows) store) added-place ∙ new-bytes
+
+  -- a name that is not its own
+  pub added-others : name ≡ part store (kept .used) (file .from) → (other : List ℕ) → (other ≡ name → ⊥) → isFound other kept rows before ≡ false → isFound other (oneMore file kept) (rowAdded state file kept rows) store ≡ false
+  unfolding oneMore
+  added-others e other d lost =
+      still-lost kept rows before (rowAdded state file kept rows) store tidy (added-other state file kept rows) stayed other (record { rows = kept .rows + 1; used = file .end }) (omega arith)
+      (λ _. other-name other (rowAdded state file kept rows) store (kept .rows) (λ q. d (sym q ∙ new-name ∙ sym e))) lost
 
   -- the files that were kept before
   pub added-keeps : KeptOn kept rows before (oneMore file kept) (rowAdded state file kept rows) store

@@ -1,17 +1,15 @@
 -- The definitions, computed.
 -- Assumes nothing.
 use mathlib.Core.Path.{_≡_, refl}
-use mathlib.Core.Bool.{Bool, true, false}
-use mathlib.Core.List.{List, [], _∷_}
+use mathlib.Core.List.{List, [], _∷_, _++_}
 use Prim.Native.Nat.{ℕ}
-use lib.ListN.{length, getD, drop}
 use Rattle.number.specs.Choice.{if_then_else_, _<?_, _=?_}
 use Rattle.number.specs.Scan.{scan, some}
 use Rattle.number.specs.Part.{part}
 use Rattle.key.specs.Word.{compareWords, isSame, sameWord}
-use Rattle.kept.specs.declared.Kept.{Kept}
-use Rattle.kept.specs.Names.{nameIn, stateIn, isKept, rowOf, rowSet, rowAdded, oneMore}
+use Rattle.kept.specs.Names.{nameIn, stateIn, isKept, rowOf}
 use Rattle.kept.specs.Room.{nothingKept, withRoom}
+use Rattle.kept.specs.Files.{bytesIn, isFound, fileOf, keptFile}
 use Rattle.kept.specs.Written.{lastWithin, lastPart, ending, sameEnding, mayLead, forgotten}
 
 -- `d/a`, `a`, `d/`, and no bytes
@@ -33,6 +31,11 @@ places rows = rowOf (97 ∷ []) rows store 4 ∷ rowOf (100 ∷ 47 ∷ 97 ∷ []
 found : places table ≡ 0 ∷ 1 ∷ 2 ∷ 3 ∷ 4 ∷ []
 unfolding places store table rowOf scan isKept stateIn nameIn part sameWord isSame compareWords if_then_else_ _=?_ _<?_
 found = refl
+
+-- the bytes of `d/a`; no file is kept as `d`
+bytes : keptFile (100 ∷ 47 ∷ 97 ∷ []) (record { rows = 4; used = 10 }) table store ++ keptFile (100 ∷ []) (record { rows = 4; used = 10 }) table store ≡ 2 ∷ []
+unfolding store table keptFile fileOf bytesIn isFound some rowOf scan isKept stateIn nameIn part sameWord isSame compareWords if_then_else_ _=?_ _<?_
+bytes = refl
 
 -- `e/a` was written: of the others only `b` is still found
 written : places (forgotten (101 ∷ 47 ∷ 97 ∷ []) table store 4) ≡ 4 ∷ 4 ∷ 2 ∷ 4 ∷ 4 ∷ []

@@ -1,12 +1,11 @@
 -- The bytes that are kept under a name.
 -- Assumes nothing.
-use mathlib.Core.Path.{_≡_, refl, sym, ap, _∙_}
+use mathlib.Core.Path.{_≡_, refl, sym, _∙_}
 use mathlib.Core.Bool.{true, false}
 use mathlib.Core.List.{List, []}
-use Prim.Native.Nat.{ℕ, _+_, _*_, _≤_, _<_}
+use Prim.Native.Nat.{ℕ, _+_, _*_, _<_}
 use native.Mathlib.Omega.{arith}
 use lib.ListN.{getD}
-use Rattle.number.specs.Choice.{if_then_else_}
 use Rattle.number.specs.Scan.{some}
 use Rattle.number.specs.Part.{part}
 use Rattle.number.proofs.Choice.{is-true, is-false, yes-lt, not-lt, from-yes-lt, from-not-lt}

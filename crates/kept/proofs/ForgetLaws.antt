@@ -39,7 +39,7 @@ module _ (name rows store : List ℕ) (k : ℕ) where
   unfolding isKept
   gone e = sym (is-eq _ _ _ _ e refl)
 
-  other-name : (nameIn rows store k ≡ name → ⊥) → isKept name rows store k ≡ false
+  pub other-name : (nameIn rows store k ≡ name → ⊥) → isKept name rows store k ≡ false
   unfolding isKept
   other-name f =
       both (λ (r : Bool). r ≡ false) (stateIn rows k =? forgottenState) false (sameWord (nameIn rows store k) name)

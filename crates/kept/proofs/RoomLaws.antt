@@ -2,7 +2,6 @@
 -- Assumes nothing.
 use mathlib.Core.Path.{_≡_, refl}
 use Prim.Native.Nat.{ℕ, _+_, _*_, _≤_, _<_}
-use native.Mathlib.Omega.{arith}
 use Rattle.number.proofs.Choice.{is-lt, no-lt}
 use Rattle.kept.specs.declared.Kept.{Kept}
 use Rattle.kept.specs.Room.{storeBytes, fileBytes, nothingKept, withRoom}

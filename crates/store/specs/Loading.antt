@@ -48,10 +48,11 @@ Answers barred name kept rows store after table text loaded.Kept = (barred ≡ f
 Answers barred name kept rows store after table text loaded.InBatch = barred ≡ true
 Answers barred name kept rows store after table text (loaded.Failed e) = barred ≡ false
 
--- after a file was asked for: the table and the store, every file that was kept, the answer, and the room it took
+-- after a file was asked for: every file that was kept is, no other name is found that was not, and at most one file more is kept
 pub record Loads (barred : Bool) (name : List ℕ) (kept : Kept) (rows store : List ℕ) (r : Asked) (table text : List ℕ) : Type 0 where
   pub tidy : Tidy table (r .kept)
   pub keeps : KeptOn kept rows store (r .kept) table text
+  pub others : (other : List ℕ) → (other ≡ name → ⊥) → isFound other kept rows store ≡ false → isFound other (r .kept) table text ≡ false
   pub file : Answers barred name kept rows store (r .kept) table text (r .file)
   pub few : r .kept .rows ≤ kept .rows + 1
   pub used : r .kept .used ≤ kept .used + fileBytes

@@ -1,21 +1,17 @@
-use borrow.Author.Needs.{needs}
+-- `store::is_barred` meets its contract.
+-- Assumes nothing.
+use Rattle.number.proofs.Tools.{refl, needs, is-true, is-false}
+use Rattle.store.specs.Loading.{isBarred}
 use Rattle.store.proofs.is_barred.Statement.{statement}
 use Rattle.store.proofs.is_barred.Tie as tie
-use Rattle.store.proofs.is_barred.Reads as reads
-use Rattle.store.proofs.is_barred.Lts as lts
-use Rattle.store.proofs.is_input.Reads as is-input-reads
 
--- src/lib.rt:151:9
-is-input-requires : tie.Need-is-input-requires
-is-input-requires c κs = search needs
-
--- src/lib.rt:151:9
 returns : tie.Need-returns
-returns c = ?
+unfolding isBarred
+returns c = is-true _ _ _ (c .before .if1 .taken) (c .is-input .ensures)
 
--- src/lib.rt:147:1
 returns-2 : tie.Need-returns-2
-returns-2 c = ?
+unfolding isBarred
+returns-2 c = is-false _ _ _ (c .if1 .left) refl
 
 pub is-barred-spec : {M : Type 1} → statement M
-is-barred-spec = tie.close (tie.spec is-input-requires returns returns-2)
+is-barred-spec = tie.close (tie.spec (λ c κs. search needs) returns returns-2)

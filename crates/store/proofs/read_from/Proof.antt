@@ -1,54 +1,48 @@
+-- `store::read_from` meets its contract. The loop's invariant: what was read ends between `from` and `most`, and what stands before `from` is as it was. The
+-- measure is the room that is left.
+-- Assumes nothing.
+use Rattle.number.proofs.Tools.{_≡_, refl, sym, subst, _+_, _-_, _≤_, arith, needs, take}
+use Rattle.store.specs.Loading.{EndsIn}
+use Rattle.store.proofs.LoadLaws.{stays-before}
 use Rattle.store.proofs.read_from.Statement.{statement}
 use Rattle.store.proofs.read_from.Tie as tie
-use Rattle.store.proofs.read_from.Reads as reads
-use Rattle.store.proofs.read_from.Lts as lts
-use Rattle.store.proofs.read_some.Reads as read-some-reads
 
 abbrev Inv-loop : tie.InvT-loop
-Inv-loop fd from store₀ most end₀ store end = ?
+Inv-loop fd from store₀ most end₀ store end = (from ≤ end) × ((end ≤ most) × (take from store ≡ take from store₀))
 
 abbrev μ-loop : tie.MeasureT-loop
-μ-loop fd from store₀ most end₀ store end = ?
+μ-loop fd from store₀ most end₀ store end = most - end
 
--- src/lib.rt:56:16
-add-most : tie.Need-add-most Inv-loop μ-loop
-add-most c = ?
-
--- src/lib.rt:58:5
-loop-holds : tie.Need-loop-holds Inv-loop μ-loop
-loop-holds c = ?
-
--- src/lib.rt:59:13
-read-some-requires : tie.Need-read-some-requires Inv-loop μ-loop
-read-some-requires c κs = ?
-
--- src/lib.rt:60:24
-enum-known-got : tie.Need-enum-known-got Inv-loop μ-loop
-enum-known-got c = ?
-
--- src/lib.rt:61:13
-enum-told : tie.Need-enum-told Inv-loop μ-loop
-enum-told c = ?
-
--- src/lib.rt:61:13
 returns : tie.Need-returns Inv-loop μ-loop
-returns c = ?
+returns c =
+    let l = c .before .before .before .before .before .loop in
+    let a = c .before .before .before .before .before .before .args in
+    record { ends = subst (EndsIn (a .from) (a .from + 1048577)) (sym (c .enum-told .given .1)) tt; before = stays-before _ (l .store) _ (a .from) (l .end) (l .inv .0) (l .inv .1 .1) (c .before .before .read-some .ensures .before) }
 
--- src/lib.rt:58:5
 loop-less : tie.Need-loop-less Inv-loop μ-loop
-loop-less c = ?
+loop-less c =
+    let l = c .before .before .before .before .before .before .before .loop in
+    let a = c .before .before .before .before .before .before .before .before .args in
+    let p = subst (EndsIn (l .end) (a .from + 1048577)) (c .before .before .got .given .1) (c .before .before .before .before .read-some .ensures .ends) in
+    omega arith
 
--- src/lib.rt:58:5
 loop-again : tie.Need-loop-again Inv-loop μ-loop
-loop-again c = ?
+loop-again c =
+    let l = c .before .before .before .before .before .before .before .loop in
+    let a = c .before .before .before .before .before .before .before .before .args in
+    let p = subst (EndsIn (l .end) (a .from + 1048577)) (c .before .before .got .given .1) (c .before .before .before .before .read-some .ensures .ends) in
+    (omega arith, (omega arith, stays-before _ (l .store) _ (a .from) (l .end) (l .inv .0) (l .inv .1 .1) (c .before .before .before .before .read-some .ensures .before)))
 
--- src/lib.rt:52:1
 returns-2 : tie.Need-returns-2 Inv-loop μ-loop
-returns-2 c = ?
+returns-2 c =
+    let i = c .before .loop .inv in
+    record { ends = (i .0, i .1 .0); before = i .1 .1 }
 
--- src/lib.rt:52:1
 returns-3 : tie.Need-returns-3 Inv-loop μ-loop
-returns-3 c = ?
+returns-3 c =
+    let l = c .before .before .before .before .before .before .before .loop in
+    let a = c .before .before .before .before .before .before .before .before .args in
+    record { ends = (l .inv .0, l .inv .1 .0); before = stays-before _ (l .store) _ (a .from) (l .end) (l .inv .0) (l .inv .1 .1) (c .before .before .before .before .read-some .ensures .before) }
 
 pub read-from-spec : {M : Type 1} → statement M
 read-from-spec =
@@ -56,11 +50,11 @@ read-from-spec =
     (tie.spec
     Inv-loop
     μ-loop
-    add-most
-    loop-holds
-    read-some-requires
-    enum-known-got
-    enum-told
+    (λ c. search needs)
+    (λ c. (omega arith, (omega arith, refl)))
+    (λ c κs. omega arith)
+    (λ c. search needs)
+    (λ c. search needs)
     returns
     loop-less
     loop-again

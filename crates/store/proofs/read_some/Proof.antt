@@ -1,68 +1,35 @@
-use borrow.Author.Needs.{needs}
+-- `store::read_some` meets its contract: what stands before the part that was lent is as it was.
+-- Assumes nothing.
+use mathlib.Core.List.{_++_}
+use lib.Seq.{take-at, length-take-le}
+use Rattle.number.proofs.Tools.{_-_, arith, needs, take, drop}
 use Rattle.store.proofs.read_some.Statement.{statement}
 use Rattle.store.proofs.read_some.Tie as tie
-use Rattle.store.proofs.read_some.Reads as reads
-use Rattle.store.proofs.read_some.Lts as lts
-use Rattle.io.proofs.count.Reads as count-reads
-use Rattle.libc.proofs.read.Reads as read-reads
-use Rattle.os.proofs.errno.Reads as errno-reads
 
--- src/lib.rt:43:16
-sub-part : tie.Need-sub-part
-sub-part c = search needs
-
--- src/lib.rt:43:16
-part-part-start : tie.Need-part-part-start
-part-part-start c = search needs
-
--- src/lib.rt:43:16
-part-part-end : tie.Need-part-part-end
-part-part-end c = search needs
-
--- src/lib.rt:44:9
-read-requires : tie.Need-read-requires
-read-requires c κs = search needs
-
--- src/lib.rt:46:29
-errno-requires : tie.Need-errno-requires
-errno-requires c κs = search needs
-
--- src/lib.rt:46:9
-same-length : tie.Need-same-length
-same-length c = search needs
-
--- src/lib.rt:46:9
 returns : tie.Need-returns
-returns c = ?
+returns c =
+    let r = c .before .before .before .before .before .before in
+    let a = r .before .before .before .before .args in
+    record { ends = tt; before = take-at (take (a .from) (a .store .now)) (r .read .last .1 .0 ++ drop (a .most - a .from) (drop (a .from) (a .store .now))) (a .from) (length-take-le (a .from) (a .store .now) (omega arith)) }
 
--- src/lib.rt:48:23
-count-requires : tie.Need-count-requires
-count-requires c κs = search needs
-
--- src/lib.rt:48:16
-add-t16 : tie.Need-add-t16
-add-t16 c = search needs
-
--- src/lib.rt:39:1
-same-length-2 : tie.Need-same-length-2
-same-length-2 c = search needs
-
--- src/lib.rt:39:1
 returns-2 : tie.Need-returns-2
-returns-2 c = ?
+returns-2 c =
+    let r = c .before .before .before .before .before .before .before in
+    let a = r .before .before .before .before .args in
+    record { ends = search needs; before = take-at (take (a .from) (a .store .now)) (r .read .last .1 .0 ++ drop (a .most - a .from) (drop (a .from) (a .store .now))) (a .from) (length-take-le (a .from) (a .store .now) (omega arith)) }
 
 pub read-some-spec : {M : Type 1} → statement M
 read-some-spec =
     tie.close
     (tie.spec
-    sub-part
-    part-part-start
-    part-part-end
-    read-requires
-    errno-requires
-    same-length
+    (λ c. search needs)
+    (λ c. search needs)
+    (λ c. search needs)
+    (λ c κs. search needs)
+    (λ c κs. search needs)
+    (λ c. search needs)
     returns
-    count-requires
-    add-t16
-    same-length-2
+    (λ c κs. search needs)
+    (λ c. search needs)
+    (λ c. search needs)
     returns-2)
