@@ -88,9 +88,10 @@ fn fetch_second(
     ensures { λ r. ⌜ ((n : ℕ) → FetchesAll n (wordsOf separator (now (line .entry))) r (now (rows .exit)) (now (store .exit))) ⌝ }
 {
     let asked = fetch(line, separator, 2, kept, rows, store);
+    let kept = asked.kept;
     let file = asked.file;
     Fetched {
-        kept: asked.kept,
+        kept,
         wanting: second_wanting(file),
     }
 }

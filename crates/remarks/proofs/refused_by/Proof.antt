@@ -1,44 +1,27 @@
-use borrow.Author.Needs.{needs}
+-- `remarks::refused_by` meets its contract: the key lies within its room.
+-- Assumes nothing.
+use lib.Seq.{length-take-le}
+use Rattle.number.proofs.Tools.{sym, arith, needs}
 use Rattle.remarks.proofs.refused_by.Statement.{statement}
 use Rattle.remarks.proofs.refused_by.Tie as tie
-use Rattle.remarks.proofs.refused_by.Reads as reads
-use Rattle.remarks.proofs.refused_by.Lts as lts
-use Rattle.faults.proofs.fault_of.Reads as fault-of-reads
-use Rattle.faults.proofs.key_of.Reads as key-of-reads
-use Rattle.reasons.proofs.refused.Reads as refused-reads
-use Rattle.remarks.proofs.put.Reads as put-reads
 
--- src/lib.rt:48:9
-fault-of-requires : tie.Need-fault-of-requires
-fault-of-requires c κs = search needs
-
--- src/lib.rt:49:9
-key-of-requires : tie.Need-key-of-requires
-key-of-requires c κs = search needs
-
--- src/lib.rt:51:55
 slice-aggregate-refused : tie.Need-slice-aggregate-refused
-slice-aggregate-refused c = ?
+slice-aggregate-refused c =
+    let k = c .before .before .before .key-of in
+    sym (length-take-le (k .result) (k .last .1 .1 .0) (omega (arith, k .ensures .fits)))
 
--- src/lib.rt:51:9
 refused-requires : tie.Need-refused-requires
-refused-requires c κs = ?
-
--- src/lib.rt:52:5
-put-requires : tie.Need-put-requires
-put-requires c κs = search needs
-
--- src/lib.rt:45:1
-returns : tie.Need-returns
-returns c = search needs
+refused-requires c κs =
+    let k = c .before .before .before .before .key-of in
+    (c .before .before .before .before .before .before .before .before .before .pre, rw (length-take-le (k .result) (k .last .1 .1 .0) (omega (arith, k .ensures .fits))) (k .ensures .fits))
 
 pub refused-by-spec : {M : Type 1} → statement M
 refused-by-spec =
     tie.close
     (tie.spec
-    fault-of-requires
-    key-of-requires
+    (λ c κs. search needs)
+    (λ c κs. search needs)
     slice-aggregate-refused
     refused-requires
-    put-requires
-    returns)
+    (λ c κs. search needs)
+    (λ c. search needs))

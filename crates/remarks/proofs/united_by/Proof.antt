@@ -1,33 +1,26 @@
-use borrow.Author.Needs.{needs}
+-- `remarks::united_by` meets its contract: the key lies within its room.
+-- Assumes nothing.
+use lib.Seq.{length-take-le}
+use Rattle.number.proofs.Tools.{sym, arith, needs}
 use Rattle.remarks.proofs.united_by.Statement.{statement}
 use Rattle.remarks.proofs.united_by.Tie as tie
-use Rattle.remarks.proofs.united_by.Reads as reads
-use Rattle.remarks.proofs.united_by.Lts as lts
-use Rattle.faults.proofs.key_of.Reads as key-of-reads
-use Rattle.reasons.proofs.united.Reads as united-reads
-use Rattle.remarks.proofs.put.Reads as put-reads
 
--- src/lib.rt:81:9
-key-of-requires : tie.Need-key-of-requires
-key-of-requires c κs = search needs
-
--- src/lib.rt:83:51
 slice-aggregate-united : tie.Need-slice-aggregate-united
-slice-aggregate-united c = ?
+slice-aggregate-united c =
+    let k = c .before .before .before .key-of in
+    sym (length-take-le (k .result) (k .last .1 .1 .0) (omega (arith, k .ensures .fits)))
 
--- src/lib.rt:83:9
 united-requires : tie.Need-united-requires
-united-requires c κs = ?
-
--- src/lib.rt:84:5
-put-requires : tie.Need-put-requires
-put-requires c κs = search needs
-
--- src/lib.rt:71:1
-returns : tie.Need-returns
-returns c = search needs
+united-requires c κs =
+    let k = c .before .before .before .before .key-of in
+    (c .before .before .before .before .before .before .before .before .before .pre, rw (length-take-le (k .result) (k .last .1 .1 .0) (omega (arith, k .ensures .fits))) (k .ensures .fits))
 
 pub united-by-spec : {M : Type 1} → statement M
 united-by-spec =
     tie.close
-    (tie.spec key-of-requires slice-aggregate-united united-requires put-requires returns)
+    (tie.spec
+    (λ c κs. search needs)
+    slice-aggregate-united
+    united-requires
+    (λ c κs. search needs)
+    (λ c. search needs))
