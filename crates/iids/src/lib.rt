@@ -5,7 +5,7 @@ ghost use lib.ListN.{length, getD};
 ghost use Rattle.number.specs.Limits.{entryLimit, rowLimit};
 ghost use Rattle.number.specs.Choice.{_=?_, _≤?_};
 ghost use Rattle.number.specs.Scan.{scan, some};
-ghost use Rattle.key.specs.First.{Filled};
+ghost use Rattle.key.specs.First.{Filled, Past};
 ghost use Rattle.iids.specs.Joined.{joined, twoNumbers, sharesRow, sharedNumber};
 ghost use Rattle.iids.specs.Cells.{cell, AtMost, Across};
 ghost use Rattle.iids.specs.Numbers.{Wide, wide, numberIn, numberRow};
@@ -144,7 +144,7 @@ pub fn join_numbers(
     low: &mut [u64; ROW_LIMIT],
 )
     requires { ⌜ (n ≤ entryLimit) × (n ≤ total) × (total ≤ rowLimit) × (entryLimit ≡ length (now mates)) × (rowLimit ≡ length (now high)) × (rowLimit ≡ length (now low)) × Across (now mates) n total ⌝ }
-    ensures { λ r. ⌜ ((g : ℕ → ℕ) → Wide (now (high .entry)) (now (low .entry)) total g → Wide (now (high .exit)) (now (low .exit)) total (joined g (cell (now (mates .entry))) n)) × (rowLimit ≡ length (now (high .exit))) × (rowLimit ≡ length (now (low .exit))) ⌝ }
+    ensures { λ r. ⌜ ((g : ℕ → ℕ) → Wide (now (high .entry)) (now (low .entry)) total g → Wide (now (high .exit)) (now (low .exit)) total (joined g (cell (now (mates .entry))) n)) × (rowLimit ≡ length (now (high .exit))) × (rowLimit ≡ length (now (low .exit))) × Past n (now (high .entry)) (now (high .exit)) × Past n (now (low .entry)) (now (low .exit)) ⌝ }
 {
     let mut i: usize = 0;
     while i < n {

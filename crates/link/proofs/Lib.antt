@@ -2,6 +2,7 @@ pub mod Files
 pub mod Sounds
 pub mod Unions
 pub mod Answers
+pub mod Buffers
 pub mod Demand
 pub mod Theorems
 pub mod Marked

@@ -1,7 +1,11 @@
--- Document 01, "Marked cases": P1 to P3 are each their own normal form; P12 and P13.
+-- Document 01, "Marked cases": P1 to P3 are each their own normal form; P12 and P13. Before the buffer, and over any buffer with room.
 -- Assumes nothing.
 use mathlib.Core.Path.{_≡_, refl}
+use mathlib.Core.List.{List}
+use Prim.Native.Nat.{ℕ, _≤_}
 use native.Mathlib.Decide.{ℕ-discrete}
+use lib.ListN.{length}
+use lib.Seq.{sets}
 use Rattle.number.specs.Choice.{if_then_else_, _<?_, _=?_}
 use Rattle.number.specs.Scan.{scan, some as one}
 use Rattle.key.specs.Word.{compareWords, isSame}
@@ -22,8 +26,11 @@ use Rattle.normal.specs.Size.{sum, valueWidth, constantSize, descriptorSize, na
 use Rattle.normal.specs.Record.{run, nameAfter, methodsBytes, constantBytes, constantsBytes, parentNumber, constantsFrom, descriptorBytes, nameBytes, constantNameBytes, namesBytes}
 use Rattle.normal.specs.Normal.{spaceFrom, ownFrom, namesFrom, spaceBytes, ownBytes, entryPool, poolBytes, spacePointer, ownPointer, entryBytes, directoryBytes, minorOf, normalHeader, headerBytes, noteBytes, fileBytes, normalForm}
 use Rattle.link.specs.declared.Which.the-variants.{Union}
+use Rattle.joining.specs.declared.Normalised.the-variants as normalised
 use Rattle.joining.specs.Outcome.{refused, written, encoded}
-use Rattle.link.specs.Outcome.{refusalOf, normalOf, linkOf}
+use Rattle.link.specs.declared.Linked.the-variants as linked
+use Rattle.link.specs.Outcome.{refusalOf, normalOf, normaliseAnswer, normaliseBuffer, linkOf, linkAnswer, linkBuffer}
+use Rattle.link.proofs.Buffers.{normal-room, link-room, link-stopped}
 
 pub record Marked : Type 0 where
   pub own1 : normalOf (decode P1) ≡ written P1
@@ -43,3 +50,25 @@ marked = record {
   linked12 = rw (decodes1, decodes3) refl;
   linked13 = rw (decodes3, decodes13) refl;
 }
+
+-- ---- over a buffer
+
+module _ (out : List ℕ) where
+  pub normalises1 : 36 ≤ length out → (normaliseAnswer P1 out ≡ normalised.Written 36) × (normaliseBuffer P1 out ≡ sets out 0 P1)
+  unfolding P1
+  normalises1 h = normal-room P1 out P1 (marked .own1) h
+
+  pub normalises2 : 69 ≤ length out → (normaliseAnswer P2 out ≡ normalised.Written 69) × (normaliseBuffer P2 out ≡ sets out 0 P2)
+  unfolding P2
+  normalises2 h = normal-room P2 out P2 (marked .own2) h
+
+  pub normalises3 : 82 ≤ length out → (normaliseAnswer P3 out ≡ normalised.Written 82) × (normaliseBuffer P3 out ≡ sets out 0 P3)
+  unfolding P3
+  normalises3 h = normal-room P3 out P3 (marked .own3) h
+
+  pub links12 : 82 ≤ length out → (linkAnswer P1 P3 out ≡ linked.Written 82) × (linkBuffer P1 P3 out ≡ sets out 0 P3)
+  unfolding P3
+  links12 h = link-room P1 P3 out P3 (marked .linked12) h
+
+  pub links13 : (linkAnswer P3 P13 out ≡ linked.Refused (refusalOf Union 23 1)) × (linkBuffer P3 P13 out ≡ out)
+  links13 = link-stopped P3 P13 out (refusalOf Union 23 1) (marked .linked13)

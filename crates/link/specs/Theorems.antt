@@ -4,17 +4,22 @@ use mathlib.Core.Path.{_≡_}
 use mathlib.Core.Logic.{_↔_}
 use mathlib.Core.List.{List, _++_}
 use Prim.Native.Nat.{ℕ, _≤_}
-use lib.ListN.{length}
+use lib.ListN.{length, take}
+use lib.Seq.{sets}
 use Rattle.number.specs.Limits.{fileLimit}
+use Rattle.reading.specs.declared.Verdict.the-variants.{Accepted}
 use Rattle.key.specs.Key.{Key}
 use Rattle.reader.specs.Values.{Entry}
-use Rattle.reader.specs.Reader.{decode}
-use Rattle.facts.specs.Facts.{MeanSame}
+use Rattle.reader.specs.Records.{Bytes}
+use Rattle.reader.specs.Reader.{decode, checkOf}
+use Rattle.facts.specs.Facts.{MeanSame, Within}
 use Rattle.facts.specs.Union.{union}
 use Rattle.normal.specs.Size.{normalLength}
 use Rattle.normal.specs.Normal.{normalForm}
+use Rattle.joining.specs.declared.Normalised.the-variants as normalised
 use Rattle.joining.specs.Outcome.{written}
-use Rattle.link.specs.Outcome.{normalOf, linkOf}
+use Rattle.link.specs.declared.Linked.the-variants as linked
+use Rattle.link.specs.Outcome.{normalOf, normaliseAnswer, normaliseBuffer, linkOf, linkAnswer, linkBuffer}
 use Rattle.link.specs.Demand.{Means}
 
 -- The length that 26 judges is that of the normal form.
@@ -39,3 +44,42 @@ SameForms = (a b x y : List ℕ) (A B : List (Entry Key)) → Means a A → Mean
 -- What a link of two accepted files writes reads back, with the union as its meaning.
 abbrev pub LinksBack : Type 0
 LinksBack = (a b c : List ℕ) (A B : List (Entry Key)) → Means a A → Means b B → linkOf (decode a) (decode b) ≡ written c → FormOf (union (A ++ B)) c
+
+-- ---- the same of what the contracts cite: answers and buffers, whatever the buffers' lengths and contents
+
+-- an accepted file means something
+abbrev pub Meant : List ℕ → Type 0
+Meant a = (A : List (Entry Key)) × Means a A
+
+-- Only accepted files are answered so; that they are bytes is in the contracts.
+pub record Taken : Type 0 where
+  pub checked : (a : List ℕ) (n : ℕ) → Bytes a → checkOf a ≡ Accepted n → Meant a
+  pub normal : (a out : List ℕ) (n : ℕ) → Bytes a → normaliseAnswer a out ≡ normalised.Written n → Meant a
+  pub both : (a b out : List ℕ) (n : ℕ) → Bytes a → Bytes b → linkAnswer a b out ≡ linked.Written n → Meant a × Meant b
+
+-- b has n bytes, is an accepted file that means us, and normalising it, into any buffer with room for it, writes it as it is
+pub record Left (us : List (Entry Key)) (n : ℕ) (b : List ℕ) : Type 0 where
+  pub long : length b ≡ n
+  pub form : FormOf us b
+  pub again : (out : List ℕ) → n ≤ length out → (normaliseAnswer b out ≡ normalised.Written n) × (normaliseBuffer b out ≡ sets out 0 b)
+
+-- Where normalising an accepted file answers n, the first n bytes of the buffer afterwards are an accepted file of the same meaning, its own normal form.
+abbrev pub NormalisedBack : Type 0
+NormalisedBack = (a out : List ℕ) (n : ℕ) (A : List (Entry Key)) → Means a A → normaliseAnswer a out ≡ normalised.Written n
+    → Left (union A) n (take n (normaliseBuffer a out)) × MeanSame (union A) A
+
+-- Two such are equal exactly when the files mean the same.
+abbrev pub NormalisedSame : Type 0
+NormalisedSame = (a b out other : List ℕ) (n k : ℕ) (A B : List (Entry Key)) → Means a A → Means b B
+    → normaliseAnswer a out ≡ normalised.Written n → normaliseAnswer b other ≡ normalised.Written k
+    → MeanSame A B ↔ (take n (normaliseBuffer a out) ≡ take k (normaliseBuffer b other))
+
+-- Where linking two accepted files answers n, the first n bytes of the buffer afterwards are an accepted file that means their union, which says what the
+-- two say together.
+abbrev pub LinkedBack : Type 0
+LinkedBack = (a b out : List ℕ) (n : ℕ) (A B : List (Entry Key)) → Means a A → Means b B → linkAnswer a b out ≡ linked.Written n
+    → Left (union (A ++ B)) n (take n (linkBuffer a b out)) × Within (union (A ++ B)) (A ++ B) × Within (A ++ B) (union (A ++ B))
+
+-- Any two files so left, by normalising or linking, are equal exactly when they mean the same.
+abbrev pub LeftSame : Type 0
+LeftSame = (us vs : List (Entry Key)) (n k : ℕ) (b c : List ℕ) → Left us n b → Left vs k c → MeanSame us vs ↔ (b ≡ c)

@@ -1,6 +1,7 @@
 // Normalising a typelib, and linking two.
 ghost use mathlib.Core.Path.{_≡_};
 ghost use Rattle.reading.specs.Got.{Accepted};
+ghost use Rattle.reader.specs.Records.{Bytes};
 ghost use Rattle.reader.specs.Reader.{decode};
 ghost use Rattle.link.specs.Outcome.{normaliseAnswer, normaliseBuffer, linkAnswer, linkBuffer};
 use joining::Normalised;
@@ -43,7 +44,7 @@ fn normalise_accepted(file: &[u8], out: &mut [u8]) -> Normalised
 
 // The normal form of a file into `out`.
 pub fn normalise(file: &[u8], out: &mut [u8]) -> Normalised
-    ensures { λ r. ⌜ (r ≡ normaliseAnswer (now (file .entry)) (now (out .entry))) × (now (out .exit) ≡ normaliseBuffer (now (file .entry)) (now (out .entry))) ⌝ }
+    ensures { λ r. ⌜ (r ≡ normaliseAnswer (now (file .entry)) (now (out .entry))) × (now (out .exit) ≡ normaliseBuffer (now (file .entry)) (now (out .entry))) × Bytes (now (file .entry)) ⌝ }
 {
     match reader::check(file) {
         Verdict::Accepted(n) => normalise_accepted(file, out),
@@ -83,7 +84,7 @@ fn link_second(first: &[u8], second: &[u8], out: &mut [u8]) -> Linked
 
 // The normal form of the union of two files into `out`.
 pub fn link(first: &[u8], second: &[u8], out: &mut [u8]) -> Linked
-    ensures { λ r. ⌜ (r ≡ linkAnswer (now (first .entry)) (now (second .entry)) (now (out .entry))) × (now (out .exit) ≡ linkBuffer (now (first .entry)) (now (second .entry)) (now (out .entry))) ⌝ }
+    ensures { λ r. ⌜ (r ≡ linkAnswer (now (first .entry)) (now (second .entry)) (now (out .entry))) × (now (out .exit) ≡ linkBuffer (now (first .entry)) (now (second .entry)) (now (out .entry))) × Bytes (now (first .entry)) × Bytes (now (second .entry)) ⌝ }
 {
     match reader::check(first) {
         Verdict::Accepted(n) => link_second(first, second, out),

@@ -20,12 +20,13 @@ use Rattle.reading.proofs.Steps.{refused, at-end, at-bad, told, many-none, many
 use Rattle.reading.proofs.Facts.{Facts, fact, f-got, f-unless, f-next, f-byte, f-read}
 use Rattle.reading.proofs.Rows.{many-first, many-empty, many-ends, many-length}
 use Rattle.key.specs.Word.{wordAt, Leads}
+use Rattle.key.specs.First.{Past}
 use Rattle.name.proofs.NameLaws.{name-facts}
 use Rattle.types.specs.Types.{prefix}
 use Rattle.method.specs.Parameter.{Param, paramFlags, paramType, readParam}
 use Rattle.method.specs.Numbers.{prefixes, wrongNumbers, wrongArguments, wrongResult}
 use Rattle.method.specs.Method.{Signature, signature, Method, methodFlags, methodName, methodSignature, ruleSignature, readSignature, readMethod, noMethod}
-use Rattle.method.specs.Tables.{Kept, Noted}
+use Rattle.method.specs.Tables.{Kept, Noted, Gathered, Reached}
 use Rattle.method.proofs.Arguments.{param-at}
 
 -- records end at or after their start
@@ -136,12 +137,6 @@ module _ (ms : List (Method ℕ)) (m : Method ℕ) (i : ℕ) where
   snoc-there : i < length ms → getD (ms ++ (m ∷ [])) i noMethod ≡ getD ms i noMethod
   snoc-there q = List·getD-append ms (m ∷ []) noMethod i q
 
--- k methods from `at` on have been read up to p, and the tables have their flags and name pointers
-pub record Gathered (c : Context) (s : List ℕ) (at k p : ℕ) (flags names : List ℕ) : Type 0 where
-  pub methods : List (Method ℕ)
-  pub read : many (readMethod c s) k at ≡ got methods p
-  pub kept : Kept s flags names methods k
-
 module _ (c : Context) (s : List ℕ) (at : ℕ) where
   pub gathered-none : (flags names : List ℕ) → Gathered c s at 0 at flags names
   gathered-none flags names =
@@ -208,3 +203,11 @@ module _ (c : Context) (s : List ℕ) (at : ℕ) where
         flags-long = x;
         names-long = y;
       })
+
+  module _ (n k p : ℕ) {flags names flags₀ names₀ : List ℕ} (a : Gathered c s at k p flags names) (x : Past k flags₀ flags) (y : Past k names₀ names) where
+    pub reached-stop : {r : Step} {m q : ℕ} → k < n → r ≡ refused m q → r ≡ stepOf (readMethod c s p) → Reached c s n at flags names flags₀ names₀
+    reached-stop {m = m} {q = q} l e h =
+        record { count = k; end = p; few = omega arith; gathered = a; last = inr (m, q, told _ (sym e ∙ h)); flags-past = x; names-past = y }
+
+    pub reached-done : k ≡ n → Reached c s n at flags names flags₀ names₀
+    reached-done e = record { count = k; end = p; few = omega arith; gathered = a; last = inl e; flags-past = x; names-past = y }

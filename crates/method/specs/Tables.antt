@@ -2,13 +2,15 @@
 -- Assumes nothing.
 use mathlib.Core.Path.{_≡_}
 use mathlib.Core.List.{List}
-use Prim.Native.Nat.{ℕ, _-_, _<_}
+use mathlib.Core.Logic.{_⊎_}
+use Prim.Native.Nat.{ℕ, _-_, _≤_, _<_}
 use lib.ListN.{length, getD, take}
 use Rattle.number.specs.Limits.{ownLimit}
-use Rattle.reading.specs.Got.{Got, got, many, stepOf}
+use Rattle.reading.specs.Got.{Got, got, bad, many, stepOf}
 use Rattle.reading.specs.declared.Context.{Context}
 use Rattle.reading.specs.declared.Step.{Step}
 use Rattle.key.specs.Word.{wordAt, Leads}
+use Rattle.key.specs.First.{Past}
 use Rattle.method.specs.Parameter.{Param}
 use Rattle.method.specs.Numbers.{prefixes}
 use Rattle.method.specs.Method.{Method, methodFlags, methodName, readMethod, noMethod}
@@ -31,3 +33,19 @@ pub record Noted (c : Context) (s : List ℕ) (n at : ℕ) (r : Step) (flags nam
   pub kept : (ms : List (Method ℕ)) (e : ℕ) → many (readMethod c s) n at ≡ got ms e → Kept s flags names ms n
   pub flags-long : ownLimit ≡ length flags
   pub names-long : ownLimit ≡ length names
+
+-- k methods from `at` on have been read up to p, and the tables have their flags and name pointers
+pub record Gathered (c : Context) (s : List ℕ) (at k p : ℕ) (flags names : List ℕ) : Type 0 where
+  pub methods : List (Method ℕ)
+  pub read : many (readMethod c s) k at ≡ got methods p
+  pub kept : Kept s flags names methods k
+
+-- the tables after n methods, and before: they have those up to the end or the first that is refused, and past them hold what they held
+pub record Reached (c : Context) (s : List ℕ) (n at : ℕ) (flags names flags₀ names₀ : List ℕ) : Type 0 where
+  pub count : ℕ
+  pub end : ℕ
+  pub few : count ≤ n
+  pub gathered : Gathered c s at count end flags names
+  pub last : (count ≡ n) ⊎ ((m : ℕ) × (q : ℕ) × (readMethod c s end ≡ bad m q))
+  pub flags-past : Past count flags₀ flags
+  pub names-past : Past count names₀ names

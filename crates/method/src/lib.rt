@@ -9,15 +9,15 @@ ghost use Rattle.method.specs.Parameter.{readParam};
 ghost use Rattle.method.specs.Numbers.{wrongResult};
 ghost use Rattle.method.specs.Method.{readSignature, readMethod};
 ghost use Rattle.method.specs.Walk.{ruleOf};
-ghost use Rattle.method.specs.Tables.{Noted};
+ghost use Rattle.method.specs.Tables.{Noted, Reached};
 use crate::walk::Fine;
 use number::OWN_LIMIT;
 use reading::Context;
 use reading::Refusal;
 use reading::Step;
 
-pub mod params;
-pub mod walk;
+mod params;
+mod walk;
 
 // The flags of a method.
 pub const GETTER: u8 = 0x80;
@@ -153,7 +153,7 @@ pub fn read_methods(
     names: &mut [u32; OWN_LIMIT],
 ) -> Step
     requires { ⌜ (at ≤ length (now pool)) × (c .base + length (now pool) ≤ fileLimit) × (n ≤ ownLimit) × (ownLimit ≡ length (now flags)) × (ownLimit ≡ length (now names)) ⌝ }
-    ensures { λ r. ⌜ Noted c (now (pool .entry)) n at r (now (flags .exit)) (now (names .exit)) ⌝ }
+    ensures { λ r. ⌜ Noted c (now (pool .entry)) n at r (now (flags .exit)) (now (names .exit)) × Reached c (now (pool .entry)) n at (now (flags .exit)) (now (names .exit)) (now (flags .entry)) (now (names .entry)) ⌝ }
 {
     let mut k: usize = 0;
     let mut p = at;

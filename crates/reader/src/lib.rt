@@ -4,6 +4,7 @@ ghost use Prim.Native.Nat.{ℕ};
 ghost use Rattle.reading.specs.Got.{got, Accepted};
 ghost use Rattle.reader.specs.Rules.{isIdentifier};
 ghost use Rattle.reader.specs.Values.{Typelib, entriesIn};
+ghost use Rattle.reader.specs.Records.{Bytes};
 ghost use Rattle.reader.specs.Reader.{decode, checkOf};
 ghost use Rattle.reader.specs.Layout.{LaidOut};
 pub use reading::Refusal;
@@ -25,6 +26,7 @@ pub struct Layout {
 // Whether a file follows document 01: accepted with its number of interfaces, or the first refusal in the document's order.
 pub fn check(file: &[u8]) -> Verdict
     ensures { λ r. ⌜ r ≡ checkOf (now (file .entry)) ⌝ }
+    ensures { λ r. ⌜ Bytes (now (file .entry)) ⌝ }
 {
     typelib::check_typelib(file)
 }

@@ -15,7 +15,7 @@ use Rattle.number.proofs.Choice.{both, is-lt, no-lt, is-eq, no-eq, from-not-eq}
 use Rattle.number.proofs.Laws.{be-16}
 use Rattle.number.proofs.Parts.{part-rest}
 use Rattle.key.specs.Key.{Key, key, keySpace, keyName, spaceAt, keyAt}
-use Rattle.key.specs.First.{firstSame, Filled}
+use Rattle.key.specs.First.{firstSame, Filled, Past}
 use Rattle.key.specs.Pointer.{Pointed}
 use Rattle.sorting.specs.Rows.{rowPool, rowKey, RowsKeyed}
 use Rattle.key.proofs.Firsts.{first-le}
@@ -38,7 +38,7 @@ use Rattle.rows.specs.Notes.{Noted, NameOf, SpaceOf, OwnOf, HighOf, LowO
 
 module _ (P : ℕ → ℕ → Type 0) (t : List ℕ) (from : ℕ) where
   pub noted-start : 2048 ≡ length t → Noted P t t from 0
-  noted-start l = record { long = l; kept = λ k h. refl; each = λ k h. absurd (omega arith) }
+  noted-start l = record { long = l; kept = λ k h. refl; each = λ k h. absurd (omega arith); rest = λ k h. refl }
 
   pub noted-more : (u : List ℕ) (i v : ℕ) → from + i < 2048 → P i v → Noted P t u from i → Noted P t (set u (from + i) v) from (i + 1)
   noted-more u i v l p n = record {
@@ -48,6 +48,7 @@ module _ (P : ℕ → ℕ → Type 0) (t : List ℕ) (from : ℕ) where
       | inl e ↦ rw (e, getD-set-same u (from + i) v 0 (omega (arith, n .long))) p
       | inr m ↦ rw (getD-set-other u (from + i) (from + k) v 0 (λ e. omega arith)) (n .each k m)
     ];
+    rest = λ k h. getD-set-other u (from + i) k v 0 (λ e. omega arith) ∙ n .rest k (omega arith);
   }
 
   pub noted-to : (u : List ℕ) (i n : ℕ) → i ≡ n → Noted P t u from i → Noted P t u from n
@@ -183,6 +184,10 @@ module _ (first holders : List ℕ) (es fs : List (Entry ℕ)) (i : ℕ) {h : �
 -- what was noted of the first file stays when the second's is noted behind it
 pub noted-still : (P Q : ℕ → ℕ → Type 0) (t u v : List ℕ) (n m : ℕ) → Noted P t u 0 n → Noted Q u v n m → (k : ℕ) → k < n → P k (getD v k 0)
 noted-still P Q t u v n m a b k l = let e : 0 + k ≡ k = omega arith in rw (b .kept k l) (rw e at (a .each k l))
+
+-- past the rows of both the table is as it was
+pub noted-past : (P Q : ℕ → ℕ → Type 0) (t u v : List ℕ) (n m : ℕ) → Noted P t u 0 n → Noted Q u v n m → Past (n + m) t v
+noted-past P Q t u v n m a b = record { same = λ k l. b .rest k l ∙ a .rest k (omega arith) }
 
 pub noted-behind : (Q : ℕ → ℕ → Type 0) (u v : List ℕ) (n m : ℕ) → Noted Q u v n m → (k : ℕ) → n ≤ k → k < n + m → Q (k - n) (getD v k 0)
 noted-behind Q u v n m b k l h = let e : n + (k - n) ≡ k = omega arith in rw e at (b .each (k - n) (omega arith))

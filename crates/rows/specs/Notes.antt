@@ -2,7 +2,7 @@
 -- Assumes nothing.
 use mathlib.Core.Path.{_≡_}
 use mathlib.Core.List.{List}
-use Prim.Native.Nat.{ℕ, _+_, _*_, _^_, _<_}
+use Prim.Native.Nat.{ℕ, _+_, _*_, _^_, _≤_, _<_}
 use lib.ListN.{length, getD, drop}
 use Rattle.number.specs.Limits.{entryWidth, rowLimit}
 use Rattle.number.specs.Number.{be}
@@ -16,11 +16,12 @@ use Rattle.iids.specs.Joined.{held}
 use Rattle.tables.specs.Chains.{upFirst}
 use Rattle.iids.specs.Cells.{cell}
 
--- u is t with n places from `from` on filled: the k-th of them with a value of which P k holds
+-- u is t with n places from `from` on filled: the k-th of them with a value of which P k holds; the others are as they were
 pub record Noted (P : ℕ → ℕ → Type 0) (t u : List ℕ) (from n : ℕ) : Type 0 where
   pub long : rowLimit ≡ length u
   pub kept : (k : ℕ) → k < from → getD u k 0 ≡ getD t k 0
   pub each : (k : ℕ) → k < n → P k (getD u (from + k) 0)
+  pub rest : (k : ℕ) → from + n ≤ k → getD u k 0 ≡ getD t k 0
 
 -- v is the pool pointer of the name of entry i
 pub record NameOf (s : List ℕ) (l : Layout) (i v : ℕ) : Type 0 where

@@ -4,7 +4,7 @@ ghost use mathlib.Core.List.{List};
 ghost use Prim.Native.Nat.{ℕ, _+_, _≤_, _<_};
 ghost use lib.ListN.{length};
 ghost use Rattle.number.specs.Limits.{rowLimit, lastRow};
-ghost use Rattle.key.specs.First.{Filled};
+ghost use Rattle.key.specs.First.{Filled, Past};
 ghost use Rattle.reader.specs.Values.{Entry, aboveIn};
 ghost use Rattle.reader.specs.Layout.{LaidOut, Lies};
 ghost use Rattle.rows.specs.Rows.{aboveRow};
@@ -173,7 +173,7 @@ pub fn note_up(
     up: &mut [u16; ROW_LIMIT],
 )
     requires { ⌜ Lies (now first) l × Lies (now second) k × (rowLimit ≡ length (now firsts)) × (rowLimit ≡ length (now holders)) × (rowLimit ≡ length (now up)) × AtMost (now firsts) (l .count + k .count) lastRow × AtMost (now holders) (l .count + k .count) (l .count + k .count) ⌝ }
-    ensures { λ r. ⌜ ((es fs : List (Entry ℕ)) → LaidOut (now (first .entry)) l es → LaidOut (now (second .entry)) k fs → Filled (now (up .exit)) (l .count + k .count) (upRow (now (firsts .entry)) (now (holders .entry)) es fs)) × (rowLimit ≡ length (now (up .exit))) ⌝ }
+    ensures { λ r. ⌜ ((es fs : List (Entry ℕ)) → LaidOut (now (first .entry)) l es → LaidOut (now (second .entry)) k fs → Filled (now (up .exit)) (l .count + k .count) (upRow (now (firsts .entry)) (now (holders .entry)) es fs)) × (rowLimit ≡ length (now (up .exit))) × Past (l .count + k .count) (now (up .entry)) (now (up .exit)) ⌝ }
 {
     let n = l.count;
     let m = k.count;

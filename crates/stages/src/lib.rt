@@ -4,6 +4,7 @@ ghost use mathlib.Core.Path.{_≡_};
 ghost use Prim.Native.Nat.{_+_};
 ghost use lib.ListN.{length};
 ghost use Rattle.number.specs.Limits.{rowLimit};
+ghost use Rattle.key.specs.First.{Past};
 ghost use Rattle.rows.specs.Files.{Given, HoldBoth};
 ghost use Rattle.stages.specs.Stages.{Known, Keyed, Iids, Owns};
 use number::ROW_LIMIT;
@@ -23,7 +24,7 @@ pub fn sort_files(
     first: &mut [u16; ROW_LIMIT],
 ) -> usize
     requires { ⌜ Given (HoldBoth (now s) (now p) l (now t) (now q) k) × (rowLimit ≡ length (now keys)) × (rowLimit ≡ length (now first)) ⌝ }
-    ensures { λ c. ⌜ Known (HoldBoth (now (s .entry)) (now (p .entry)) l (now (t .entry)) (now (q .entry)) k) (Keyed (now (keys .exit)) (now (first .exit)) c (l .count + k .count)) × (rowLimit ≡ length (now (keys .exit))) × (rowLimit ≡ length (now (first .exit))) ⌝ }
+    ensures { λ c. ⌜ Known (HoldBoth (now (s .entry)) (now (p .entry)) l (now (t .entry)) (now (q .entry)) k) (Keyed (now (keys .exit)) (now (first .exit)) c (l .count + k .count)) × (rowLimit ≡ length (now (keys .exit))) × (rowLimit ≡ length (now (first .exit))) × Past c (now (keys .entry)) (now (keys .exit)) × Past (l .count + k .count) (now (first .entry)) (now (first .exit)) ⌝ }
 {
     let mut spaces = [0u32; ROW_LIMIT];
     let mut names = [0u32; ROW_LIMIT];
@@ -46,7 +47,7 @@ pub fn note_numbers(
     low: &mut [u64; ROW_LIMIT],
 )
     requires { ⌜ Given (HoldBoth (now s) (now p) l (now t) (now q) k) × (rowLimit ≡ length (now high)) × (rowLimit ≡ length (now low)) ⌝ }
-    ensures { λ r. ⌜ Known (HoldBoth (now (s .entry)) (now (p .entry)) l (now (t .entry)) (now (q .entry)) k) (Iids (now (high .exit)) (now (low .exit)) (l .count + k .count)) × (rowLimit ≡ length (now (high .exit))) × (rowLimit ≡ length (now (low .exit))) ⌝ }
+    ensures { λ r. ⌜ Known (HoldBoth (now (s .entry)) (now (p .entry)) l (now (t .entry)) (now (q .entry)) k) (Iids (now (high .exit)) (now (low .exit)) (l .count + k .count)) × (rowLimit ≡ length (now (high .exit))) × (rowLimit ≡ length (now (low .exit))) × Past (l .count + k .count) (now (high .entry)) (now (high .exit)) × Past (l .count + k .count) (now (low .entry)) (now (low .exit)) ⌝ }
 {
     let n = l.count;
     rows::note_iids(s, l, 0, high, low);
@@ -64,7 +65,7 @@ pub fn note_descriptors(
     own: &mut [u32; ROW_LIMIT],
 )
     requires { ⌜ Given (HoldBoth (now s) (now p) l (now t) (now q) k) × (rowLimit ≡ length (now own)) ⌝ }
-    ensures { λ r. ⌜ Known (HoldBoth (now (s .entry)) (now (p .entry)) l (now (t .entry)) (now (q .entry)) k) (Owns (now (p .entry)) (now (q .entry)) (now (own .exit)) (l .count) (l .count + k .count)) × (rowLimit ≡ length (now (own .exit))) ⌝ }
+    ensures { λ r. ⌜ Known (HoldBoth (now (s .entry)) (now (p .entry)) l (now (t .entry)) (now (q .entry)) k) (Owns (now (p .entry)) (now (q .entry)) (now (own .exit)) (l .count) (l .count + k .count)) × (rowLimit ≡ length (now (own .exit))) × Past (l .count + k .count) (now (own .entry)) (now (own .exit)) ⌝ }
 {
     let n = l.count;
     rows::note_own(s, l, 0, own);

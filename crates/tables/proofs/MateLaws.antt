@@ -12,7 +12,8 @@ use Rattle.number.specs.Choice.{_<?_}
 use Rattle.number.proofs.Choice.{both, from-yes-lt, from-not-lt}
 use Rattle.number.proofs.Scans.{below}
 use Rattle.key.specs.Key.{Key}
-use Rattle.key.specs.First.{firstSame, Filled}
+use Rattle.key.specs.First.{firstSame, Filled, Past}
+use Rattle.key.proofs.Pasts.{past-set}
 use Rattle.key.proofs.Firsts.{first-le, first-key, first-equal}
 use Rattle.sorting.proofs.Tables.{last}
 use Rattle.iids.specs.Cells.{cell, AtMost, Across}
@@ -76,6 +77,10 @@ module _ (first mates : List ℕ) (n N : ℕ) where
 
     pub mating-more : {u : List ℕ} → u ≡ mateNoted n (cell first j) j mates → Mating first u n N (j + 1)
     mating-more e = rw e (record { long = long-more; told = λ K g f. mates-more K g f })
+
+pub past-mating : (t m : List ℕ) (n k j : ℕ) {u : List ℕ} → u ≡ mateNoted n k j m → Past n t m → Past n t u
+unfolding mateNoted
+past-mating t m n k j e p = rw e (both (Past n t) (k <? n) (set m k (j + 1)) m (λ l. past-set n t m k (j + 1) (from-yes-lt k n l) p) (λ l. p))
 
 pub mating-end : (first mates : List ℕ) (n N j : ℕ) → N ≤ j → j ≤ N → Mating first mates n N j → (K : ℕ → Key) → Filled first N (firstSame K) → TwoFiles K n N → Mates K n N (cell mates)
 mating-end first mates n N j a b m K g f = let e : j ≡ N = omega arith in rw e at (m .told K g f)

@@ -13,6 +13,10 @@ nothing i = 0
 pub record Apart (t : List ℕ) (c : ℕ) : Type 0 where
   pub each : (a b : ℕ) → a < b → b < c → getD t a 0 ≡ getD t b 0 → ⊥
 
+-- the first c places of t hold rows below n
+pub record Below (t : List ℕ) (c n : ℕ) : Type 0 where
+  pub each : (q : ℕ) → q < c → getD t q 0 < n
+
 -- place holds for the first c rows of t their indices there, counted from 1
 pub record Spots (t : List ℕ) (c : ℕ) (place : List ℕ) : Type 0 where
   pub each : (q : ℕ) → q < c → getD place (getD t q 0) 0 ≡ q + 1

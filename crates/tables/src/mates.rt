@@ -4,7 +4,7 @@ ghost use Prim.Native.Nat.{ℕ, _+_, _≤_, _<_};
 ghost use lib.ListN.{length};
 ghost use Rattle.number.specs.Limits.{entryLimit, rowLimit};
 ghost use Rattle.key.specs.Key.{Key};
-ghost use Rattle.key.specs.First.{firstSame, Filled};
+ghost use Rattle.key.specs.First.{firstSame, Filled, Past};
 ghost use Rattle.iids.specs.Joined.{holder};
 ghost use Rattle.iids.specs.Cells.{cell, AtMost};
 ghost use Rattle.tables.specs.Tables.{Mates, TwoFiles};
@@ -27,7 +27,7 @@ fn note_mate(first: &[u16; ROW_LIMIT], n: usize, j: usize, mates: &mut [u16; ENT
 // The mates of the first file's rows, from the first row of each key.
 pub fn note_mates(first: &[u16; ROW_LIMIT], n: usize, total: usize, mates: &mut [u16; ENTRY_LIMIT])
     requires { ⌜ (n ≤ entryLimit) × (n ≤ total) × (total ≤ rowLimit) × (rowLimit ≡ length (now first)) × (entryLimit ≡ length (now mates)) × Filled (now mates) n nothing ⌝ }
-    ensures { λ r. ⌜ ((K : ℕ → Key) → Filled (now (first .entry)) total (firstSame K) → TwoFiles K n total → Mates K n total (cell (now (mates .exit)))) × (entryLimit ≡ length (now (mates .exit))) ⌝ }
+    ensures { λ r. ⌜ ((K : ℕ → Key) → Filled (now (first .entry)) total (firstSame K) → TwoFiles K n total → Mates K n total (cell (now (mates .exit)))) × (entryLimit ≡ length (now (mates .exit))) × Past n (now (mates .entry)) (now (mates .exit)) ⌝ }
 {
     let mut j = n;
     while j < total {
@@ -66,7 +66,7 @@ pub fn note_holders(
     holders: &mut [u16; ROW_LIMIT],
 )
     requires { ⌜ (n ≤ entryLimit) × (total ≤ rowLimit) × (rowLimit ≡ length (now own)) × (entryLimit ≡ length (now mates)) × AtMost (now mates) n rowLimit × (rowLimit ≡ length (now holders)) ⌝ }
-    ensures { λ r. ⌜ Filled (now (holders .exit)) total (holder (cell (now (own .entry))) (cell (now (mates .entry))) n) × (rowLimit ≡ length (now (holders .exit))) ⌝ }
+    ensures { λ r. ⌜ Filled (now (holders .exit)) total (holder (cell (now (own .entry))) (cell (now (mates .entry))) n) × (rowLimit ≡ length (now (holders .exit))) × Past total (now (holders .entry)) (now (holders .exit)) ⌝ }
 {
     let mut i: usize = 0;
     while i < total {

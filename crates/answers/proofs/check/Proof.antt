@@ -9,11 +9,11 @@ use Rattle.answers.proofs.check.Tie as tie
 
 returns : tie.Need-returns
 unfolding checkSaying sayVerdict verdictWhy lineOf
-returns c = rw (← c .before .before .before .before .before .before .check .ensures, c .before .before .before .before .n .given .1) (c .numbered .ensures)
+returns c = rw (← c .before .before .before .before .before .before .check .ensures .0, c .before .before .before .before .n .given .1) (c .numbered .ensures)
 
 returns-2 : tie.Need-returns-2
 unfolding checkSaying sayVerdict verdictWhy
-returns-2 c = rw (← c .before .before .before .before .before .check .ensures, c .before .before .before .why .given .1) (c .refused .ensures)
+returns-2 c = rw (← c .before .before .before .before .before .check .ensures .0, c .before .before .before .why .given .1) (c .refused .ensures)
 
 pub check-spec : {M : Type 1} → statement M
 check-spec =

@@ -10,7 +10,7 @@ returns : tie.Need-returns
 returns c = short (omega arith)
 
 returns-2 : tie.Need-returns-2
-returns-2 c = answers verdictNumbers (omega arith) (c .before .before .before .before .check .ensures) (c .before .before .put-verdict .ensures)
+returns-2 c = answers verdictNumbers (omega arith) (c .before .before .before .before .check .ensures .0) (c .before .before .put-verdict .ensures)
 
 pub saniotka-check-spec : {M : Type 1} → statement M
 saniotka-check-spec = tie.close (tie.spec returns (λ c κs. search needs) (λ c κs. search needs) (λ c. search needs) returns-2)

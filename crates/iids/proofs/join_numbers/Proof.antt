@@ -33,7 +33,7 @@ loop-again : tie.Need-loop-again Inv-loop μ-loop
 loop-again c = (omega arith, laws.joining-more _ _ _ _ _ _ _ _ _ (c .before .before .before .before .before .before .before .pre .6) (omega arith) (omega arith) (omega arith) (c .before .before .before .before .before .before .loop .inv .1) (c .before .before .number-row .ensures))
 
 returns : tie.Need-returns Inv-loop μ-loop
-returns c = (laws.joining-end _ _ _ _ _ _ _ _ (c .before .before .pre .6) (omega arith) (omega arith) (omega arith) (c .before .loop .inv .1), c .before .loop .inv .1 .long, c .before .loop .inv .1 .wide)
+returns c = (laws.joining-end _ _ _ _ _ _ _ _ (c .before .before .pre .6) (omega arith) (omega arith) (omega arith) (c .before .loop .inv .1), c .before .loop .inv .1 .long, c .before .loop .inv .1 .wide, record { same = λ r h. c .before .loop .inv .1 .rest r (omega arith) .0 }, record { same = λ r h. c .before .loop .inv .1 .rest r (omega arith) .1 })
 
 pub join-numbers-spec : {M : Type 1} → statement M
 join-numbers-spec =

@@ -13,7 +13,7 @@ use Rattle.lines.proofs.start.Tie as tie
 
 layout-of-requires : tie.Need-layout-of-requires
 layout-of-requires c κs =
-    let r = accepted-decodes (c .before .before .before .before .before .before .args .file .now) (sym (c .before .before .before .before .check .ensures) ∙ c .enum-told .given .1) in
+    let r = accepted-decodes (c .before .before .before .before .before .before .args .file .now) (sym (c .before .before .before .before .check .ensures .0) ∙ c .enum-told .given .1) in
     (r .0, r .1, r .2)
 
 returns : tie.Need-returns
@@ -21,7 +21,7 @@ returns c =
     let a = c .before .before .before .before .before .before .before .args in
     let s = a .file .now in
     let n = c .before .enum-told .given .0 .0 in
-    let r = accepted-decodes s (sym (c .before .before .before .before .before .check .ensures) ∙ c .before .enum-told .given .1) in
+    let r = accepted-decodes s (sym (c .before .before .before .before .before .check .ensures .0) ∙ c .before .enum-told .given .1) in
     let laid = c .layout-of .ensures (r .0) (r .1) (r .2) in
     let v = c .before .before .before .put-verdict .ensures in
     let w = verdict-wrote (a .line .now) _ (Accepted n) (c .before .enum-told .given .1) v in
@@ -37,7 +37,7 @@ returns-2 c =
     let x = c .before .enum-told2 .given .0 .0 in
     let v = c .before .before .before .put-verdict .ensures in
     let w = verdict-wrote (a .line .now) _ (Refused x) (c .before .enum-told2 .given .1) v in
-    let e = listed-refused (a .file .now) x (sym (c .before .before .before .before .before .check .ensures) ∙ c .before .enum-told2 .given .1) in
+    let e = listed-refused (a .file .now) x (sym (c .before .before .before .before .before .check .ensures .0) ∙ c .before .enum-told2 .given .1) in
     starts-only (a .file .now) _ (a .line .now) _ _ _ (c .only-line .ensures) (v .1 .0) (wrote-as (sym e) w)
 
 pub start-spec : {M : Type 1} → statement M

@@ -9,21 +9,21 @@ use Rattle.listed.proofs.open.Tie as tie
 
 layout-of-requires : tie.Need-layout-of-requires
 layout-of-requires c κs =
-    let r = accepted-decodes (c .before .before .before .before .before .before .before .before .before .before .args .file .now) (sym (c .before .before .before .before .before .before .before .before .check .ensures) ∙ c .before .before .before .before .before .before .n .given .1) in
+    let r = accepted-decodes (c .before .before .before .before .before .before .before .before .before .before .args .file .now) (sym (c .before .before .before .before .before .before .before .before .check .ensures .0) ∙ c .before .before .before .before .before .before .n .given .1) in
     (r .0, r .1, r .2)
 
 returns : tie.Need-returns
 returns c =
     let a = c .before .before .before .before .before .before .before .before .args in
     let x = c .before .before .before .before .why .given in
-    opens-refused (a .in-batch) (a .file .now) (a .text .now) (c .before .refused .result) (x .0 .0) (c .no-rest .result) _ (sym (c .before .before .before .before .before .before .check .ensures) ∙ x .1) (c .before .refused .ensures) (c .no-rest .ensures)
+    opens-refused (a .in-batch) (a .file .now) (a .text .now) (c .before .refused .result) (x .0 .0) (c .no-rest .result) _ (sym (c .before .before .before .before .before .before .check .ensures .0) ∙ x .1) (c .before .refused .ensures) (c .no-rest .ensures)
 
 returns-2 : tie.Need-returns-2
 unfolding lineOf
 returns-2 c =
     let a = c .before .before .before .before .before .before .before .before .before .before .before .before .args in
     let n = c .before .before .before .before .before .before .before .before .n .given in
-    let e = sym (c .before .before .before .before .before .before .before .before .before .before .check .ensures) ∙ n .1 in
+    let e = sym (c .before .before .before .before .before .before .before .before .before .before .check .ensures .0) ∙ n .1 in
     let r = accepted-decodes (a .file .now) e in
     let said = c .before .before .before .before .numbered in
     opens-accepted (a .in-batch) (a .file .now) (a .text .now) (said .result) (r .0) (r .1) (n .0 .0) (c .before .layout-of .result) _ (c .rest-of .result) _ (omega (arith, c .before .before .before .bar-arg)) e (r .2) (r .3) (c .before .layout-of .ensures (r .0) (r .1) (r .2)) (said .ensures) (c .before .before .bar .ensures) (c .rest-of .ensures)

@@ -16,21 +16,21 @@ enum-known-n : tie.Need-enum-known-n
 enum-known-n c = search needs
 
 layout-of-requires : tie.Need-layout-of-requires
-layout-of-requires c κs = laws.accepted _ (sym (c .before .before .before .check .ensures) ∙ c .before .n .given .1)
+layout-of-requires c κs = laws.accepted _ (sym (c .before .before .before .check .ensures .0) ∙ c .before .n .given .1)
 
 by-slot-requires : tie.Need-by-slot-requires
-by-slot-requires c κs = laws.lies _ (sym (c .before .before .before .before .check .ensures) ∙ c .before .before .n .given .1) _ (c .layout-of .ensures)
+by-slot-requires c κs = laws.lies _ (sym (c .before .before .before .before .check .ensures .0) ∙ c .before .before .n .given .1) _ (c .layout-of .ensures)
 
 enum-known-why : tie.Need-enum-known-why
 enum-known-why c = search needs
 
 returns : tie.Need-returns
 unfolding askSlot
-returns c = laws.asked _ (sym (c .before .before .before .before .before .check .ensures) ∙ c .before .before .before .n .given .1) _ (c .before .layout-of .ensures) (λ (g : Got Typelib). askSlot g (c .before .before .before .before .before .before .before .args .index) (c .before .before .before .before .before .before .before .args .slot)) (λ t e. refl) (c .by-slot .ensures)
+returns c = laws.asked _ (sym (c .before .before .before .before .before .check .ensures .0) ∙ c .before .before .before .n .given .1) _ (c .before .layout-of .ensures) (λ (g : Got Typelib). askSlot g (c .before .before .before .before .before .before .before .args .index) (c .before .before .before .before .before .before .before .args .slot)) (λ t e. refl) (c .by-slot .ensures)
 
 returns-2 : tie.Need-returns-2
 unfolding askSlot refusal
-returns-2 c = laws.refused _ (sym (c .before .before .before .check .ensures) ∙ c .before .why .given .1) (λ (g : Got Typelib). askSlot g (c .before .before .before .before .before .args .index) (c .before .before .before .before .before .args .slot)) refl
+returns-2 c = laws.refused _ (sym (c .before .before .before .check .ensures .0) ∙ c .before .why .given .1) (λ (g : Got Typelib). askSlot g (c .before .before .before .before .before .args .index) (c .before .before .before .before .before .args .slot)) refl
 
 pub method-by-slot-spec : {M : Type 1} → statement M
 method-by-slot-spec = tie.close (tie.spec check-requires enum-known-n layout-of-requires by-slot-requires enum-known-why returns returns-2)

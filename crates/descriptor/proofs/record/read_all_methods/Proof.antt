@@ -38,7 +38,7 @@ read-methods-requires : tie.Need-read-methods-requires
 read-methods-requires c κs = search needs
 
 returns-3 : tie.Need-returns-3
-returns-3 c = tabled-noted _ _ _ _ _ _ (omega arith) (omega arith) (omega arith) (c .read-methods .ensures)
+returns-3 c = tabled-noted _ _ _ _ _ _ (omega arith) (omega arith) (omega arith) (c .read-methods .ensures .0)
 
 pub read-all-methods-spec : {M : Type 1} → statement M
 read-all-methods-spec =
