@@ -1,54 +1,42 @@
--- `answers::iid` meets its contract. Digits of another length are asked as no bytes, which is answered alike.
--- Assumes nothing.
-use Rattle.number.proofs.Tools.{sym, ap, _∙_, needs}
-use Rattle.reader.specs.Reader.{decode}
-use Rattle.lookup.specs.Question.{askIid}
-use Rattle.answers.specs.Commands.{withHex, iidSaying}
-use Rattle.sayings.specs.Sayings.{sayInterface}
-use Rattle.sayings.proofs.SayingLaws.{says-as}
-use Rattle.answers.proofs.CommandLaws.{bytes-whole, bytes-sixteen, asked-other}
+use borrow.Author.Needs.{needs}
 use Rattle.answers.proofs.iid.Statement.{statement}
 use Rattle.answers.proofs.iid.Tie as tie
+use Rattle.answers.proofs.iid.Reads as reads
+use Rattle.answers.proofs.iid.Lts as lts
+use Rattle.answers.proofs.of_digits.Reads as of-digits-reads
+use Rattle.guids.proofs.plain.Reads as plain-reads
 
-slice-aggregate-interface-by-iid : tie.Need-slice-aggregate-interface-by-iid
-slice-aggregate-interface-by-iid c = bytes-sixteen (c .before .before .before .before .before .before .before .args .hex .now) _ _ (sym (c .before .before .before .iid-bytes .ensures .0) ∙ c .before .enum-told .given .1) (c .before .before .before .iid-bytes .ensures .1)
+-- src/lib.rt:43:8
+plain-requires : tie.Need-plain-requires
+plain-requires c κs = search needs
 
+-- src/lib.rt:44:32
+slice-aggregate-of-digits : tie.Need-slice-aggregate-of-digits
+slice-aggregate-of-digits c = ?
+
+-- src/lib.rt:44:9
+of-digits-requires : tie.Need-of-digits-requires
+of-digits-requires c κs = search needs
+
+-- src/lib.rt:44:9
 returns : tie.Need-returns
-unfolding iidSaying withHex
-returns c =
-    let a = c .before .before .before .before .before .before .before .before .before .before .args in
-    let whole = sym (c .before .before .before .before .before .before .iid-bytes .ensures .0) ∙ c .before .before .before .before .enum-told .given .1 in
-    rw whole (says-as (ap sayInterface (c .before .before .interface-by-iid .ensures ∙ ap (askIid (decode (a .file .now))) (bytes-whole (a .hex .now) _ _ whole (c .before .before .before .before .before .before .iid-bytes .ensures .1)))) (c .interface .ensures))
+returns c = ?
 
+-- src/lib.rt:46:5
+of-digits-requires-2 : tie.Need-of-digits-requires-2
+of-digits-requires-2 c κs = search needs
+
+-- src/lib.rt:39:1
 returns-2 : tie.Need-returns-2
-unfolding iidSaying withHex
-returns-2 c =
-    let a = c .before .before .before .before .before .before .before .before .before .before .args in
-    let other = sym (c .before .before .before .before .before .before .iid-bytes .ensures .0) ∙ c .before .before .before .before .enum-told2 .given .1 in
-    rw other (says-as (ap sayInterface (c .before .before .interface-by-iid2 .ensures ∙ asked-other (a .hex .now) (decode (a .file .now)) other)) (c .interface2 .ensures))
-
-returns-3 : tie.Need-returns-3
-unfolding iidSaying withHex
-returns-3 c = rw (sym (c .before .before .before .before .before .iid-bytes .ensures .0) ∙ c .before .before .before .enum-told3 .given .1) (c .mistake .ensures)
+returns-2 c = ?
 
 pub iid-spec : {M : Type 1} → statement M
 iid-spec =
     tie.close
     (tie.spec
-    (λ c κs. search needs)
-    (λ c. search needs)
-    slice-aggregate-interface-by-iid
-    (λ c κs. search needs)
-    (λ c κs. search needs)
-    (λ c. search needs)
-    (λ c. search needs)
-    (λ c. search needs)
-    (λ c. search needs)
-    (λ c κs. search needs)
-    (λ c κs. search needs)
-    (λ c. search needs)
-    (λ c. search needs)
-    (λ c κs. search needs)
+    plain-requires
+    slice-aggregate-of-digits
+    of-digits-requires
     returns
-    returns-2
-    returns-3)
+    of-digits-requires-2
+    returns-2)
