@@ -36,7 +36,7 @@ fn add(lib: &mut Typelib, line: &str) {
     match words[..] {
         ["compiler", ref text @ ..] => {
             let text = text.join(" ").into_bytes();
-            lib.annotations = vec![Annotation::Texts(b"compiler".to_vec(), text)];
+            lib.annotations = vec![Some([b"compiler".to_vec(), text])];
         }
         ["entry", iid, namespace, name, ref parent @ ..] => {
             let iid = u128::from_str_radix(iid, 16).expect("an IID").to_be_bytes();

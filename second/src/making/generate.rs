@@ -46,9 +46,7 @@ pub fn fitting(tag: u8, iid: u8, size: u8) -> [u8; 3] {
 
 /// An IID that ends in the number.
 pub fn iid(number: u64) -> [u8; 16] {
-    let mut iid = [0; 16];
-    iid[8..].copy_from_slice(&number.to_be_bytes());
-    iid
+    u128::from(number).to_be_bytes()
 }
 
 fn iids(rng: &mut Rng, count: usize) -> Vec<[u8; 16]> {
@@ -206,11 +204,7 @@ pub fn annotations(rng: &mut Rng) -> Vec<Annotation> {
         (0..length).map(|_| rng.byte() & 0x7f).collect()
     };
     let count = if rng.percent(60) { 1 } else { rng.range(1, 5) };
-    let one = |_| match rng.percent(60) {
-        true => Annotation::Empty,
-        false => Annotation::Texts(text(rng), text(rng)),
-    };
-    (0..count).map(one).collect()
+    (0..count).map(|_| (!rng.percent(60)).then(|| [text(rng), text(rng)])).collect()
 }
 
 /// A random layout without contents.
@@ -359,11 +353,8 @@ pub fn rich(minor: u8, order: Order) -> Typelib {
     let (argument, simple) = (Parameter::new, Parameter::simple);
     let void = || simple(0, VOID);
     let mut lib = Typelib { minor, order, ..Typelib::plain(7) };
-    lib.annotations = vec![
-        Annotation::Empty,
-        Annotation::Texts(b"by hand".to_vec(), b"1.0".to_vec()),
-        Annotation::Texts(Vec::new(), b"x".to_vec()),
-    ];
+    let texts = [["by hand", "1.0"], ["", "x"]].map(|texts| Some(texts.map(Vec::from)));
+    lib.annotations = [&[None][..], &texts].concat();
     for (entry, number) in lib.entries.iter_mut().zip([0, 0, 5, 6, 0x1_0000, 0x1_0001, u64::MAX]) {
         entry.iid = iid(number);
     }
@@ -499,11 +490,11 @@ pub fn special() -> Vec<Typelib> {
     }
     let text = |length: usize| vec![b'x'; length];
     for (first, second) in [(0, 0), (0, 1), (1, 0), (127, 128), (65_535, 0), (300, 65_535)] {
-        let annotations = vec![Annotation::Texts(text(first), text(second)), Annotation::Empty];
+        let annotations = vec![Some([text(first), text(second)]), None];
         all.push(Typelib { annotations: annotations.clone(), ..empty.clone() });
         all.push(Typelib { annotations, ..Typelib::plain(2) });
     }
-    all.push(Typelib { annotations: vec![Annotation::Empty; 1000], ..empty.clone() });
+    all.push(Typelib { annotations: vec![None; 1000], ..empty.clone() });
     // The directory farther on.
     let farther = |directory_gap| Typelib { directory_gap, junk: 9, ..Typelib::plain(3) };
     all.extend([1, 2, 7, 63, 64, 1000].map(farther));
