@@ -4,7 +4,7 @@
 //! - `making`: generating and damaging typelibs;
 //! - `library`: comparing through the static library (the calls themselves: `linked/`);
 //! - `line`: comparing through the command line, `xpt` and the listing program;
-//! - `floors`: the one table of what must come at least, with `tally`, which counts.
+//! - `tally`: the counts, and `floors.txt`, the one table of what must come at least.
 //!
 //! Where to add
 //!
@@ -19,7 +19,6 @@
 //!   kind of `Asked` in `library/cases.rs`, and a driver beside `library/questions.rs`;
 //! - a command of `xpt`: its answer in `line/answers.rs`, a method of `Script`, and a story.
 
-pub mod floors;
 pub mod library;
 pub mod line;
 pub mod making;

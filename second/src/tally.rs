@@ -1,6 +1,6 @@
-//! Counts of what was compared, row by row, held against the floors.
+//! Counts of what was compared, row by row, held against the one table of floors: how often
+//! everything must come at least in a run, of any seed.
 
-use crate::floors;
 use std::collections::hash_map::DefaultHasher;
 use std::collections::{BTreeSet, HashMap, HashSet};
 use std::hash::{Hash, Hasher};
@@ -57,6 +57,34 @@ pub const NUMBER: &[&str] = numbered!("", "");
 pub const REFUSED: &[&str] = numbered!("refused ", "");
 pub const REFUSAL: &[&str] = numbered!("refusal ", "");
 pub const LINK: &[&str] = numbered!("link ", "");
+
+/// What depends on the seed is set well below what came with twenty of them.
+const FLOORS: &str = include_str!("floors.txt");
+
+/// The floors of a part, in the table's order.
+pub fn floors(part: &str) -> Vec<(Row, Numbers)> {
+    let mut floors = Vec::new();
+    let mut is_part = false;
+    let mut group = ("", [0; 4]);
+    for line in FLOORS.lines().filter(|line| !line.starts_with('#')) {
+        if let Some(named) = line.strip_prefix('[') {
+            is_part = named.strip_suffix(']') == Some(part);
+        } else if is_part && !line.is_empty() {
+            let mut columns = line.split('|').map(str::trim).rev();
+            let whats = columns.next().unwrap_or("");
+            // A line without numbers goes on with the group before it.
+            if let (Some(numbers), Some(about)) = (columns.next(), columns.next()) {
+                group = (about, [0; 4]);
+                for (least, number) in group.1.iter_mut().zip(numbers.split_whitespace()) {
+                    *least = number.parse().unwrap_or_else(|_| panic!("no number: {line}"));
+                }
+            }
+            let whats = whats.strip_suffix(';').unwrap_or(whats).split(';').map(str::trim);
+            floors.extend(whats.map(|what| ((group.0, what), group.1)));
+        }
+    }
+    floors
+}
 
 /// Tells files and rows of files apart.
 pub fn hash(files: &[&[u8]]) -> u64 {
@@ -118,12 +146,11 @@ impl Tally {
         floors.iter().filter(falls).map(|(row, _)| *row).collect()
     }
 
-    /// Whether every floor of the part is reached; if not the table is printed.
+    /// Prints the table, and whether every floor of the part is reached.
     pub fn is_enough(&self) -> bool {
-        let short = self.short(&floors::of(self.part));
-        if !short.is_empty() {
-            self.print();
-        }
+        let floors = floors(self.part);
+        self.print(&floors);
+        let short = self.short(&floors);
         for (about, what) in &short {
             println!("TOO FEW: {}, {about}, {what}", self.part);
         }
@@ -131,15 +158,14 @@ impl Tally {
     }
 
     /// Prints the table: rows with floors in their order, then the others.
-    pub fn print(&self) {
+    fn print(&self, floors: &[(Row, Numbers)]) {
         let [count, places, files, ways] = ["count", "places", "files", "ways"];
         println!("{:<20}{:<39}{count:>9}{places:>8}{files:>8}{ways:>6}   at least", self.part, "");
-        let floors = floors::of(self.part);
         let has_floor: HashSet<Row> = floors.iter().map(|(row, _)| *row).collect();
         let mut others: Vec<_> = self.rows.keys().filter(|row| !has_floor.contains(row)).collect();
         others.sort_unstable();
         let others = others.into_iter().map(|row| (*row, [0; 4]));
-        for (row, least) in floors.into_iter().chain(others) {
+        for (row, least) in floors.iter().copied().chain(others) {
             let [count, places, files, ways] = self.numbers(&row).map(|number| match number {
                 0 => String::new(),
                 number => number.to_string(),

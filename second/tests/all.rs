@@ -1,13 +1,13 @@
 //! The second program on document 01's marked cases and the readings, by the tables beside this
 //! file; and that a planted difference is found, made smaller and kept.
 
-use second::library::cases::{read, replay, shown, Asked, Case};
+use second::library::cases::{kept, replay, shown, Asked, Case};
 use second::library::{checks, links, questions, questions::Found, Program, Session, OWN};
 use second::line::{compare::tells, listing, process, Folder};
 use second::making::{builder::*, generate::marked, generate::rich};
+use second::program::Answer;
 use second::program::{check::check, listing::program, questions::Lookup, questions::Slot};
-use second::tally::{Came, Tally};
-use second::{floors, program::Answer};
+use second::tally::{floors, Came, Tally};
 use std::fs;
 
 /// A table's lines, without empty ones and comments.
@@ -230,18 +230,17 @@ fn listings() {
 /// Runs a part with a program that is wrong on purpose: the one case that is kept, made smaller.
 fn planted(part: &'static str, run: fn(&mut Session), wrong: Program) -> Case {
     let folder = Folder::usual().unwrap();
-    let mut session = Session::new(part, 2, wrong, &folder.0);
+    let path = folder.0.join("cases.txt");
+    let mut session = Session::new(part, 2, wrong, &path);
     run(&mut session);
     assert!(session.differs);
-    let path = fs::read_dir(&folder.0).unwrap().next().unwrap().unwrap().path();
-    let (case, expected) = read(&path).unwrap();
+    let line = fs::read_to_string(&path).unwrap();
+    let (case, expected) = kept(line.trim_end()).unwrap();
     assert!(case.differs(&wrong) && !case.differs(&OWN));
-    assert!(!replay(&folder.0, &wrong));
     // Undecided, until someone puts in what document 01 asks for.
-    assert!(!replay(&folder.0, &OWN));
-    let text = fs::read_to_string(path.join("case.txt")).unwrap();
-    fs::write(path.join("case.txt"), text.replace(&expected, &case.answer(&OWN))).unwrap();
-    assert!(replay(&folder.0, &OWN) && !replay(&folder.0, &wrong));
+    assert!(!replay(&path, &wrong) && !replay(&path, &OWN));
+    fs::write(&path, line.replace(expected, &case.answer(&OWN))).unwrap();
+    assert!(replay(&path, &OWN) && !replay(&path, &wrong));
     case
 }
 
@@ -293,5 +292,5 @@ fn what_is_told_and_counted() {
     let short = |numbers| tally.short(&[(("refusal 9", ""), numbers)]).len();
     assert_eq!([[3, 3, 1, 1], [4, 3, 1, 1], [3, 4, 1, 1], [3, 3, 2, 1]].map(short), [0, 1, 1, 1]);
     let parts = ["compare", "checks", "questions", "links", "listings", "batches", "alone"];
-    assert_eq!(parts.map(|part| floors::of(part).len()).iter().sum::<usize>(), 834);
+    assert_eq!(parts.map(|part| floors(part).len()).iter().sum::<usize>(), 834);
 }

@@ -1,15 +1,14 @@
 //! Comparisons that can be made again: what is asked, the files it is asked of, and what a program
-//! answers. Where two differ the case is made smaller and kept in a folder; kept cases are replayed.
+//! answers. Where two differ the case is made smaller and kept; kept cases are replayed.
 
 use super::buffers::{lent, strayed, GUARD};
 use super::questions::{Found, Question, Reply};
 use super::{shrink::shrink, Program, OWN};
 use crate::program::{link::LinkRefusal, questions::Kind, Answer, Refusal};
-use crate::tally::hash;
-use std::{fs, io, path::Path, path::PathBuf, time::Duration};
+use std::{fs, io::Write, path::Path, time::Duration};
 
 /// Where differences are kept.
-pub const FOLDER: &str = concat!(env!("CARGO_MANIFEST_DIR"), "/cases");
+pub const KEPT: &str = concat!(env!("CARGO_MANIFEST_DIR"), "/cases.txt");
 
 /// How long a difference may be made smaller.
 const PATIENCE: Duration = Duration::from_secs(20);
@@ -168,15 +167,13 @@ fn bytes(hex: &str) -> Option<Vec<u8>> {
     pairs.map(|pair| u8::from_str_radix(std::str::from_utf8(pair).ok()?, 16).ok()).collect()
 }
 
-// Kept cases: a folder with the files 1.xpt, 2.xpt, .. and a text.
+// Kept cases, a line each: what is asked, the files in hexadecimal, and the answer that document 01
+// asks for.
 
-const TEXT: &str = "case.txt";
-const QUESTION: &str = "question: ";
-const EXPECTED: &str = "expected: ";
 const UNDECIDED: &str = "to be decided by document 01";
 
 /// Tells of a difference, makes it smaller and keeps it.
-pub fn found(folder: &Path, made: &str, case: Case, other: &Program) {
+pub fn found(path: &Path, made: &str, case: Case, other: &Program) {
     let lengths: Vec<_> = case.files.iter().map(|file| file.len().to_string()).collect();
     println!("DIFFERENCE on {} bytes ({made}), asked: {}", lengths.join(", "), case.asked.line());
     print!("{}", case.told(other));
@@ -187,66 +184,36 @@ pub fn found(folder: &Path, made: &str, case: Case, other: &Program) {
         false => case.clone(),
     };
     print!("made smaller:\n{}", small.told(other));
-    for file in small.files.iter().filter(|file| file.len() <= 4_096) {
-        println!("{}", hex(file));
-    }
-    match keep(folder, &small, other) {
-        Ok(path) => println!("kept as {}", path.display()),
+    let files: Vec<String> = small.files.iter().map(|file| hex(file)).collect();
+    files.iter().filter(|file| file.len() <= 8_192).for_each(|file| println!("{file}"));
+    let line = format!("{} | {} | {UNDECIDED}\n", small.asked.line(), files.join(" "));
+    let kept = fs::OpenOptions::new().create(true).append(true).open(path);
+    match kept.and_then(|mut kept| kept.write_all(line.as_bytes())) {
+        Ok(()) => println!("kept in {}", path.display()),
         Err(error) => println!("not kept: {error}"),
     }
 }
 
-/// Writes a case into a folder of its own and gives that.
-fn keep(folder: &Path, case: &Case, other: &Program) -> io::Result<PathBuf> {
-    let line = case.asked.line();
-    let word = line.split(' ').next().unwrap_or("case");
-    let files: Vec<&[u8]> = case.files.iter().map(|file| &file[..]).collect();
-    let path = folder.join(format!("{word}-{:08x}", hash(&files) as u32));
-    fs::create_dir_all(&path)?;
-    for (i, file) in files.iter().enumerate() {
-        fs::write(path.join(format!("{}.xpt", i + 1)), file)?;
-    }
-    let text = format!("{QUESTION}{line}\n{}{EXPECTED}{UNDECIDED}\n", case.told(other));
-    fs::write(path.join(TEXT), text)?;
-    Ok(path)
+/// A kept case and the expected answer.
+pub fn kept(line: &str) -> Option<(Case, &str)> {
+    let [asked, files, expected] = line.split(" | ").collect::<Vec<_>>().try_into().ok()?;
+    let files = files.split(' ').map(bytes).collect::<Option<_>>()?;
+    Some((Case { asked: Asked::parse(asked)?, files }, expected))
 }
 
-/// Reads what `keep` wrote, perhaps with the expected answer put in.
-pub fn read(path: &Path) -> Result<(Case, String), String> {
-    let text = fs::read_to_string(path.join(TEXT)).map_err(|error| format!("{TEXT}: {error}"))?;
-    let field = |start: &str| text.lines().find_map(|line| line.strip_prefix(start));
-    let question = field(QUESTION).ok_or("no question")?;
-    let asked = Asked::parse(question).ok_or_else(|| format!("not a question: {question}"))?;
-    let file = |i: usize| {
-        let name = format!("{i}.xpt");
-        fs::read(path.join(&name)).map_err(|error| format!("{name}: {error}"))
-    };
-    let files = if matches!(asked, Asked::Link(_)) { 2 } else { 1 };
-    let files = (1..=files).map(file).collect::<Result<_, _>>()?;
-    Ok((Case { asked, files }, field(EXPECTED).unwrap_or(UNDECIDED).to_string()))
-}
-
-/// Why a kept case does not pass, if it does not.
-fn replayed((case, expected): (Case, String), other: &Program) -> Result<(), String> {
-    match case.differs(other) || case.answer(&OWN) != expected {
-        true => Err(format!("expected: {expected}\n{}", case.told(other))),
-        false => Ok(()),
-    }
-}
-
-/// Replays the kept cases of a folder. Whether all are well.
-pub fn replay(folder: &Path, other: &Program) -> bool {
-    let entries = fs::read_dir(folder).into_iter().flatten().flatten();
-    let mut paths: Vec<_> =
-        entries.map(|entry| entry.path()).filter(|path| path.is_dir()).collect();
-    paths.sort();
+/// Replays the kept cases. Whether all are well.
+pub fn replay(path: &Path, other: &Program) -> bool {
+    let text = fs::read_to_string(path).unwrap_or_default();
     let mut good = true;
-    for path in &paths {
-        if let Err(why) = read(path).and_then(|kept| replayed(kept, other)) {
-            println!("CASE {}: {why}", path.display());
-            good = false;
-        }
+    for line in text.lines() {
+        let why = match kept(line) {
+            Some((case, is)) if case.answer(&OWN) == is && !case.differs(other) => continue,
+            Some((case, _)) => case.told(other),
+            None => "not a case".to_string(),
+        };
+        println!("CASE {line}\n{why}");
+        good = false;
     }
-    println!("{} kept cases replayed", paths.len());
+    println!("{} kept cases replayed", text.lines().count());
     good
 }

@@ -39,8 +39,7 @@ impl Difference {
         for step in before[before.len().saturating_sub(STORY)..].iter().chain([step]) {
             text += &format!("\n  command:  {}", shown(&step.line()));
         }
-        let kept =
-            |(i, (_, bytes)): (usize, &(_, Bytes))| (format!("{}.xpt", i + 1), bytes.to_vec());
+        let kept = |(i, bytes): (usize, &Bytes)| (format!("{}.xpt", i + 1), bytes.to_vec());
         Difference { text, files: step.reads.iter().enumerate().map(kept).collect() }
     }
 
@@ -149,11 +148,11 @@ fn answers_stand(
     let mut told = ran.stderr.split_inclusive(|byte| *byte == b'\n');
     let mut others_allowed = 0;
     for step in steps {
-        let Some((line, rest)) = step.answer.eat(printed, script.alone) else {
+        let Some((line, rest)) = step.outcome.eat(printed, script.alone) else {
             let line = printed.split(|byte| *byte == b'\n').next().unwrap_or(b"");
             let ended = ran.broken.as_ref().map(|how| how.as_bytes());
             let difference = Difference::new("answered otherwise", script, step);
-            let difference = difference.with("expected", step.answer.text.as_deref());
+            let difference = difference.with("expected", step.outcome.text.as_deref());
             return Err(difference.with("answered", Some(line)).with("ended", ended));
         };
         printed = rest;
@@ -207,7 +206,7 @@ pub fn run(program: &Program, script: &Script, tally: &mut Tally) -> Result<(), 
         };
         answers_stand(script, steps, &ran, tally)?;
         for step in steps {
-            if let (Some(path), Some(bytes)) = (&step.out, &step.written) {
+            if let (Some(path), Some(bytes)) = (&step.out, &step.outcome.written) {
                 files.insert(path.clone(), bytes.clone());
             }
             count(script, step, tally);

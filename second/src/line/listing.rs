@@ -153,11 +153,7 @@ pub fn run(program: &Program, seed: u64, count: usize, entries: usize) -> io::Re
         }
         self::count(&mut tally, made, input);
     }
-    let enough = tally.is_enough();
-    if enough {
-        tally.print();
-    }
-    Ok(enough)
+    Ok(tally.is_enough())
 }
 
 /// Tells of a difference and keeps its input, made smaller.

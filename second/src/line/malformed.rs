@@ -1,6 +1,5 @@
 //! Lines that cannot be asked: each gets an error, and must not disturb its neighbours.
 
-use super::answers::Outcome;
 use super::script::{Name, Script, LONGEST_LINE, SUBFOLDER};
 use crate::library::questions::Question;
 use crate::making::rng::Rng;
@@ -22,7 +21,7 @@ pub fn every_kind(script: &mut Script, file: &Name, good: &Name, out: &Name) {
         };
         let words = line.split(|byte| *byte == b' ').map(word).collect();
         script.story();
-        script.words(words, Outcome::error(kind).answer, ("error", kind, None));
+        script.error(words, kind);
     }
 }
 
@@ -155,7 +154,7 @@ pub fn empty_words(script: &mut Script, file: &Name) {
         let more = more.iter().map(|word| word.as_bytes().to_vec()).collect();
         let step = script.ask_so(file, command, more, &question);
         step.counts.push(("line", "with an empty word", None));
-        step.answer.or_error = !alone || !strictly;
+        step.outcome.or_error = !alone || !strictly;
     };
     ask("iid", &[""], true, Question::Iid(Vec::new()));
     ask("key", &["-", ""], true, Question::Key(Vec::new(), Vec::new()));
@@ -172,7 +171,7 @@ pub fn long_lines(script: &mut Script, file: &Name) {
         script.story();
         let words = vec![b"1".to_vec(), name.clone()];
         let step = script.ask_so(file, "const", words, &Question::Constant(1, name));
-        step.answer.or_error = length > LONGEST_LINE;
+        step.outcome.or_error = length > LONGEST_LINE;
         let what = if length > LONGEST_LINE { "over 65,535 bytes" } else { "about 65,535 bytes" };
         step.counts.push(("line", what, None));
     }

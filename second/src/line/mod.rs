@@ -183,28 +183,18 @@ fn report(Difference { text, files }: &Difference) -> io::Result<()> {
 /// Compares `xpt` with this program, these parts with so many seeds; stops at the first difference.
 /// Whether all is well.
 pub fn run(program: &Program, parts: &[Part], seed: u64, rounds: u64) -> io::Result<bool> {
-    let mut whole: Vec<Tally> = parts.iter().map(|(name, ..)| Tally::new(name)).collect();
+    let mut good = true;
     for seed in (0..rounds).map(|round| seed.wrapping_add(round)) {
         let supply = Supply::new(seed, OF_EACH_KIND);
-        for (part, whole) in parts.iter().zip(&mut whole) {
+        for part in parts {
             let start = Instant::now();
-            match scripts(program, &supply, *part, seed) {
-                Ok(tally) => whole.join(tally),
-                Err(difference) => {
-                    println!("{}, seed {seed}", part.0);
-                    return report(&difference).map(|()| false);
-                }
-            }
+            let done = scripts(program, &supply, *part, seed);
             println!("{}, seed {seed}: {:.1} s", part.0, start.elapsed().as_secs_f64());
+            match done {
+                Ok(tally) => good &= tally.is_enough(),
+                Err(difference) => return report(&difference).map(|()| false),
+            }
         }
     }
-    println!();
-    let mut enough = true;
-    for tally in &whole {
-        match tally.is_enough() {
-            true => tally.print(),
-            false => enough = false,
-        }
-    }
-    Ok(enough)
+    Ok(good)
 }

@@ -157,13 +157,13 @@ pub fn pair(script: &mut Script, a: &Bytes, b: &Bytes) {
     let (a, b) = (script.place(a.clone()), script.place(b.clone()));
     let (ab, ba) = (script.free(), script.free());
     script.story();
-    script.write("link", &[&a, &b], &ab, Some(FORWARD));
+    script.write(&[&a, &b, &ab], Some(FORWARD));
     match script.content(&ab).is_some() {
         true => questions(script, &ab, 4),
         false if script.rng.percent(20) => script.check(&ab),
         false => {}
     }
-    script.write("link", &[&b, &a], &ba, Some(BACKWARD));
+    script.write(&[&b, &a, &ba], Some(BACKWARD));
     law(script, "swapping: same bytes", "swapping: neither", &ab, &ba);
 }
 
