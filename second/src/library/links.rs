@@ -1,7 +1,7 @@
 //! Normal forms and links of many files: answers, every byte of the buffers, and the laws of
 //! linking.
 
-use super::buffers::{lent, Room, GUARD, ROOMS};
+use super::buffers::{lent, short, wide, Room, GUARD, ROOMS};
 use super::{cases::Asked, Session, OWN};
 use crate::making::{builder::Typelib, damage, generate, hostile, model, pairs, rng::Rng, shape};
 use crate::program::{check::check, link::LinkRefusal, refusal, Refusal, MAX_FILE};
@@ -10,6 +10,8 @@ use std::collections::HashMap;
 
 /// What a call wrote, or its refusal.
 type Written = Result<Vec<u8>, LinkRefusal>;
+
+type What = &'static str;
 
 /// A file, with its model where it is accepted.
 struct File {
@@ -57,11 +59,11 @@ impl Run<'_> {
         self.session.differs
     }
 
-    fn add(&mut self, about: &'static str, what: &'static str) {
+    fn add(&mut self, about: What, what: What) {
         self.session.tally.add(about, what);
     }
 
-    fn came(&mut self, about: &'static str, what: &'static str, came: Came) {
+    fn came(&mut self, about: What, what: What, came: Came) {
         self.session.tally.came(about, what, came);
     }
 
@@ -123,14 +125,8 @@ impl Run<'_> {
     }
 
     /// Counts a call with a buffer of this kind.
-    fn count_room(
-        &mut self,
-        about: &'static str,
-        files: &[&File],
-        (room, length): (&'static Room, usize),
-        answer: &Written,
-    ) {
-        self.add(about, room.name);
+    fn count_room(&mut self, about: What, files: &[&File], room: (What, usize), answer: &Written) {
+        self.add(about, room.0);
         let (whose, what) = match (files.len(), answer) {
             (1, Ok(_)) => ("normal form written", ""),
             (1, Err(_)) => ("normal form refused", "of a normal form"),
@@ -138,9 +134,9 @@ impl Run<'_> {
             (_, Err(_)) => ("link refused", "of a link"),
         };
         let came = together(files);
-        self.came(whose, room.name, Came { place: numbered_by(answer), ..came });
+        self.came(whose, room.0, Came { place: numbered_by(answer), ..came });
         match answer {
-            Ok(bytes) if bytes.len() < length => self.add(about, "bytes past the end kept"),
+            Ok(bytes) if bytes.len() < room.1 => self.add(about, "bytes past the end kept"),
             Err((_, Refusal { number: refusal::BUFFER, place })) => {
                 let came = Came { place: Some(*place as u64), ..came };
                 self.came(REFUSAL[refusal::BUFFER as usize], what, came);
@@ -150,37 +146,25 @@ impl Run<'_> {
     }
 
     /// One link with a buffer of this kind, which must be so long. What comes is told.
-    fn link(
-        &mut self,
-        order: &'static str,
-        files: [&File; 2],
-        needed: usize,
-        room: &'static Room,
-    ) -> Written {
-        let length = (room.length)(needed, &mut self.rng);
+    fn link(&mut self, order: What, files: [&File; 2], needed: usize, room: Room) -> Written {
+        let length = room.1(needed, &mut self.rng);
         let answer = self.call(&files, length);
-        let about = match &answer {
-            Ok(_) => "linked",
-            Err((0, refusal)) => LINK[refusal.number as usize],
-            Err(_) => "link, file",
+        let (about, place) = match &answer {
+            Ok(_) => ("linked", None),
+            Err((0, why)) => (LINK[why.number as usize], Some(why.place as u64)),
+            Err(_) => ("link, file", numbered_by(&answer)),
         };
-        match &answer {
-            Ok(_) => self.add(about, order),
-            Err((0, refusal)) => self.session.tally.add_at(about, order, refusal.place as u64),
-            Err((which, refusal)) => {
-                // The places are the numbers of the refusals here.
-                self.session.tally.add_at(about, order, refusal.number.into());
-                let whose = match (which, &files[1].model) {
-                    (1, Err(_)) => "both",
-                    (1, Ok(_)) => "the first",
-                    _ => "the second",
-                };
-                self.add(about, whose);
-                let came = Came { place: numbered_by(&answer), ..together(&files) };
-                self.came("file refused", whose, came);
-            }
+        self.came(about, order, Came { place, ..Came::default() });
+        if let Err((which @ 1.., _)) = answer {
+            let whose = match (which, &files[1].model) {
+                (1, Err(_)) => "both",
+                (1, Ok(_)) => "the first",
+                _ => "the second",
+            };
+            self.add(about, whose);
+            self.came("file refused", whose, Came { place, ..together(&files) });
         }
-        self.count_room(about, &files, (room, length), &answer);
+        self.count_room(about, &files, (room.0, length), &answer);
         answer
     }
 
@@ -196,12 +180,12 @@ impl Run<'_> {
         let [one, two] = [(FORWARD, [a, b]), (BACKWARD, [b, a])].map(|(order, files)| {
             let needed = self.needed(&files);
             let room = match self.rng.below(100) {
-                0 => &ROOMS[7],
-                1 => &ROOMS[8],
-                _ => Room::wide(&mut self.rng),
+                0 => ROOMS[7],
+                1 => ROOMS[8],
+                _ => wide(&mut self.rng),
             };
             let answer = self.link(order, files, needed, room);
-            let room = Room::short(&mut self.rng);
+            let room = short(&mut self.rng);
             let _ = self.link(order, files, needed, room);
             answer
         });
@@ -233,7 +217,7 @@ impl Run<'_> {
     fn all_rooms(&mut self, a: &File, b: &File) {
         for (order, files) in ORDERS.into_iter().zip([[a, b], [b, a]]) {
             let needed = self.needed(&files);
-            for room in &ROOMS {
+            for room in ROOMS {
                 if !self.differs() {
                     let _ = self.link(order, files, needed, room);
                 }
@@ -290,36 +274,35 @@ impl Run<'_> {
     }
 
     /// A file's normal form, with several buffers.
-    fn normal(&mut self, file: &File, rooms: &[&'static Room]) {
+    fn normal(&mut self, file: &File, rooms: &[Room]) {
         if self.differs() {
             return;
         }
         let needed = self.needed(&[file]);
         for room in rooms {
-            let length = (room.length)(needed, &mut self.rng);
+            let length = room.1(needed, &mut self.rng);
             let answer = self.call(&[file], length);
             let about = match &answer {
-                Ok(_) => "normal",
-                Err(_) if file.model.is_err() => "normal, file",
-                Err((_, refusal)) => NORMAL[refusal.number as usize],
-            };
-            match &answer {
                 Ok(bytes) => {
-                    self.add(about, "written");
+                    self.add("normal", "written");
                     if *bytes != file.bytes {
-                        self.add(about, "changed");
+                        self.add("normal", "changed");
                     }
+                    "normal"
                 }
                 Err((_, why)) if file.model.is_err() => {
-                    self.session.tally.add_at(about, "refused", why.number.into());
+                    self.session.tally.add_at("normal, file", "refused", why.number.into());
+                    "normal, file"
                 }
-                Err((_, Refusal { number: refusal::FORM_SIZE, place })) => {
-                    let came = Came { place: Some(*place as u64), ..together(&[file]) };
-                    self.came(REFUSAL[refusal::FORM_SIZE as usize], "of a normal form", came);
+                Err((_, why)) => {
+                    if why.number == refusal::FORM_SIZE {
+                        let came = Came { place: Some(why.place as u64), ..together(&[file]) };
+                        self.came(REFUSAL[why.number as usize], "of a normal form", came);
+                    }
+                    NORMAL[why.number as usize]
                 }
-                Err(_) => {}
-            }
-            self.count_room(about, &[file], (room, length), &answer);
+            };
+            self.count_room(about, &[file], (room.0, length), &answer);
         }
     }
 }
@@ -332,8 +315,8 @@ pub fn run(session: &mut Session) {
     let own = Rng::new(rng.number());
     let mut run = Run { session, rng: own, noise, scratch: vec![0; MAX_FILE] };
     edges(&mut run, rng);
-    for (made, a, b) in pairs::spread(rng) {
-        let (a, b) = (run.file(made, &a), run.file(made, &b));
+    for (made, files) in pairs::spread(rng) {
+        let [a, b] = files.map(|lib| run.file(made, &lib));
         run.pair(made, &a, &b);
     }
     for round in 0..3_000 {
@@ -346,9 +329,9 @@ pub fn run(session: &mut Session) {
 
 /// Files and pairs about the greatest sizes.
 fn edges(run: &mut Run, rng: &mut Rng) {
-    let all = ROOMS.each_ref();
-    for (made, a, b) in [pairs::wide(rng), pairs::long()].concat() {
-        let (a, b) = (run.file(made, &a), run.file(made, &b));
+    let all = ROOMS;
+    for (made, files) in [pairs::wide(rng), pairs::long()].concat() {
+        let [a, b] = files.map(|lib| run.file(made, &lib));
         run.pair(made, &a, &b);
         run.all_rooms(&a, &b);
         run.normal(&a, &all);
@@ -392,7 +375,7 @@ fn refused(run: &mut Run, rng: &mut Rng, seed: u64) {
             return;
         }
         let file = File::new(made.bytes.to_vec());
-        run.normal(&file, &[Room::short(rng), Room::wide(rng)]);
+        run.normal(&file, &[short(rng), wide(rng)]);
         let partner = File::new(pairs::view(&pairs::world(rng), rng).bytes());
         run.pair("with a file for the check", &file, &partner);
         let Err(Refusal { number, .. }) = file.model else { return };
@@ -402,7 +385,7 @@ fn refused(run: &mut Run, rng: &mut Rng, seed: u64) {
         *met += 1;
         if *met <= 3 {
             run.all_rooms(&file, &partner);
-            run.normal(&file, &ROOMS.each_ref());
+            run.normal(&file, &ROOMS);
         }
         last_refused = file;
     });
@@ -423,7 +406,7 @@ fn small(run: &mut Run, rng: &mut Rng, round: usize) {
     let [a, b, c] = &files;
     run.pair("one world", a, b);
     for file in &files {
-        run.normal(file, &[Room::short(rng), Room::wide(rng)]);
+        run.normal(file, &[short(rng), wide(rng)]);
     }
     if round.is_multiple_of(2) {
         triple(run, "one world", round, [[a, b, c]; 3]);
@@ -461,13 +444,12 @@ fn conflicts(run: &mut Run, rng: &mut Rng, round: usize, views: &[Typelib; 3], f
 
 /// Chains that do not end in the union.
 fn chains(run: &mut Run, rng: &mut Rng, round: usize, c: &File) {
-    let (first, second) = pairs::endless(rng);
+    let [mut first, mut second] = pairs::endless(rng);
     let (a, b) = (run.file("endless", &first), run.file("endless", &second));
     run.pair("an endless chain", &a, &b);
     if round.is_multiple_of(4) {
         triple(run, "an endless chain", round, [[&a, &b, c], [&a, c, &b], [c, &b, &a]]);
     }
-    let (mut first, mut second) = (first, second);
     if pairs::conflict(&first, &mut second, rng).is_some()
         || pairs::conflict(&second, &mut first, rng).is_some()
     {

@@ -1,12 +1,12 @@
 //! The listing program beside this one: what it prints for many inputs, each through a pipe.
 
-use super::{compare::Difference, process::Program, report};
+use super::process::Program;
 use crate::in_parallel;
 use crate::library::shrink::shrink;
 use crate::making::{builder::*, damage, generate, hostile, rng::Rng};
 use crate::program::{check::check, listing::program as list, listing::MAX_INPUT};
 use crate::tally::{Tally, NUMBER};
-use std::{io, path::Path, time::Duration};
+use std::{fs, io, path::Path, time::Duration};
 
 /// How an input was made, and the input.
 type Input = (&'static str, Vec<u8>);
@@ -149,16 +149,14 @@ pub fn run(program: &Program, seed: u64, count: usize, entries: usize) -> io::Re
     let mut tally = Tally::new("listings");
     for ((made, input), differs) in inputs.iter().zip(compared) {
         if let Some(how) = differs? {
-            return difference(program, made, input, how).map(|()| false);
+            let still =
+                |files: &Vec<Vec<u8>>| matches!(self::differs(program, &files[0]), Ok(Some(_)));
+            let small = shrink(&vec![input.clone()], Duration::from_secs(20), &still);
+            let path = std::env::temp_dir().join("second-listing-difference");
+            println!("DIFFERENCE: {made}: {how}; made smaller: {}", path.display());
+            return fs::write(path, &small[0]).map(|()| false);
         }
         self::count(&mut tally, made, input);
     }
     Ok(tally.is_enough())
-}
-
-/// Tells of a difference and keeps its input, made smaller.
-fn difference(program: &Program, made: &str, input: &[u8], how: String) -> io::Result<()> {
-    let still = |files: &Vec<Vec<u8>>| differs(program, &files[0]).is_ok_and(|how| how.is_some());
-    let small = shrink(&vec![input.to_vec()], Duration::from_secs(20), &still).remove(0);
-    report(&Difference { text: format!("{made}: {how}"), files: vec![("input".into(), small)] })
 }

@@ -13,7 +13,6 @@ mod supply;
 use crate::in_parallel;
 use crate::making::rng::Rng;
 use crate::tally::Tally;
-use compare::Difference;
 use process::Program;
 use script::Script;
 use std::path::{Path, PathBuf};
@@ -100,9 +99,7 @@ fn batch(s: &mut Script, supply: &Supply, k: usize) {
     for (what, bytes) in part(&supply.large, k, BATCHES) {
         stories::large_file(s, what, bytes);
     }
-    for (_, [a, b]) in part(&supply.pairs, k, BATCHES) {
-        stories::pair(s, a, b);
-    }
+    part(&supply.pairs, k, BATCHES).for_each(|(_, files)| stories::pair(s, files));
 }
 
 /// The k-th of the scripts whose commands run alone: every other one is of large files, whose folder
@@ -113,7 +110,7 @@ fn alone(s: &mut Script, supply: &Supply, k: usize) {
         for (what, bytes) in part(&supply.large, k, ALONE) {
             stories::large_file(s, what, bytes);
         }
-        supply.pairs(k).iter().for_each(|[a, b]| stories::pair(s, a, b));
+        supply.pairs(k).into_iter().for_each(|files| stories::pair(s, files));
         return;
     }
     let one = stories::placed(s);
@@ -144,20 +141,20 @@ pub const PARTS: [Part; 2] =
     [("batches", batch, BATCHES, BATCHES - 1), ("alone", alone, 2 * ALONE, 2 * ALONE - 2)];
 
 /// The scripts of a part with one seed, several at a time.
-fn scripts(
-    program: &Program,
-    supply: &Supply,
-    (name, fill, count, usual): Part,
-    seed: u64,
-) -> Result<Tally, Difference> {
+fn scripts(program: &Program, supply: &Supply, part: Part, seed: u64) -> io::Result<Tally> {
+    let (name, fill, count, usual) = part;
     let rng = &mut Rng::new(seed);
     let seeds: Vec<_> = (0..count).map(|k| (k, rng.number())).collect();
-    let run = |(k, seed): (usize, u64)| -> Result<Tally, Difference> {
+    let run = |(k, seed): (usize, u64)| -> io::Result<Tally> {
         let folder = if k == usual { Folder::usual()? } else { Folder::quick()? };
         let mut tally = Tally::new(name);
         let mut script = Script::new(folder.0.clone(), name == "alone", seed);
         fill(&mut script, supply, k);
-        compare::run(program, &script, &mut tally)?;
+        if let Err(error) = compare::run(program, &script, &mut tally) {
+            println!("{name}, seed {seed}: the files are kept in {}", folder.0.display());
+            std::mem::forget(folder);
+            return Err(error);
+        }
         tally.add("all", name);
         Ok(tally)
     };
@@ -166,18 +163,6 @@ fn scripts(
         whole.join(tally?);
     }
     Ok(whole)
-}
-
-/// Prints a difference and keeps its files.
-fn report(Difference { text, files }: &Difference) -> io::Result<()> {
-    println!("DIFFERENCE: {text}");
-    let folder = std::env::temp_dir().join(format!("second-xpt-difference-{}", std::process::id()));
-    fs::create_dir_all(&folder)?;
-    for (name, bytes) in files {
-        fs::write(folder.join(name), bytes)?;
-    }
-    println!("  files kept in {}", folder.display());
-    Ok(())
 }
 
 /// Compares `xpt` with this program, these parts with so many seeds; stops at the first difference.
@@ -190,10 +175,7 @@ pub fn run(program: &Program, parts: &[Part], seed: u64, rounds: u64) -> io::Res
             let start = Instant::now();
             let done = scripts(program, &supply, *part, seed);
             println!("{}, seed {seed}: {:.1} s", part.0, start.elapsed().as_secs_f64());
-            match done {
-                Ok(tally) => good &= tally.is_enough(),
-                Err(difference) => return report(&difference).map(|()| false),
-            }
+            good &= done?.is_enough();
         }
     }
     Ok(good)

@@ -16,6 +16,9 @@ pub struct Name {
 
 type What = &'static str;
 
+/// Files by their paths in the folder.
+pub type Files = BTreeMap<String, Bytes>;
+
 /// A row of the table, and a place where it has places.
 type Count = (What, What, Option<u64>);
 
@@ -30,8 +33,6 @@ pub struct Step {
     pub words: Words,
     pub outcome: Outcome,
     pub told: Option<Told>,
-    /// The files that it reads, as they are then.
-    pub reads: Vec<Bytes>,
     /// The path of its output.
     pub out: Option<String>,
     pub counts: Vec<Count>,
@@ -64,7 +65,7 @@ pub struct Script {
     /// Whether each command is run alone, so that its words may have spaces.
     pub alone: bool,
     /// The files that are there at the start, by path.
-    pub files: BTreeMap<String, Bytes>,
+    pub files: Files,
     /// Symbolic links at the start: path and target.
     pub links: Vec<(String, PathBuf)>,
     /// Steps of one story keep their order. No story writes what another reads or writes.
@@ -202,7 +203,7 @@ impl Script {
             (refusal, whose.iter().map(|file| file.word.clone()).collect())
         });
         let out = out.first().map(|out| out.path.clone());
-        self.add(Step { words, outcome, told, reads, out, counts })
+        self.add(Step { words, outcome, told, out, counts })
     }
 
     pub fn check(&mut self, file: &Name) {
@@ -285,13 +286,6 @@ impl Script {
             mix(&mixed, rng, &mut steps);
         }
         steps
-    }
-
-    /// The steps of the same story before this one.
-    pub fn story_before(&self, step: &Step) -> &[Step] {
-        let place = |story: &Vec<Step>| story.iter().position(|other| std::ptr::eq(other, step));
-        let before = self.stories.iter().find_map(|story| Some(&story[..place(story)?]));
-        before.unwrap_or(&[])
     }
 }
 

@@ -153,9 +153,9 @@ pub fn normalised(script: &mut Script, bytes: impl Into<Bytes>) {
 }
 
 /// A pair in both orders.
-pub fn pair(script: &mut Script, a: &Bytes, b: &Bytes) {
-    let (a, b) = (script.place(a.clone()), script.place(b.clone()));
-    let (ab, ba) = (script.free(), script.free());
+pub fn pair(script: &mut Script, files: &[Bytes; 2]) {
+    let [a, b] = files.each_ref().map(|bytes| script.place(bytes.clone()));
+    let [ab, ba] = [0; 2].map(|_| script.free());
     script.story();
     script.write(&[&a, &b, &ab], Some(FORWARD));
     match script.content(&ab).is_some() {
@@ -206,13 +206,13 @@ pub fn linked(script: &mut Script) {
             others.push(Bytes::from(other.bytes()));
         }
     }
-    let (one, two) = pairs::endless(rng);
+    let endless = pairs::endless(rng).map(|lib| Bytes::from(lib.bytes()));
     let [a, b, c] = views.map(|lib| Bytes::from(lib.bytes()));
-    pair(script, &a, &b);
+    pair(script, &[a.clone(), b.clone()]);
     for other in &others {
-        pair(script, &a, other);
+        pair(script, &[a.clone(), other.clone()]);
     }
-    pair(script, &one.bytes().into(), &two.bytes().into());
+    pair(script, &endless);
     match (script.rng.below(3), others.first()) {
         (0, Some(other)) => triple(script, [&a, other, &c]),
         (1, Some(other)) => triple(script, [other, &c, &a]),

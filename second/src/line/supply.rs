@@ -21,10 +21,10 @@ impl Supply {
         rng.shuffle(&mut checked);
         let mut made = [pairs::wide(rng), pairs::long()].concat();
         rng.shuffle(&mut made);
-        let pair = |(_, a, b): pairs::Pair| {
-            let (a, b) = (a.bytes(), b.bytes());
-            let linked = link(&a, &b, &mut vec![0; MAX_FILE]);
-            (linked.map_or_else(|(_, refusal)| refusal.number, |_| 0), [a.into(), b.into()])
+        let pair = |(_, files): pairs::Pair| {
+            let files = files.map(|lib| Bytes::from(lib.bytes()));
+            let linked = link(&files[0], &files[1], &mut vec![0; MAX_FILE]);
+            (linked.map_or_else(|(_, refusal)| refusal.number, |_| 0), files)
         };
         let pairs = made.into_iter().map(pair).collect();
         Supply { checked, pairs, large: stories::large(rng) }
