@@ -275,7 +275,7 @@ fn planted_differences() {
     planted("links", links::run, wrong);
     // `cat` prints its input in place of the listing.
     let cat = process::Program::named("cat");
-    assert!(!listing::run(&cat, 2, 10, 1).unwrap());
+    assert!(!listing::run(&cat, 2, 10).unwrap());
 }
 
 #[test]

@@ -1,12 +1,10 @@
 //! Runs of the program that is compared, each a process of its own.
 
-use std::ffi::OsStr;
-use std::io::{self, ErrorKind, Read, Write};
-use std::os::unix::ffi::OsStrExt;
+use std::io::{self, Read, Write};
 use std::path::{Path, PathBuf};
 use std::process::{Command, Stdio};
-use std::sync::mpsc::{channel, Sender};
 use std::time::{Duration, Instant};
+use std::{ffi::OsStr, os::unix::ffi::OsStrExt, sync::mpsc::channel};
 
 /// A run that takes longer is stopped.
 const LIMIT: Duration = Duration::from_secs(300);
@@ -42,23 +40,28 @@ impl Program {
             .stderr(Stdio::piped())
             .spawn()?;
         let mut stdin = child.stdin.take().expect("a pipe to the program");
-        let stdout = child.stdout.take().expect("a pipe from the program");
-        let stderr = child.stderr.take().expect("a second pipe from the program");
+        let pipes: [Box<dyn Read + Send>; 2] = [
+            Box::new(child.stdout.take().expect("a pipe from the program")),
+            Box::new(child.stderr.take().expect("a second pipe from the program")),
+        ];
         // Each pipe has a thread, so that none of them blocks another.
         std::thread::scope(|scope| {
+            // A program may end before it has read all.
+            scope.spawn(move || _ = stdin.write_all(input));
             let (done, ends) = channel();
-            let feeder = scope.spawn(move || match stdin.write_all(input) {
-                Err(error) if error.kind() == ErrorKind::BrokenPipe => Ok(()),
-                written => written,
+            let readers = pipes.map(|mut pipe| {
+                let done = done.clone();
+                scope.spawn(move || {
+                    let mut bytes = Vec::new();
+                    let read = pipe.read_to_end(&mut bytes);
+                    // None listens any more where the run was stopped.
+                    let _ = done.send(());
+                    read.map(|_| bytes)
+                })
             });
-            let also_done = done.clone();
-            let stdout = scope.spawn(move || all(stdout, done));
-            let stderr = scope.spawn(move || all(stderr, also_done));
             let start = Instant::now();
-            let ended = (0..2).all(|_| {
-                let left = LIMIT.saturating_sub(start.elapsed());
-                ends.recv_timeout(left).is_ok()
-            });
+            let left = || LIMIT.saturating_sub(start.elapsed());
+            let ended = (0..2).all(|_| ends.recv_timeout(left()).is_ok());
             if !ended {
                 child.kill()?;
             }
@@ -69,18 +72,8 @@ impl Program {
                 (true, None) => Some(format!("it ended with {status}")),
                 (true, Some(_)) => None,
             };
-            feeder.join().expect("the feeder ends")?;
-            let stdout = stdout.join().expect("the reader ends")?;
-            let stderr = stderr.join().expect("the reader ends")?;
-            Ok(Ran { stdout, stderr, broken })
+            let [stdout, stderr] = readers.map(|reader| reader.join().expect("the reader ends"));
+            Ok(Ran { stdout: stdout?, stderr: stderr?, broken })
         })
     }
-}
-
-fn all(mut pipe: impl Read, done: Sender<()>) -> io::Result<Vec<u8>> {
-    let mut bytes = Vec::new();
-    let read = pipe.read_to_end(&mut bytes);
-    // None listens any more where the run was stopped.
-    let _ = done.send(());
-    read.map(|_| bytes)
 }

@@ -5,6 +5,9 @@ use crate::library::{cases::Asked, links::BACKWARD, links::FORWARD, questions::q
 use crate::making::{builder::*, generate, hostile, model, pairs, rng::Rng};
 use crate::program::{check::check, listing::MAX_INPUT};
 
+/// A file and how it counts.
+pub type Named = (&'static str, Vec<u8>);
+
 /// A good file of any shape.
 pub fn good(rng: &mut Rng) -> Vec<u8> {
     match rng.below(24) {
@@ -322,27 +325,38 @@ pub fn long_lines(script: &mut Script) {
     malformed::long_lines(script, &file);
 }
 
+/// Files as long as a limit, accepted and refused, and longer by one, by these names.
+pub fn about(limit: usize, names: [&'static str; 3], good: &Typelib) -> Vec<Named> {
+    let filled = |lib: &Typelib, length: usize| lib.filled_to(length).bytes();
+    let [accepted, refused, longer] = names;
+    let (at_most, empty) = (filled(good, limit), Typelib::default());
+    let mut short = at_most.clone();
+    short[23] ^= 1;
+    vec![
+        (accepted, at_most.clone()),
+        (accepted, filled(&empty, limit)),
+        (refused, short),
+        (refused, vec![0; limit]),
+        (longer, filled(good, limit + 1)),
+        (longer, filled(&empty, limit + 1)),
+        (longer, vec![0; limit + 1]),
+        (longer, [at_most, vec![0]].concat()),
+    ]
+}
+
 /// Large files, with how they count.
 pub fn large(rng: &mut Rng) -> Vec<(&'static str, Bytes)> {
     let family = generate::family(rng);
     let filled = |lib: &Typelib, length: usize| lib.filled_to(length).bytes();
-    let mut short = filled(&family, MAX_FILE);
-    short[23] ^= 1;
-    let empty = Typelib::default();
     let [upward, downward] = hostile::chains();
-    let files = [
-        ("of 1,048,576 bytes, accepted", filled(&family, MAX_FILE)),
-        ("of 1,048,576 bytes, accepted", filled(&empty, MAX_FILE)),
-        ("of 1,048,576 bytes, refused", short),
-        ("of 1,048,576 bytes, refused", vec![0; MAX_FILE]),
-        ("of 1,048,577 bytes", filled(&family, MAX_FILE + 1)),
-        ("of 1,048,577 bytes", filled(&empty, MAX_FILE + 1)),
-        ("of 1,048,577 bytes", vec![0; MAX_FILE + 1]),
-        ("of 1,048,577 bytes", [filled(&family, MAX_FILE), vec![0]].concat()),
+    let names =
+        ["of 1,048,576 bytes, accepted", "of 1,048,576 bytes, refused", "of 1,048,577 bytes"];
+    let mut files = about(MAX_FILE, names, &family);
+    files.extend([
         ("longer", filled(&family, 3_000_000)),
         ("of 65,536 bytes", filled(&family, MAX_INPUT)),
         ("of 65,537 bytes", filled(&family, MAX_INPUT + 1)),
-        ("of 65,537 bytes", filled(&empty, MAX_INPUT + 1)),
+        ("of 65,537 bytes", filled(&Typelib::default(), MAX_INPUT + 1)),
         ("of 1,024 interfaces", generate::wide(rng, MAX_INTERFACES).bytes()),
         ("of 1,024 interfaces", upward),
         ("of 1,024 interfaces", downward),
@@ -350,7 +364,7 @@ pub fn large(rng: &mut Rng) -> Vec<(&'static str, Bytes)> {
         ("of a long listing", hostile::long_listing(8)),
         ("of a normal form of 1,048,576", pairs::of_normal_length(MAX_FILE, 'd').bytes()),
         ("of a normal form of 1,048,577", pairs::of_normal_length(MAX_FILE + 1, 'c').bytes()),
-    ];
+    ]);
     files.into_iter().map(|(what, bytes)| (what, bytes.into())).collect()
 }
 

@@ -305,25 +305,33 @@ fn headers(rng: &mut Rng, sink: &mut Sink) {
         sink.put(&long[..length], refused(refusal::TOO_LONG, MAX_FILE), "2 too long");
     }
     // Counts, directory and pool against each other.
-    for good in [&p1, &p2, &p3] {
-        let length = good.len() as u32;
-        for n in [0_u16, 1, 2, 3, 1024, 1025, 0xffff] {
-            for directory in [0, 4, 32, 33, 34, 36, 40, 64, 0xffff_ffe4, 0xffff_fffc, length] {
-                for pool in [0, 31, 32, 33, 36, 37, 63, 64, 65, length - 1, length, length + 1, !0]
-                {
-                    let mut bytes = good.clone();
-                    put(&mut bytes, 18, &n.to_be_bytes());
-                    put(&mut bytes, 24, &directory.to_be_bytes());
-                    put(&mut bytes, 28, &pool.to_be_bytes());
-                    sink.put(&bytes, None, "positions");
-                }
-            }
+    for mut bytes in [p1, p2, p3] {
+        let length = bytes.len() as u32;
+        let directories = [0, 4, 32, 33, 34, 36, 40, 64, 0xffff_ffe4, 0xffff_fffc, length];
+        let pools = [0, 31, 32, 33, 36, 37, 63, 64, 65, length - 1, length, length + 1, !0];
+        for (n, (directory, pool)) in
+            both([0_u16, 1, 2, 3, 1024, 1025, !0], both(directories, pools))
+        {
+            put(&mut bytes, 18, &n.to_be_bytes());
+            put(&mut bytes, 24, &directory.to_be_bytes());
+            put(&mut bytes, 28, &pool.to_be_bytes());
+            sink.put(&bytes, None, "positions");
         }
     }
 }
 
+/// Each with each, the second varying faster.
+fn both<A, B>(a: A, b: B) -> impl Iterator<Item = (A::Item, B::Item)> + Clone
+where
+    A: IntoIterator<Item: Clone, IntoIter: Clone>,
+    B: IntoIterator<IntoIter: Clone> + Clone,
+{
+    let b = b.into_iter();
+    a.into_iter().flat_map(move |a| b.clone().map(move |b| (a.clone(), b)))
+}
+
 /// All words of a length over so many letters.
-fn words(letters: usize, length: u32) -> impl Iterator<Item = Vec<usize>> {
+fn words(letters: usize, length: u32) -> impl Iterator<Item = Vec<usize>> + Clone {
     let letter = move |code: usize, i: u32| code / letters.pow(i) % letters;
     let word = move |code: usize| (0..length).map(|i| letter(code, i)).collect();
     (0..letters.pow(length)).map(word)
@@ -335,31 +343,26 @@ fn short_annotations(sink: &mut Sink) {
     for n in [0, 1] {
         let built = Typelib { directory_gap: 1, pool_gap: 4, ..Typelib::plain(n) }.build();
         let mut bytes = built.bytes.clone();
-        for tail in [0x00, 0x80, 0x41] {
-            for word in words(alphabet.len(), 5) {
-                let annotations = &mut bytes[HEADER..built.limit()];
-                annotations.fill(tail);
-                annotations.iter_mut().zip(word).for_each(|(byte, k)| *byte = alphabet[k]);
-                sink.put(&bytes, None, "annotation bytes");
-            }
+        for (tail, word) in both([0x00, 0x80, 0x41], words(alphabet.len(), 5)) {
+            let annotations = &mut bytes[HEADER..built.limit()];
+            annotations.fill(tail);
+            annotations.iter_mut().zip(word).for_each(|(byte, k)| *byte = alphabet[k]);
+            sink.put(&bytes, None, "annotation bytes");
         }
     }
 }
 
 /// Every prefix byte, alone and inside arrays, as argument and as result.
 fn prefixes(sink: &mut Sink) {
-    for minor in 0..=MAX_MINOR {
-        for flags in [0, NOT_XPCOM] {
-            for (depth, prefix) in (0..=8).flat_map(|d| (0..=255).map(move |p| (d, p))) {
-                for in_result in [false, true] {
-                    one_prefix(minor, flags, depth, prefix, in_result, sink);
-                }
-            }
-        }
-    }
+    let methods = both(0..=MAX_MINOR, [0, NOT_XPCOM]);
+    let types = both(both(0..=MAX_ARRAYS, 0..=255), [false, true]);
+    both(methods, types).for_each(|(method, of)| one_prefix(method, of, sink));
 }
 
-fn one_prefix(minor: u8, flags: u8, depth: usize, prefix: u8, in_result: bool, sink: &mut Sink) {
+type OfPrefix = ((usize, u8), bool);
+
+fn one_prefix((minor, flags): (u8, u8), of: OfPrefix, sink: &mut Sink) {
+    let ((depth, prefix), in_result) = of;
     let tag = prefix & TAG;
     let of = Type::nested(depth, 2, prefix, fitting(tag, 1, 2));
     let outer = of.prefix();
@@ -404,22 +407,16 @@ fn numbers(sink: &mut Sink) {
                 Parameter::simple(IN, POINTER | IID),
                 Parameter::new(OUT, Type::with(named, fitting(named_tag, 2, 1))),
             ];
-            let both = [(3, fits), (fits, 3), (3, 3)];
-            for (first, second) in both.into_iter().filter(|b| tag != INTERFACE_IS || b.0 == 3) {
-                for depth in [0, 1, 3, 7] {
-                    let of = Type::nested(depth, 1, POINTER | tag, [first, second, 0]);
-                    for flags in [0, NOT_XPCOM] {
-                        let void = Parameter::simple(0, VOID);
-                        let mut method = Method::new(flags, b"f", arguments.clone(), void);
-                        match flags {
-                            0 => method.arguments[0].of = of.clone(),
-                            _ => method.result.of = of.clone(),
-                        }
-                        let built = with_methods(vec![Method::plain(0, b"e"), method]).build();
-                        let rule = (refusal::RULE, built.placed[0].methods[1]);
-                        sink.built(&built, (!good).then_some(rule), "numbers");
-                    }
-                }
+            let mut tails = vec![[3, fits, 0], [fits, 3, 0], [3, 3, 0]];
+            tails.retain(|tail| tag != INTERFACE_IS || tail[0] == 3);
+            for (tail, (depth, flags)) in both(tails, both([0, 1, 3, 7], [0, NOT_XPCOM])) {
+                let mut method = Method::plain(flags, b"f");
+                method.arguments = arguments.clone();
+                let it = if flags == 0 { &mut method.arguments[0] } else { &mut method.result };
+                it.of = Type::nested(depth, 1, POINTER | tag, tail);
+                let built = with_methods(vec![Method::plain(0, b"e"), method]).build();
+                let rule = (refusal::RULE, built.placed[0].methods[1]);
+                sink.built(&built, (!good).then_some(rule), "numbers");
             }
         }
     }
@@ -428,52 +425,45 @@ fn numbers(sink: &mut Sink) {
 /// Every number against methods of many counts of arguments, of which one can be named.
 fn wide_numbers(sink: &mut Sink) {
     for count in [1, 2, 63, 64, 65, 127, 128, 129, 191, 192, 193, 254, 255] {
-        for named in [0, count / 2, count - 1] {
-            for number in 0..=255_u8 {
-                let iid_is = (count + usize::from(number)) % 2 == 0;
-                let (target, of) = match iid_is {
-                    true => (POINTER | IID, Type::with(POINTER | INTERFACE_IS, [number, 0, 0])),
-                    false => (UINT32, Type::with(POINTER | 22, [named as u8, number, 0])),
-                };
-                let mut arguments = vec![Parameter::simple(IN, 1); count];
-                arguments[named] = Parameter::simple(IN, target);
-                let method = Method::new(0, b"f", arguments, Parameter::new(RETVAL, of));
-                let built = with_methods(vec![method]).build();
-                let rule = (refusal::RULE, built.placed[0].methods[0]);
-                let fault = (usize::from(number) != named).then_some(rule);
-                sink.built(&built, fault, "numbers among many arguments");
-            }
+        for (named, number) in both([0, count / 2, count - 1], 0..=255_u8) {
+            let iid_is = (count + usize::from(number)) % 2 == 0;
+            let (target, of) = match iid_is {
+                true => (POINTER | IID, Type::with(POINTER | INTERFACE_IS, [number, 0, 0])),
+                false => (UINT32, Type::with(POINTER | 22, [named as u8, number, 0])),
+            };
+            let mut arguments = vec![Parameter::simple(IN, 1); count];
+            arguments[named] = Parameter::simple(IN, target);
+            let method = Method::new(0, b"f", arguments, Parameter::new(RETVAL, of));
+            let built = with_methods(vec![method]).build();
+            let rule = (refusal::RULE, built.placed[0].methods[0]);
+            let fault = (usize::from(number) != named).then_some(rule);
+            sink.built(&built, fault, "numbers among many arguments");
         }
     }
 }
 
 /// IIDs that differ in one byte first, whatever follows it.
 fn iids(sink: &mut Sink) {
-    let good = Typelib::plain(2).build();
-    let mut bytes = good.bytes.clone();
-    for at in 0..16 {
-        for (a, b) in [(0, 1), (1, 0), (0x7f, 0x80), (0x80, 0x7f), (0, 0xff), (0xff, 0), (5, 5)] {
-            for (rest_a, rest_b) in [(0, 0), (0, 0xff), (0xff, 0), (7, 7)] {
-                let (mut first, mut second) = ([0; 16], [0; 16]);
-                first[at..].fill(rest_a);
-                second[at..].fill(rest_b);
-                first[at] = a;
-                second[at] = b;
-                put(&mut bytes, good.entry(0), &first);
-                put(&mut bytes, good.entry(1), &second);
-                let rises = first < second || first == [0; 16] && second == [0; 16];
-                let order = refused(refusal::IID_ORDER, good.entry(1));
-                let expected = if rises { Some(Ok(2)) } else { order };
-                sink.put(&bytes, expected, "two IIDs");
-            }
-        }
+    let mut built = Typelib::plain(2).build();
+    let bytes = [(0, 1), (1, 0), (0x7f, 0x80), (0x80, 0x7f), (0, 0xff), (0xff, 0), (5, 5)];
+    let rests = [(0, 0), (0, 0xff), (0xff, 0), (7, 7)];
+    for (at, (byte, rest)) in both(0..16, both(bytes, rests)) {
+        let iid = |byte: u8, rest: u8| -> Vec<u8> {
+            (0..16).map(|i| [0, byte, rest][usize::from(i >= at) + usize::from(i > at)]).collect()
+        };
+        let (first, second) = (iid(byte.0, rest.0), iid(byte.1, rest.1));
+        let rises = first < second || first == [0; 16] && second == [0; 16];
+        let place = built.entry(1);
+        put(&mut built.bytes, place - ENTRY, &first);
+        put(&mut built.bytes, place, &second);
+        sink.built(&built, (!rises).then_some((refusal::IID_ORDER, place)), "two IIDs");
     }
 }
 
 /// Descriptors of entries without an IID, at many places.
 fn without_iid(sink: &mut Sink) {
     for n in [1, 2, 5, 30] {
-        for (position, directory_gap) in (0..n).flat_map(|i| [(i, 0), (i, 3)]) {
+        for (position, directory_gap) in both(0..n, [0, 3]) {
             let mut lib = Typelib { directory_gap, ..Typelib::plain(n) };
             lib.entries[..=position].iter_mut().for_each(|entry| entry.iid = [0; 16]);
             lib.resolve(position, Descriptor::default());
@@ -568,33 +558,27 @@ fn sizes(sink: &mut Sink) {
         let methods = with_methods(vec![Method::plain(0, b"m"); MAX_METHODS + 1]);
         let constants = vec![Constant::new(b"k", 1, 7); MAX_CONSTANTS + 1];
         let constants = Typelib::single(Descriptor { constants, ..Descriptor::default() });
-        for (lib, field, what) in [
-            (methods, Field::MethodCount, "17 methods"),
-            (constants, Field::ConstantCount, "17 constants"),
-        ] {
+        // A count of methods stands behind the parent, one of constants behind that of methods.
+        for (lib, at, what) in [(methods, 2, "17 methods"), (constants, 4, "17 constants")] {
             let built = Typelib { sharing, ..lib }.build();
-            let at = built.spots.iter().find(|spot| spot.field == field).unwrap().at;
-            sink.built(&built, Some((refusal::SIZE, at)), what);
+            sink.built(&built, Some((refusal::SIZE, built.placed[0].at + at)), what);
         }
     }
-    for depth in 7..=20 {
-        for position in 0..4 {
-            let deep =
-                |flags: u8, depth: usize| Parameter::new(flags, Type::nested(depth, 0, 3, [0; 3]));
-            let arguments = vec![Parameter::simple(IN, UINT32); 4];
-            let mut method = Method::new(0, b"deep", arguments, deep(RETVAL, 8));
-            match position {
-                0 => method.result = deep(RETVAL, depth),
-                _ => method.arguments[position] = deep(OUT, depth),
-            }
-            let built = with_methods(vec![method]).build();
-            let ninth = built.spots.iter().find(|spot| {
-                matches!(spot.field, Field::ArgumentPrefix | Field::ResultPrefix)
-                    && usize::from(spot.more) == MAX_ARRAYS
-                    && built.bytes[spot.at] & TAG == ARRAY
-            });
-            sink.built(&built, ninth.map(|spot| (refusal::SIZE, spot.at)), "nesting");
+    for (depth, position) in both(7..=20, 0..4) {
+        let deep = |flags: u8, depth| Parameter::new(flags, Type::nested(depth, 0, 3, [0; 3]));
+        let arguments = vec![Parameter::simple(IN, UINT32); 4];
+        let mut method = Method::new(0, b"deep", arguments, deep(RETVAL, 8));
+        match position {
+            0 => method.result = deep(RETVAL, depth),
+            _ => method.arguments[position] = deep(OUT, depth),
         }
+        let built = with_methods(vec![method]).build();
+        let ninth = built.spots.iter().find(|spot| {
+            matches!(spot.field, Field::ArgumentPrefix | Field::ResultPrefix)
+                && usize::from(spot.more) == MAX_ARRAYS
+                && built.bytes[spot.at] & TAG == ARRAY
+        });
+        sink.built(&built, ninth.map(|spot| (refusal::SIZE, spot.at)), "nesting");
     }
 }
 
@@ -616,12 +600,9 @@ fn keys(rng: &mut Rng, sink: &mut Sink) {
         lib.sharing = *rng.pick(&[Sharing::None, Sharing::Equal, Sharing::Overlap]);
         lib.directory_gap = rng.below(3);
         let zeros = rng.below(pattern.len() + 1);
-        for (i, &key) in pattern.iter().enumerate() {
-            let entry = &mut lib.entries[i];
+        lib.entries[..zeros].iter_mut().for_each(|entry| entry.iid = [0; 16]);
+        for (entry, &key) in lib.entries.iter_mut().zip(&pattern) {
             entry.set_key(keys[key].0, keys[key].1);
-            if i < zeros {
-                entry.iid = [0; 16];
-            }
         }
         let built = lib.build();
         let again = (0..pattern.len()).find(|&i| pattern[..i].contains(&pattern[i]));
