@@ -39,13 +39,8 @@ pub fn lent<T>(before: &[u8], room: usize, call: impl FnOnce(&mut [u8]) -> T) ->
     (answer, bytes)
 }
 
-/// The first byte that changed outside the first `length` of the buffer, counted from its start.
-pub fn strayed(before: &[u8], after: &[u8], length: usize) -> Option<isize> {
+/// Whether bytes changed outside the first `length` of the buffer.
+pub fn strayed(before: &[u8], after: &[u8], length: usize) -> bool {
     let end = (GUARD + length).min(before.len());
-    if before[..GUARD] == after[..GUARD] && before[end..] == after[end..] {
-        return None;
-    }
-    let outside = |i: &usize| *i < GUARD || *i >= end;
-    let first = (0..before.len()).filter(outside).find(|i| before[*i] != after[*i]);
-    first.map(|i| i as isize - GUARD as isize)
+    before[..GUARD] != after[..GUARD] || before[end..] != after[end..]
 }

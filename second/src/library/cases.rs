@@ -1,14 +1,12 @@
 //! Comparisons that can be made again: what is asked, the files it is asked of, and what a program
-//! answers. Where two differ the case is made smaller and kept; kept cases are replayed.
+//! answers. Where two differ the case is made smaller.
 
 use super::buffers::{lent, strayed, GUARD};
 use super::questions::{Found, Question, Reply};
 use super::{shrink::shrink, Program, OWN};
 use crate::program::{link::LinkRefusal, questions::Kind, Answer, Refusal};
-use std::{fs, io::Write, path::Path, time::Duration};
-
-/// Where differences are kept.
-pub const KEPT: &str = concat!(env!("CARGO_MANIFEST_DIR"), "/cases.txt");
+use crate::tally::hash;
+use std::time::Duration;
 
 /// How long a difference may be made smaller.
 const PATIENCE: Duration = Duration::from_secs(20);
@@ -52,7 +50,12 @@ impl Case {
 
     fn told(&self, other: &Program) -> String {
         let [own, other] = [&OWN, other].map(|program| self.answer(program));
-        format!("this program: {own}\nthe other program: {other}\n")
+        let mut text = format!("{:?}\nthis program: {own}\nthe other: {other}", self.asked);
+        for file in &self.files {
+            let digits = file.iter().take(4_096).map(|byte| format!("{byte:02x}"));
+            text += &format!("\n{} bytes: {}", file.len(), digits.collect::<String>());
+        }
+        text
     }
 }
 
@@ -69,17 +72,14 @@ fn written(program: &Program, files: &[&[u8]], room: usize) -> String {
     let (answer, bytes) = lent(&before, room, |out| program.write(files, out));
     let mut text = match answer {
         Ok(length) if length <= room => {
-            // Not the hash of the standard library, which may change: a case is kept for long.
-            let mix = |sum: u64, byte: &u8| (sum ^ u64::from(*byte)).wrapping_mul(0x100_0000_01b3);
-            let sum = bytes[GUARD..][..length].iter().fold(0xcbf2_9ce4_8422_2325, mix);
-            format!("written {length} bytes, FNV-1a {sum:016x}")
+            format!("written {length} bytes, hash {:016x}", hash(&[&bytes[GUARD..][..length]]))
         }
         Ok(length) => format!("written {length} bytes"),
         Err((0, refusal)) => shown(Err(refusal)),
         Err((which, refusal)) => format!("{} of file {which}", shown(Err(refusal))),
     };
-    if let Some(at) = strayed(&before, &bytes, answer.unwrap_or(0)) {
-        text.push_str(&format!(", but changed byte {at} of the buffer"));
+    if strayed(&before, &bytes, answer.unwrap_or(0)) {
+        text.push_str(", but changed bytes behind what was written or around the buffer");
     }
     text
 }
@@ -109,8 +109,6 @@ impl Program {
     }
 }
 
-// What is asked as text, one line each.
-
 pub fn kind_word(kind: Kind) -> &'static str {
     match kind {
         Kind::Getter => "getter",
@@ -119,31 +117,11 @@ pub fn kind_word(kind: Kind) -> &'static str {
     }
 }
 
-impl Asked {
-    /// The line that `parse` reads.
-    pub fn line(&self) -> String {
-        match self {
-            Asked::Check => "check".to_string(),
-            Asked::Normal(room) => format!("normal {room}"),
-            Asked::Link(room) => format!("link {room}"),
-            Asked::Question(question) => match question {
-                Question::Iid(iid) => format!("iid {}", hex(iid)),
-                Question::Key(space, name) => format!("key {} {}", hex(space), hex(name)),
-                Question::Method(index, name, kind) => {
-                    format!("method {index} {} {}", hex(name), kind_word(*kind))
-                }
-                Question::Slot(index, slot) => format!("slot {index} {slot}"),
-                Question::Constant(index, name) => format!("constant {index} {}", hex(name)),
-            },
-        }
-    }
-
-    pub fn parse(line: &str) -> Option<Asked> {
+impl Question {
+    /// A question from its words, names in hexadecimal.
+    pub fn parse(line: &str) -> Option<Question> {
         let words: Vec<&str> = line.split(' ').collect();
-        let question = match words[..] {
-            ["check"] => return Some(Asked::Check),
-            ["normal", room] => return Some(Asked::Normal(room.parse().ok()?)),
-            ["link", room] => return Some(Asked::Link(room.parse().ok()?)),
+        Some(match words[..] {
             ["iid", iid] => Question::Iid(bytes(iid)?),
             ["key", space, name] => Question::Key(bytes(space)?, bytes(name)?),
             ["method", index, name, kind] => {
@@ -153,67 +131,25 @@ impl Asked {
             ["slot", index, slot] => Question::Slot(index.parse().ok()?, slot.parse().ok()?),
             ["constant", index, name] => Question::Constant(index.parse().ok()?, bytes(name)?),
             _ => return None,
-        };
-        Some(Asked::Question(question))
+        })
     }
 }
 
-fn hex(bytes: &[u8]) -> String {
-    bytes.iter().map(|byte| format!("{byte:02x}")).collect()
-}
-
-fn bytes(hex: &str) -> Option<Vec<u8>> {
+/// Bytes from hexadecimal digits.
+pub fn bytes(hex: &str) -> Option<Vec<u8>> {
     let pairs = hex.as_bytes().chunks(2);
     pairs.map(|pair| u8::from_str_radix(std::str::from_utf8(pair).ok()?, 16).ok()).collect()
 }
 
-// Kept cases, a line each: what is asked, the files in hexadecimal, and the answer that document 01
-// asks for.
-
-const UNDECIDED: &str = "to be decided by document 01";
-
-/// Tells of a difference, makes it smaller and keeps it.
-pub fn found(path: &Path, made: &str, case: Case, other: &Program) {
-    let lengths: Vec<_> = case.files.iter().map(|file| file.len().to_string()).collect();
-    println!("DIFFERENCE on {} bytes ({made}), asked: {}", lengths.join(", "), case.asked.line());
-    print!("{}", case.told(other));
+/// Tells of a difference, and makes it smaller.
+pub fn found(made: &str, case: Case, other: &Program) -> Case {
+    println!("DIFFERENCE ({made})\n{}", case.told(other));
+    // What is known from making a file says nothing of a smaller one.
+    if !case.differs(other) {
+        return case;
+    }
     let of = |files: &Vec<Vec<u8>>| Case { asked: case.asked.clone(), files: files.clone() };
-    let small = match case.differs(other) {
-        true => of(&shrink(&case.files, PATIENCE, &|files| of(files).differs(other))),
-        // What is known from making a file says nothing of a smaller one.
-        false => case.clone(),
-    };
-    print!("made smaller:\n{}", small.told(other));
-    let files: Vec<String> = small.files.iter().map(|file| hex(file)).collect();
-    files.iter().filter(|file| file.len() <= 8_192).for_each(|file| println!("{file}"));
-    let line = format!("{} | {} | {UNDECIDED}\n", small.asked.line(), files.join(" "));
-    let kept = fs::OpenOptions::new().create(true).append(true).open(path);
-    match kept.and_then(|mut kept| kept.write_all(line.as_bytes())) {
-        Ok(()) => println!("kept in {}", path.display()),
-        Err(error) => println!("not kept: {error}"),
-    }
-}
-
-/// A kept case and the expected answer.
-pub fn kept(line: &str) -> Option<(Case, &str)> {
-    let [asked, files, expected] = line.split(" | ").collect::<Vec<_>>().try_into().ok()?;
-    let files = files.split(' ').map(bytes).collect::<Option<_>>()?;
-    Some((Case { asked: Asked::parse(asked)?, files }, expected))
-}
-
-/// Replays the kept cases. Whether all are well.
-pub fn replay(path: &Path, other: &Program) -> bool {
-    let text = fs::read_to_string(path).unwrap_or_default();
-    let mut good = true;
-    for line in text.lines() {
-        let why = match kept(line) {
-            Some((case, is)) if case.answer(&OWN) == is && !case.differs(other) => continue,
-            Some((case, _)) => case.told(other),
-            None => "not a case".to_string(),
-        };
-        println!("CASE {line}\n{why}");
-        good = false;
-    }
-    println!("{} kept cases replayed", text.lines().count());
-    good
+    let small = of(&shrink(&case.files, PATIENCE, &|files| of(files).differs(other)));
+    println!("made smaller:\n{}", small.told(other));
+    small
 }

@@ -55,10 +55,6 @@ fn numbered_by(answer: &Written) -> Option<u64> {
 }
 
 impl Run<'_> {
-    fn differs(&self) -> bool {
-        self.session.differs
-    }
-
     fn add(&mut self, about: What, what: What) {
         self.session.tally.add(about, what);
     }
@@ -112,16 +108,14 @@ impl Run<'_> {
         })
     }
 
-    /// Counts a law of linking that holds. Files of which it does not are told of and kept: both
-    /// programs have answered alike, so that there is nothing to make smaller.
+    /// Counts a law of linking that holds. Files of which it does not are told of: both programs
+    /// have answered alike, so that there is nothing to make smaller.
     fn law(&mut self, law: &str, holds: bool, what: &'static str, files: &[&File], came: Came) {
-        match holds || self.differs() {
-            true => self.came("law", what, came),
-            false => {
-                println!("the law of {law} does not hold");
-                self.session.found(law, Asked::Link(MAX_FILE), &bytes(files));
-            }
+        if !holds {
+            println!("the law of {law} does not hold");
+            self.session.found(law, Asked::Link(MAX_FILE), &bytes(files));
         }
+        self.came("law", what, came);
     }
 
     /// Counts a call with a buffer of this kind.
@@ -171,9 +165,6 @@ impl Run<'_> {
     /// A pair in both orders, each with several buffers; and that swapping changes no more than
     /// it may.
     fn pair(&mut self, made: &'static str, a: &File, b: &File) {
-        if self.differs() {
-            return;
-        }
         self.add("made", made);
         let came = Came { way: Some(made), ..together(&[a, b]) };
         self.came("all", "pairs of files", came);
@@ -189,7 +180,7 @@ impl Run<'_> {
             let _ = self.link(order, files, needed, room);
             answer
         });
-        let (Ok(first), Ok(second), false) = (&a.model, &b.model, self.differs()) else { return };
+        let (Ok(first), Ok(second)) = (&a.model, &b.model) else { return };
         match (&one, &two) {
             (Err((which, one)), Err((other, two))) => {
                 let same = which == other && one.number == two.number;
@@ -218,18 +209,13 @@ impl Run<'_> {
         for (order, files) in ORDERS.into_iter().zip([[a, b], [b, a]]) {
             let needed = self.needed(&files);
             for room in ROOMS {
-                if !self.differs() {
-                    let _ = self.link(order, files, needed, room);
-                }
+                let _ = self.link(order, files, needed, room);
             }
         }
     }
 
     /// Both ways to group a triple end with the same bytes, or neither ends with any.
     fn triple(&mut self, made: &'static str, room: usize, files: [&File; 3]) {
-        if self.differs() {
-            return;
-        }
         let [a, b, c] = files;
         let left = self.call(&[a, b], room);
         let left = left.and_then(|ab| self.call(&[&File::new(ab), c], room));
@@ -245,9 +231,6 @@ impl Run<'_> {
 
     /// A file with itself and with an empty one: as normalising.
     fn self_and_empty(&mut self, a: &File) {
-        if self.differs() {
-            return;
-        }
         let room = *self.rng.pick(&[0, 36, 200, 2_000, 20_000, 20_000, MAX_FILE]);
         let normal = self.call(&[a], room);
         let empty = File::new(pairs::empty(&mut self.rng).bytes());
@@ -265,7 +248,7 @@ impl Run<'_> {
 
     /// Two files have the same normal form exactly where they mean the same.
     fn same_form(&mut self, a: &File, b: &File) {
-        let (Ok(first), Ok(second), false) = (&a.model, &b.model, self.differs()) else { return };
+        let (Ok(first), Ok(second)) = (&a.model, &b.model) else { return };
         let forms = (self.call(&[a], MAX_FILE / 4), self.call(&[b], MAX_FILE / 4));
         let (Ok(one), Ok(two)) = &forms else { return };
         let same = model::same_meaning(first, second);
@@ -275,9 +258,6 @@ impl Run<'_> {
 
     /// A file's normal form, with several buffers.
     fn normal(&mut self, file: &File, rooms: &[Room]) {
-        if self.differs() {
-            return;
-        }
         let needed = self.needed(&[file]);
         for room in rooms {
             let length = room.1(needed, &mut self.rng);
@@ -307,7 +287,7 @@ impl Run<'_> {
     }
 }
 
-/// Links and normalises many files; stops at the first difference.
+/// Links and normalises many files.
 pub fn run(session: &mut Session) {
     let seed = session.seed;
     let rng = &mut Rng::new(seed);
@@ -320,9 +300,7 @@ pub fn run(session: &mut Session) {
         run.pair(made, &a, &b);
     }
     for round in 0..3_000 {
-        if !run.differs() {
-            small(&mut run, rng, round);
-        }
+        small(&mut run, rng, round);
     }
     refused(&mut run, rng, seed);
 }
@@ -370,8 +348,7 @@ fn refused(run: &mut Run, rng: &mut Rng, seed: u64) {
     damage::everything(seed, &mut |made| {
         let counter = kinds.entry(made.how).or_default();
         *counter += 1;
-        let taken = *counter <= 3 || counter.is_multiple_of(701);
-        if !taken || run.differs() {
+        if *counter > 3 && !counter.is_multiple_of(701) {
             return;
         }
         let file = File::new(made.bytes.to_vec());

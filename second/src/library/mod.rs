@@ -12,7 +12,7 @@ use crate::program::questions::{of as asked, Constant, Kind, Lookup, Method};
 use crate::program::{check, link::link, link::LinkRefusal, normal::normalise, Answer, Refusal};
 use crate::tally::Tally;
 use cases::{Asked, Case};
-use std::{path::Path, path::PathBuf, time::Instant};
+use std::{panic::panic_any, time::Instant};
 
 /// The calls of a program.
 #[derive(Clone, Copy)]
@@ -42,25 +42,14 @@ pub const OWN: Program = Program {
 pub struct Session {
     pub seed: u64,
     pub other: Program,
-    /// Where differences are kept.
-    pub kept: PathBuf,
     pub tally: Tally,
-    /// Whether a difference was found.
-    pub differs: bool,
 }
 
 impl Session {
-    pub fn new(part: &'static str, seed: u64, other: Program, kept: &Path) -> Session {
-        Session { seed, other, kept: kept.into(), tally: Tally::new(part), differs: false }
-    }
-
-    /// Tells of a difference, makes it smaller and keeps it.
-    pub fn found(&mut self, made: &str, asked: Asked, files: &[&[u8]]) {
-        if !self.differs {
-            let files = files.iter().map(|file| file.to_vec()).collect();
-            cases::found(&self.kept, made, Case { asked, files }, &self.other);
-        }
-        self.differs = true;
+    /// Tells of a difference, makes it smaller, and ends the part.
+    pub fn found(&self, made: &str, asked: Asked, files: &[&[u8]]) -> ! {
+        let files = files.iter().map(|file| file.to_vec()).collect();
+        panic_any(cases::found(made, Case { asked, files }, &self.other))
     }
 }
 
@@ -80,31 +69,29 @@ pub struct Chosen {
     pub rounds: u64,
 }
 
-/// Replays the kept cases, then runs the parts with each seed. Whether all is well.
+/// Runs the parts with each seed. Whether enough came.
 pub fn run(chosen: &Chosen, other: Program) -> bool {
-    println!("seed {}, rounds {}", chosen.seed, chosen.rounds);
-    let seeds = (0..chosen.rounds).map(|round| chosen.seed.wrapping_add(round));
-    cases::replay(Path::new(cases::KEPT), &other)
-        && seeds.into_iter().all(|seed| run_seed(chosen, seed, other))
+    let mut seeds = (0..chosen.rounds).map(|round| chosen.seed.wrapping_add(round));
+    seeds.all(|seed| run_seed(chosen, seed, other))
 }
 
-/// Runs the parts side by side; each stops at its first difference.
+/// Runs the parts side by side; each ends at its first difference.
 fn run_seed(chosen: &Chosen, seed: u64, other: Program) -> bool {
     let start = Instant::now();
     let has = |name: &str| chosen.parts.is_empty() || chosen.parts.iter().any(|p| p == name);
     let parts: Vec<Part> = PARTS.into_iter().filter(|(name, ..)| has(name)).collect();
     let is_whole = parts.len() == PARTS.len();
     let done = in_parallel(parts, |(name, part, rows)| {
-        let (start, path) = (Instant::now(), Path::new(cases::KEPT));
-        let mut session = Session::new(name, seed, other, path);
+        let start = Instant::now();
+        let mut session = Session { seed, other, tally: Tally::new(name) };
         part(&mut session);
         println!("{name}, seed {seed}: {:.1} s", start.elapsed().as_secs_f64());
-        (session, rows)
+        (session.tally, rows)
     });
     let mut all = Tally::new("compare");
     let mut good = true;
-    for (Session { tally, differs, .. }, rows) in &done {
-        good &= tally.is_enough() && !differs;
+    for (tally, rows) in &done {
+        good &= tally.is_enough();
         all.add_many("all", "comparisons", rows.iter().map(|row| tally.count("all", row)).sum());
     }
     let enough = all.is_enough() || !is_whole;

@@ -2,7 +2,7 @@
 //! what comes of them against what must come.
 
 use super::process::{Program, Ran};
-use super::script::{Files, Law, Script, Step, Told, SUBFOLDER};
+use super::script::{Files, Script, Step, Told, SUBFOLDER};
 use crate::program::format::refusal::is_of_file;
 use crate::tally::Tally;
 use std::{fs, io, path::Path};
@@ -67,7 +67,7 @@ fn folder_stands(folder: &Path, files: &Files, steps: &[&Step]) -> io::Result<()
 
 /// The laws of linking, on the files that were written.
 fn laws_hold(script: &Script, tally: &mut Tally) -> io::Result<()> {
-    for Law { same, absent, files } in &script.laws {
+    for ([same, absent], files) in &script.laws {
         let [left, right] = files.each_ref().map(|name| fs::read(script.folder.join(&name.path)));
         match (left.ok(), right.ok()) {
             (Some(left), Some(right)) if left == right => tally.add("law", same),

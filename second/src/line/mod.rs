@@ -18,19 +18,10 @@ use script::Script;
 use std::path::{Path, PathBuf};
 use std::sync::atomic::{AtomicUsize, Ordering};
 use std::{fs, io, time::Instant};
-use supply::{part, Supply};
+use supply::{of_each, part, Supply};
 
-/// Up to so many files of each kind for the check.
-const OF_EACH_KIND: usize = 40;
-
+/// Scripts that are run as batches, and scripts of two kinds whose commands run alone.
 const BATCHES: usize = 20;
-/// In each batch: good files to be asked, each so often.
-const ASKED: usize = 60;
-const QUESTIONS: usize = 36;
-/// Worlds of files to be linked, and outputs to be written several times.
-const LINKED: usize = 8;
-const REWRITTEN: usize = 4;
-/// Scripts whose commands run alone.
 const ALONE: usize = 4;
 
 /// A folder of its own, removed in the end.
@@ -73,17 +64,17 @@ fn batch(s: &mut Script, supply: &Supply, k: usize) {
     for (_, bytes) in part(&supply.checked, k, BATCHES) {
         stories::checked(s, bytes, &one);
     }
-    for _ in 0..ASKED {
+    for _ in 0..60 {
         let bytes = stories::good(&mut s.rng);
-        stories::asked(s, bytes, QUESTIONS);
+        stories::asked(s, bytes, 36);
     }
-    for _ in 0..LINKED {
+    for _ in 0..8 {
         stories::linked(s);
         let bytes = stories::good(&mut s.rng);
         stories::normalised(s, bytes);
     }
     let bad = supply.refused(k);
-    for i in 0..REWRITTEN {
+    for i in 0..4 {
         stories::rewritten(s, bad[i % bad.len()]);
         stories::in_place(s);
         stories::by_other_names(s);
@@ -110,7 +101,7 @@ fn alone(s: &mut Script, supply: &Supply, k: usize) {
         for (what, bytes) in part(&supply.large, k, ALONE) {
             stories::large_file(s, what, bytes);
         }
-        supply.pairs(k).into_iter().for_each(|files| stories::pair(s, files));
+        of_each(&supply.pairs, k).into_iter().for_each(|files| stories::pair(s, files));
         return;
     }
     let one = stories::placed(s);
@@ -170,7 +161,7 @@ fn scripts(program: &Program, supply: &Supply, part: Part, seed: u64) -> io::Res
 pub fn run(program: &Program, parts: &[Part], seed: u64, rounds: u64) -> io::Result<bool> {
     let mut good = true;
     for seed in (0..rounds).map(|round| seed.wrapping_add(round)) {
-        let supply = Supply::new(seed, OF_EACH_KIND);
+        let supply = Supply::new(seed);
         for part in parts {
             let start = Instant::now();
             let done = scripts(program, &supply, *part, seed);

@@ -44,12 +44,8 @@ impl Step {
     }
 }
 
-/// Two outputs that must be the same in the end, or both absent.
-pub struct Law {
-    pub same: &'static str,
-    pub absent: &'static str,
-    pub files: [Name; 2],
-}
+/// Two outputs that must be the same in the end, or both absent: the rows of both cases.
+type Law = ([What; 2], [Name; 2]);
 
 /// A folder that stands in every folder beside the files.
 pub const SUBFOLDER: &str = "sub";
@@ -175,6 +171,10 @@ impl Script {
     pub fn error(&mut self, words: Words, kind: &'static str) {
         let (outcome, counts) = (Outcome::error(kind), vec![("error", kind, None)]);
         self.add(Step { words, outcome, counts, ..Step::default() });
+    }
+
+    pub fn law(&mut self, rows: [What; 2], a: &Name, b: &Name) {
+        self.laws.push((rows, [a.clone(), b.clone()]));
     }
 
     /// Another row that the last step counts for.

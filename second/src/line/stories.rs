@@ -1,7 +1,8 @@
 //! Stories: commands that belong together, about generated files.
 
-use super::{answers::Bytes, malformed, script::Law, script::Name, script::Script};
-use crate::library::{cases::Asked, links::BACKWARD, links::FORWARD, questions::question};
+use super::{answers::Bytes, malformed, script::Name, script::Script};
+use crate::library::links::{BACKWARD, FORWARD};
+use crate::library::questions::{question, Question};
 use crate::making::{builder::*, generate, hostile, model, pairs, rng::Rng};
 use crate::program::{check::check, listing::MAX_INPUT};
 
@@ -77,7 +78,7 @@ pub fn every_answer(script: &mut Script) {
     }
     let file = script.place(lib.bytes());
     for line in include_str!("every_answer.txt").lines() {
-        let Some(Asked::Question(question)) = Asked::parse(line) else { panic!("{line}") };
+        let question = Question::parse(line).expect(line);
         script.story();
         script.ask(&file, &question);
     }
@@ -138,10 +139,6 @@ pub fn headers(script: &mut Script) {
     }
 }
 
-fn law(script: &mut Script, same: &'static str, absent: &'static str, a: &Name, b: &Name) {
-    script.laws.push(Law { same, absent, files: [a.clone(), b.clone()] });
-}
-
 /// The normal form, asked and normalised again.
 pub fn normalised(script: &mut Script, bytes: impl Into<Bytes>) {
     let file = script.place(bytes);
@@ -151,7 +148,7 @@ pub fn normalised(script: &mut Script, bytes: impl Into<Bytes>) {
     questions(script, &out, 4);
     script.normal(&out, &again);
     if script.content(&again).is_some() {
-        law(script, "its own normal form", "", &out, &again);
+        script.law(["its own normal form", ""], &out, &again);
     }
 }
 
@@ -167,7 +164,7 @@ pub fn pair(script: &mut Script, files: &[Bytes; 2]) {
         false => {}
     }
     script.write(&[&b, &a, &ba], Some(BACKWARD));
-    law(script, "swapping: same bytes", "swapping: neither", &ab, &ba);
+    script.law(["swapping: same bytes", "swapping: neither"], &ab, &ba);
 }
 
 /// Both ways to group a triple. What a refused link did not write cannot be read.
@@ -179,7 +176,7 @@ pub fn triple(script: &mut Script, files: [&Bytes; 3]) {
     script.link(&ab, &c, &ab_c);
     script.link(&b, &c, &bc);
     script.link(&a, &bc, &a_bc);
-    law(script, "grouping: same bytes", "grouping: neither", &ab_c, &a_bc);
+    script.law(["grouping: same bytes", "grouping: neither"], &ab_c, &a_bc);
 }
 
 /// A file with itself and with an empty one, as normalising.
@@ -190,11 +187,11 @@ pub fn self_and_empty(script: &mut Script, bytes: impl Into<Bytes>) {
     script.story();
     script.normal(&a, &normal);
     script.link(&a, &a, &aa);
-    law(script, "self", "self: neither", &aa, &normal);
+    script.law(["self", "self: neither"], &aa, &normal);
     script.link(&a, &empty, &ae);
-    law(script, "empty", "empty: neither", &ae, &normal);
+    script.law(["empty", "empty: neither"], &ae, &normal);
     script.link(&empty, &a, &ea);
-    law(script, "empty", "empty: neither", &ea, &normal);
+    script.law(["empty", "empty: neither"], &ea, &normal);
 }
 
 /// Files of one world, and conflicts between them.

@@ -2,7 +2,7 @@
 //! made and handed on with the file; elsewhere only the two checks are compared.
 
 use super::faults::{faults, lowest_endless, number, put, Fault};
-use super::{builder::*, generate, generate::fitting, pairs, rng::Rng};
+use super::{builder::*, generate, generate::both, generate::fitting, pairs, rng::Rng};
 use crate::program::{check::word, Answer};
 
 /// A generated file.
@@ -318,16 +318,6 @@ fn headers(rng: &mut Rng, sink: &mut Sink) {
             sink.put(&bytes, None, "positions");
         }
     }
-}
-
-/// Each with each, the second varying faster.
-fn both<A, B>(a: A, b: B) -> impl Iterator<Item = (A::Item, B::Item)> + Clone
-where
-    A: IntoIterator<Item: Clone, IntoIter: Clone>,
-    B: IntoIterator<IntoIter: Clone> + Clone,
-{
-    let b = b.into_iter();
-    a.into_iter().flat_map(move |a| b.clone().map(move |b| (a.clone(), b)))
 }
 
 /// All words of a length over so many letters.
