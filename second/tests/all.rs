@@ -2,14 +2,13 @@
 //! file; and that a planted difference is found and made smaller.
 
 use second::library::cases::{bytes, shown, Case};
-use second::library::questions::{Found, Question};
-use second::library::{checks, links, questions, Program, Session, OWN};
-use second::line::{compare::tells, listing, process};
+use second::library::{checks, links, questions, questions::Question, Program, Session, OWN};
+use second::line::{answers::asked, compare::tells, listing};
 use second::making::{builder::*, generate::marked, generate::rich};
-use second::program::Answer;
-use second::program::{check::check, listing::program, questions::Lookup, questions::Slot};
+use second::program::{check::check, listing::program, questions::Lookup, Answer};
 use second::tally::{floors, Came, Tally};
 use std::panic::{catch_unwind, AssertUnwindSafe};
+use std::path::Path;
 
 /// A table's lines, without empty ones and comments.
 fn lines(table: &str) -> impl Iterator<Item = &str> {
@@ -40,7 +39,7 @@ fn marked_files() {
     let mut other = p3.clone();
     other[78] = 0xfd;
     assert_eq!(written(&[&p3, &other]), Err("refused 23 1".to_string()));
-    assert_eq!(answer(&p3, "constant 1 4b"), "Found(Constant(I16(-2)))");
+    assert_eq!(answer(&p3, "constant 1 4b"), "found i16 -2");
 }
 
 #[test]
@@ -110,15 +109,10 @@ fn tree() -> Vec<u8> {
     lib.bytes()
 }
 
+/// The answer to a question as `xpt` gives it.
 fn answer(file: &[u8], line: &str) -> String {
-    match OWN.ask(file, &Question::parse(line).expect(line)) {
-        Lookup::Found(Found::Method(found)) => match found.slot {
-            Slot::Known(slot) => format!("found {} {} {slot}", found.owner, found.position),
-            Slot::Undetermined(i) => format!("found {} {} ? {i}", found.owner, found.position),
-        },
-        Lookup::Refused(Refusal { number: 20, place: 0 }) => "refused".to_string(),
-        reply => format!("{reply:?}"),
-    }
+    let outcome = asked(file, &Question::parse(line).expect(line));
+    String::from_utf8(outcome.text.unwrap()).unwrap()
 }
 
 #[test]
@@ -127,8 +121,7 @@ fn readings_of_the_questions() {
         let (question, expected) = line.split_once(": ").unwrap();
         assert_eq!(answer(&tree(), question), expected, "{line}");
         // The file's refusal comes first.
-        let refused = answer(&tree()[..81], question);
-        assert!(refused.starts_with("Refused(Refusal { number: 6, place: 20 }"), "{refused}");
+        assert_eq!(answer(&tree()[..81], question), "refused 6 20");
     }
 }
 
@@ -260,9 +253,8 @@ fn planted_differences() {
         ..OWN
     };
     planted("links", links::run, wrong);
-    // `cat` prints its input in place of the listing.
-    let cat = process::Program::named("cat");
-    assert!(!listing::run(&cat, 2, 10).unwrap());
+    // `env` prints no listing.
+    assert!(!listing::run(Path::new("/usr/bin/env"), 2, 10).unwrap());
 }
 
 #[test]

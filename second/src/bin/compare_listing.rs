@@ -2,8 +2,8 @@
 //! else than this one, and where too little was covered.
 //! usage: compare_listing PROGRAM [SEED]
 
-use second::line::{listing, process::Program};
-use std::{path::Path, process::ExitCode};
+use second::line::listing;
+use std::{path::absolute, process::ExitCode};
 
 fn main() -> ExitCode {
     let mut arguments = std::env::args().skip(1);
@@ -12,5 +12,5 @@ fn main() -> ExitCode {
         eprintln!("usage: compare_listing PROGRAM [SEED]");
         return ExitCode::from(2);
     };
-    second::ended(Program::new(Path::new(&path)).and_then(|list| listing::run(&list, seed, 2_000)))
+    second::ended(absolute(path).and_then(|program| listing::run(&program, seed, 2_000)))
 }

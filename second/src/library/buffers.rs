@@ -38,9 +38,3 @@ pub fn lent<T>(before: &[u8], room: usize, call: impl FnOnce(&mut [u8]) -> T) ->
     let answer = call(&mut bytes[GUARD..GUARD + room]);
     (answer, bytes)
 }
-
-/// Whether bytes changed outside the first `length` of the buffer.
-pub fn strayed(before: &[u8], after: &[u8], length: usize) -> bool {
-    let end = (GUARD + length).min(before.len());
-    before[..GUARD] != after[..GUARD] || before[end..] != after[end..]
-}

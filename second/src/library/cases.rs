@@ -1,7 +1,7 @@
 //! Comparisons that can be made again: what is asked, the files it is asked of, and what a program
 //! answers. Where two differ the case is made smaller.
 
-use super::buffers::{lent, strayed, GUARD};
+use super::buffers::{lent, GUARD};
 use super::questions::{Found, Question, Reply};
 use super::{shrink::shrink, Program, OWN};
 use crate::program::{link::LinkRefusal, questions::Kind, Answer, Refusal};
@@ -66,22 +66,11 @@ pub fn shown(answer: Answer) -> String {
     }
 }
 
-/// What a program writes into a buffer of this length.
+/// What a program answers that writes into a buffer of this length, and what is then in and around it.
 fn written(program: &Program, files: &[&[u8]], room: usize) -> String {
     let before: Vec<u8> = (0..room + 2 * GUARD).map(|i| (i * 7 + 13) as u8).collect();
     let (answer, bytes) = lent(&before, room, |out| program.write(files, out));
-    let mut text = match answer {
-        Ok(length) if length <= room => {
-            format!("written {length} bytes, hash {:016x}", hash(&[&bytes[GUARD..][..length]]))
-        }
-        Ok(length) => format!("written {length} bytes"),
-        Err((0, refusal)) => shown(Err(refusal)),
-        Err((which, refusal)) => format!("{} of file {which}", shown(Err(refusal))),
-    };
-    if strayed(&before, &bytes, answer.unwrap_or(0)) {
-        text.push_str(", but changed bytes behind what was written or around the buffer");
-    }
-    text
+    format!("{answer:?}, bytes of hash {:016x}", hash(&[&bytes]))
 }
 
 impl Program {

@@ -1,7 +1,7 @@
 //! Runs a script's commands by the program that is compared, in a batch or each alone, and holds
 //! what comes of them against what must come.
 
-use super::process::{Program, Ran};
+use super::process::{self, Ran};
 use super::script::{Files, Script, Step, Told, SUBFOLDER};
 use crate::program::format::refusal::is_of_file;
 use crate::tally::Tally;
@@ -150,17 +150,18 @@ fn input(steps: &[&Step], tally: &mut Tally) -> Vec<u8> {
 
 /// Runs the script's commands: in one batch, or each alone but for those with words that a process
 /// cannot be given.
-pub fn run(program: &Program, script: &Script, tally: &mut Tally) -> io::Result<()> {
+pub fn run(program: &Path, script: &Script, tally: &mut Tally) -> io::Result<()> {
     lay_out(script)?;
     let mut files = script.files.clone();
     let mut steps = script.merged();
     steps.retain(|step| !script.alone || !step.words.iter().flatten().any(|byte| *byte == 0));
     let at_once = if script.alone { 1 } else { steps.len() };
     for steps in steps.chunks(at_once) {
-        let ran = match script.alone {
-            true => program.run(&script.folder, &steps[0].words, b"")?,
-            false => program.run(&script.folder, &[b"batch".to_vec()], &input(steps, tally))?,
+        let (words, input) = match script.alone {
+            true => (steps[0].words.clone(), Vec::new()),
+            false => (vec![b"batch".to_vec()], input(steps, tally)),
         };
+        let ran = process::run(program, &script.folder, &words, &input)?;
         answers_stand(steps, &ran, script.alone, tally)?;
         for step in steps {
             if let (Some(path), Some(bytes)) = (&step.out, &step.outcome.written) {

@@ -1,6 +1,6 @@
 //! The listing program beside this one: what it prints for many inputs, each through a pipe.
 
-use super::{process::Program, stories::about, stories::Named};
+use super::{process, stories::about, stories::Named};
 use crate::in_parallel;
 use crate::library::shrink::shrink;
 use crate::making::{builder::*, damage, generate, hostile, rng::Rng};
@@ -17,8 +17,8 @@ fn listed(input: &[u8]) -> Vec<u8> {
 }
 
 /// What the program prints otherwise than this one, if it does.
-fn differs(program: &Program, input: &[u8]) -> io::Result<Option<String>> {
-    let ran = program.run(Path::new("/"), &[], input)?;
+fn differs(program: &Path, input: &[u8]) -> io::Result<Option<String>> {
+    let ran = process::run(program, Path::new("/"), &[], input)?;
     let own = listed(input);
     let common = ran.stdout.iter().zip(&own).take_while(|(a, b)| a == b).count();
     let told = ran.stdout != own || ran.broken.is_some();
@@ -128,7 +128,7 @@ fn inputs(seed: u64, count: usize) -> Vec<Named> {
 }
 
 /// Compares what is printed for all inputs, at least 1,000 for the floors. Whether all is well.
-pub fn run(program: &Program, seed: u64, count: usize) -> io::Result<bool> {
+pub fn run(program: &Path, seed: u64, count: usize) -> io::Result<bool> {
     let inputs = inputs(seed, count);
     let compared =
         in_parallel(inputs.iter().collect(), |(_, input): &Named| differs(program, input));

@@ -1,7 +1,7 @@
 //! Comparing through the command line: what `xpt` and the listing program take as words and input,
 //! answer, write and tell on standard error.
 
-mod answers;
+pub mod answers;
 pub mod compare;
 pub mod listing;
 mod malformed;
@@ -13,49 +13,24 @@ mod supply;
 use crate::in_parallel;
 use crate::making::rng::Rng;
 use crate::tally::Tally;
-use process::Program;
 use script::Script;
 use std::path::{Path, PathBuf};
-use std::sync::atomic::{AtomicUsize, Ordering};
-use std::{fs, io, time::Instant};
+use std::{env, fs, io, time::Instant};
 use supply::{of_each, part, Supply};
 
 /// Scripts that are run as batches, and scripts of two kinds whose commands run alone.
 const BATCHES: usize = 20;
 const ALONE: usize = 4;
 
-/// A folder of its own, removed in the end.
-pub struct Folder(pub PathBuf);
-
-impl Folder {
-    fn new(parent: &Path) -> io::Result<Folder> {
-        static MADE: AtomicUsize = AtomicUsize::new(0);
-        let k = MADE.fetch_add(1, Ordering::Relaxed);
-        let folder = parent.join(format!("compare-xpt-{}-{k}", std::process::id()));
-        fs::create_dir(&folder)?;
-        Ok(Folder(folder))
+/// A new folder: where it may be in memory where there is such a place, as outputs may be synced to
+/// the device.
+fn folder(name: &str, may_be_in_memory: bool) -> io::Result<PathBuf> {
+    let quick = Path::new("/dev/shm").join(name);
+    if may_be_in_memory && env::var_os("TMPDIR").is_none() && fs::create_dir(&quick).is_ok() {
+        return Ok(quick);
     }
-
-    pub fn usual() -> io::Result<Folder> {
-        Folder::new(&std::env::temp_dir())
-    }
-
-    /// In memory where there is such a place: outputs may be synced to the device.
-    fn quick() -> io::Result<Folder> {
-        let memory = Path::new("/dev/shm");
-        match memory.is_dir() && std::env::var_os("TMPDIR").is_none() {
-            true => Folder::new(memory).or_else(|_| Folder::usual()),
-            false => Folder::usual(),
-        }
-    }
-}
-
-impl Drop for Folder {
-    fn drop(&mut self) {
-        if let Err(error) = fs::remove_dir_all(&self.0) {
-            eprintln!("{} is not removed: {error}", self.0.display());
-        }
-    }
+    let folder = env::temp_dir().join(name);
+    fs::create_dir(&folder).map(|()| folder)
 }
 
 /// The k-th of all batches: all commands mixed.
@@ -132,20 +107,18 @@ pub const PARTS: [Part; 2] =
     [("batches", batch, BATCHES, BATCHES - 1), ("alone", alone, 2 * ALONE, 2 * ALONE - 2)];
 
 /// The scripts of a part with one seed, several at a time.
-fn scripts(program: &Program, supply: &Supply, part: Part, seed: u64) -> io::Result<Tally> {
+fn scripts(program: &Path, supply: &Supply, part: Part, seed: u64) -> io::Result<Tally> {
     let (name, fill, count, usual) = part;
     let rng = &mut Rng::new(seed);
     let seeds: Vec<_> = (0..count).map(|k| (k, rng.number())).collect();
     let run = |(k, seed): (usize, u64)| -> io::Result<Tally> {
-        let folder = if k == usual { Folder::usual()? } else { Folder::quick()? };
+        let folder = folder(&format!("compare-xpt-{}-{name}-{k}", std::process::id()), k != usual)?;
         let mut tally = Tally::new(name);
-        let mut script = Script::new(folder.0.clone(), name == "alone", seed);
+        let mut script = Script::new(folder.clone(), name == "alone", seed);
         fill(&mut script, supply, k);
-        if let Err(error) = compare::run(program, &script, &mut tally) {
-            println!("{name}, seed {seed}: the files are kept in {}", folder.0.display());
-            std::mem::forget(folder);
-            return Err(error);
-        }
+        let compared = compare::run(program, &script, &mut tally);
+        compared.inspect_err(|_| println!("{name}: the files are kept in {}", folder.display()))?;
+        fs::remove_dir_all(&folder)?;
         tally.add("all", name);
         Ok(tally)
     };
@@ -158,7 +131,7 @@ fn scripts(program: &Program, supply: &Supply, part: Part, seed: u64) -> io::Res
 
 /// Compares `xpt` with this program, these parts with so many seeds; stops at the first difference.
 /// Whether all is well.
-pub fn run(program: &Program, parts: &[Part], seed: u64, rounds: u64) -> io::Result<bool> {
+pub fn run(program: &Path, parts: &[Part], seed: u64, rounds: u64) -> io::Result<bool> {
     let mut good = true;
     for seed in (0..rounds).map(|round| seed.wrapping_add(round)) {
         let supply = Supply::new(seed);
