@@ -1,9 +1,8 @@
 //! Counts of what was compared, row by row, held against the one table of floors: how often
 //! everything must come at least in a run, of any seed.
 
-use std::collections::hash_map::DefaultHasher;
-use std::collections::{BTreeSet, HashMap, HashSet};
-use std::hash::{Hash, Hasher};
+use std::collections::{HashMap, HashSet};
+use std::hash::{DefaultHasher, Hash, Hasher};
 
 /// What a row is about, and what came.
 pub type Row = (&'static str, &'static str);
@@ -21,19 +20,9 @@ pub struct Came {
     pub way: Option<&'static str>,
 }
 
+/// How often a row came, and the different places, files and ways.
 #[derive(Default)]
-struct Counts {
-    count: usize,
-    places: HashSet<u64>,
-    files: HashSet<u64>,
-    ways: BTreeSet<&'static str>,
-}
-
-impl Counts {
-    fn numbers(&self) -> Numbers {
-        [self.count, self.places.len(), self.files.len(), self.ways.len()]
-    }
-}
+struct Counts(usize, [HashSet<u64>; 3]);
 
 /// The counts of one part of a run.
 pub struct Tally {
@@ -100,7 +89,7 @@ impl Tally {
 
     /// Many at once, of which nothing else is known.
     pub fn add_many(&mut self, about: &'static str, what: &'static str, count: usize) {
-        self.rows.entry((about, what)).or_default().count += count;
+        self.rows.entry((about, what)).or_default().0 += count;
     }
 
     pub fn add(&mut self, about: &'static str, what: &'static str) {
@@ -112,11 +101,10 @@ impl Tally {
     }
 
     pub fn came(&mut self, about: &'static str, what: &'static str, came: Came) {
-        let row = self.rows.entry((about, what)).or_default();
-        row.count += 1;
-        row.places.extend(came.place);
-        row.files.extend(came.file);
-        row.ways.extend(came.way);
+        let way = came.way.map(|way| hash(&[way.as_bytes()]));
+        let Counts(count, seen) = self.rows.entry((about, what)).or_default();
+        *count += 1;
+        seen.iter_mut().zip([came.place, came.file, way]).for_each(|(seen, new)| seen.extend(new));
     }
 
     pub fn count(&self, about: &'static str, what: &'static str) -> usize {
@@ -124,17 +112,16 @@ impl Tally {
     }
 
     fn numbers(&self, row: &Row) -> Numbers {
-        self.rows.get(row).map_or([0; 4], Counts::numbers)
+        let of = |Counts(n, [a, b, c]): &Counts| [*n, a.len(), b.len(), c.len()];
+        self.rows.get(row).map_or([0; 4], of)
     }
 
     /// Adds what came elsewhere in the same part.
     pub fn join(&mut self, other: Tally) {
         for (row, more) in other.rows {
-            let counts = self.rows.entry(row).or_default();
-            counts.count += more.count;
-            counts.places.extend(more.places);
-            counts.files.extend(more.files);
-            counts.ways.extend(more.ways);
+            let Counts(count, seen) = self.rows.entry(row).or_default();
+            *count += more.0;
+            seen.iter_mut().zip(more.1).for_each(|(seen, more)| seen.extend(more));
         }
     }
 

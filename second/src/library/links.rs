@@ -26,9 +26,7 @@ impl File {
     }
 }
 
-pub const FORWARD: &str = "first with second";
-pub const BACKWARD: &str = "second with first";
-const ORDERS: [&str; 2] = [FORWARD, BACKWARD];
+pub const ORDERS: [&str; 2] = ["first with second", "second with first"];
 
 const NORMAL: &[&str] = numbered!("normal ", "");
 
@@ -64,11 +62,11 @@ impl Run<'_> {
     }
 
     /// A file made by a generator. What it shows is counted.
-    fn file(&mut self, way: &'static str, lib: &Typelib) -> File {
+    fn file(&mut self, way: What, lib: &Typelib) -> File {
         self.of_bytes(way, lib.bytes())
     }
 
-    fn of_bytes(&mut self, way: &'static str, bytes: Vec<u8>) -> File {
+    fn of_bytes(&mut self, way: What, bytes: Vec<u8>) -> File {
         let file = File::new(bytes);
         if let Ok(lib) = &file.model {
             let came = Came { way: Some(way), ..together(&[&file]) };
@@ -110,7 +108,7 @@ impl Run<'_> {
 
     /// Counts a law of linking that holds. Files of which it does not are told of: both programs
     /// have answered alike, so that there is nothing to make smaller.
-    fn law(&mut self, law: &str, holds: bool, what: &'static str, files: &[&File], came: Came) {
+    fn law(&mut self, law: &str, holds: bool, what: What, files: &[&File], came: Came) {
         if !holds {
             println!("the law of {law} does not hold");
             self.session.found(law, Asked::Link(MAX_FILE), &bytes(files));
@@ -164,11 +162,11 @@ impl Run<'_> {
 
     /// A pair in both orders, each with several buffers; and that swapping changes no more than
     /// it may.
-    fn pair(&mut self, made: &'static str, a: &File, b: &File) {
+    fn pair(&mut self, made: What, a: &File, b: &File) {
         self.add("made", made);
         let came = Came { way: Some(made), ..together(&[a, b]) };
         self.came("all", "pairs of files", came);
-        let [one, two] = [(FORWARD, [a, b]), (BACKWARD, [b, a])].map(|(order, files)| {
+        let [one, two] = [(ORDERS[0], [a, b]), (ORDERS[1], [b, a])].map(|(order, files)| {
             let needed = self.needed(&files);
             let room = match self.rng.below(100) {
                 0 => ROOMS[7],
@@ -215,7 +213,11 @@ impl Run<'_> {
     }
 
     /// Both ways to group a triple end with the same bytes, or neither ends with any.
-    fn triple(&mut self, made: &'static str, room: usize, files: [&File; 3]) {
+    ///
+    /// The files are in one of three orders, and the buffers mostly shorter ones, that take less time.
+    fn triple(&mut self, made: What, round: usize, orders: [[&File; 3]; 3]) {
+        let room = if round.is_multiple_of(10) { MAX_FILE } else { 131_072 };
+        let files = orders[round % 3];
         let [a, b, c] = files;
         let left = self.call(&[a, b], room);
         let left = left.and_then(|ab| self.call(&[&File::new(ab), c], room));
@@ -335,8 +337,8 @@ fn edges(run: &mut Run, rng: &mut Rng) {
     }
     for (made, files) in pairs::edge_triples() {
         let [a, b, c] = files.each_ref().map(|lib| File::new(lib.bytes()));
-        run.triple(made, MAX_FILE, [&a, &b, &c]);
-        run.triple(made, MAX_FILE, [&c, &a, &b]);
+        run.triple(made, 0, [[&a, &b, &c]; 3]);
+        run.triple(made, 0, [[&c, &a, &b]; 3]);
     }
 }
 
@@ -368,13 +370,6 @@ fn refused(run: &mut Run, rng: &mut Rng, seed: u64) {
     });
 }
 
-/// Files in one of three orders, and the buffers of a triple: mostly shorter ones, that take less
-/// time.
-fn triple(run: &mut Run, made: &'static str, round: usize, orders: [[&File; 3]; 3]) {
-    let room = if round.is_multiple_of(10) { MAX_FILE } else { 131_072 };
-    run.triple(made, room, orders[round % 3]);
-}
-
 /// Files of one small world, and conflicts between them.
 fn small(run: &mut Run, rng: &mut Rng, round: usize) {
     let world = pairs::world(rng);
@@ -386,7 +381,7 @@ fn small(run: &mut Run, rng: &mut Rng, round: usize) {
         run.normal(file, &[short(rng), wide(rng)]);
     }
     if round.is_multiple_of(2) {
-        triple(run, "one world", round, [[a, b, c]; 3]);
+        run.triple("one world", round, [[a, b, c]; 3]);
         run.self_and_empty(a);
         let laid = run.file("laid out again", &pairs::relaid(&views[0], rng));
         run.same_form(a, &laid);
@@ -408,7 +403,7 @@ fn conflicts(run: &mut Run, rng: &mut Rng, round: usize, views: &[Typelib; 3], f
         }
     }
     if let Some(other) = conflicting.first() {
-        triple(run, "a conflict", round, [[a, other, c], [other, c, a], [c, a, other]]);
+        run.triple("a conflict", round, [[a, other, c], [other, c, a], [c, a, other]]);
         run.same_form(b, other);
     }
     let mut other = views[1].clone();
@@ -425,7 +420,7 @@ fn chains(run: &mut Run, rng: &mut Rng, round: usize, c: &File) {
     let (a, b) = (run.file("endless", &first), run.file("endless", &second));
     run.pair("an endless chain", &a, &b);
     if round.is_multiple_of(4) {
-        triple(run, "an endless chain", round, [[&a, &b, c], [&a, c, &b], [c, &b, &a]]);
+        run.triple("an endless chain", round, [[&a, &b, c], [&a, c, &b], [c, &b, &a]]);
     }
     if pairs::conflict(&first, &mut second, rng).is_some()
         || pairs::conflict(&second, &mut first, rng).is_some()

@@ -110,29 +110,26 @@ fn key_question(lib: &Typelib, rng: &mut Rng) -> Made {
     let entry = rng.pick(&lib.entries);
     let space = entry.namespace.clone().unwrap_or_default();
     let name = entry.name.clone();
-    match rng.below(10) {
-        0..4 => ("an entry's key", Question::Key(space, name)),
+    let (made, space, name) = match rng.below(10) {
+        0..4 => ("an entry's key", space, name),
         4 => {
             let other = rng.pick(&lib.entries).namespace.clone().unwrap_or_default();
-            ("another namespace", Question::Key(other, name))
+            ("another namespace", other, name)
         }
-        5 if space.is_empty() => ("name as namespace", Question::Key(name.clone(), name)),
-        5 => ("namespace and name swapped", Question::Key(name, space)),
-        6 => ("nearly an entry's name", Question::Key(space, near_name(rng, &name))),
-        7 if !space.is_empty() => {
-            ("nearly a namespace", Question::Key(near_name(rng, &space), name))
-        }
-        8 => {
-            let good = if space.is_empty() { &name } else { &space };
-            let ([_, what], bad) = bad_name(rng, good);
-            let (space, name) = if bad.is_empty() { (space, bad) } else { (bad, name) };
-            (what, Question::Key(space, name))
-        }
+        5 if space.is_empty() => ("name as namespace", name.clone(), name),
+        5 => ("namespace and name swapped", name, space),
+        6 => ("nearly an entry's name", space, near_name(rng, &name)),
+        7 if !space.is_empty() => ("nearly a namespace", near_name(rng, &space), name),
+        8 => match bad_name(rng, if space.is_empty() { &name } else { &space }) {
+            ([_, what], bad) if bad.is_empty() => (what, space, bad),
+            ([_, what], bad) => (what, bad, name),
+        },
         _ => {
             let ([what, _], bad) = bad_name(rng, &name);
-            (what, Question::Key(space, bad))
+            (what, space, bad)
         }
-    }
+    };
+    (made, Question::Key(space, name))
 }
 
 /// An index and a name for a question about methods or constants: mostly one that stands in an entry

@@ -2,7 +2,7 @@
 
 use super::script::{Name, Script, LONGEST_LINE, SUBFOLDER};
 use crate::library::questions::Question;
-use crate::making::rng::Rng;
+use crate::making::{generate, rng::Rng};
 use crate::program::questions::Kind;
 
 /// A line of each kind. `F` stands for any file, `G` for an accepted one and `O` for one that is
@@ -164,13 +164,15 @@ pub fn empty_words(script: &mut Script, file: &Name) {
 }
 
 /// Lines about the greatest length that must be answered.
-pub fn long_lines(script: &mut Script, file: &Name) {
+pub fn long_lines(script: &mut Script) {
+    let bytes = generate::family(&mut script.rng).bytes();
+    let file = script.place(bytes);
     let taken = "const  1 ".len() + file.word.len();
     for length in [LONGEST_LINE - 1, LONGEST_LINE, LONGEST_LINE + 1, LONGEST_LINE + 2] {
         let name = vec![b'a'; length - taken];
         script.story();
         let words = vec![b"1".to_vec(), name.clone()];
-        let step = script.ask_so(file, "const", words, &Question::Constant(1, name));
+        let step = script.ask_so(&file, "const", words, &Question::Constant(1, name));
         step.outcome.or_error = length > LONGEST_LINE;
         let what = if length > LONGEST_LINE { "over 65,535 bytes" } else { "about 65,535 bytes" };
         step.counts.push(("line", what, None));

@@ -39,14 +39,10 @@ fn batch(s: &mut Script, supply: &Supply, k: usize) {
     for (_, bytes) in part(&supply.checked, k, BATCHES) {
         stories::checked(s, bytes, &one);
     }
-    for _ in 0..60 {
-        let bytes = stories::good(&mut s.rng);
-        stories::asked(s, bytes, 36);
-    }
+    (0..60).for_each(|_| stories::asked(s, 36));
     for _ in 0..8 {
         stories::linked(s);
-        let bytes = stories::good(&mut s.rng);
-        stories::normalised(s, bytes);
+        stories::normalised(s);
     }
     let bad = supply.refused(k);
     for i in 0..4 {
@@ -57,14 +53,12 @@ fn batch(s: &mut Script, supply: &Supply, k: usize) {
     stories::among_others(s);
     stories::malformed(s, bad[0]);
     stories::malformed(s, bad[1 % bad.len()]);
-    stories::long_lines(s);
+    malformed::long_lines(s);
     stories::every_answer(s);
     if k == 0 {
         stories::headers(s);
     }
-    for (what, bytes) in part(&supply.large, k, BATCHES) {
-        stories::large_file(s, what, bytes);
-    }
+    part(&supply.large, k, BATCHES).for_each(|file| stories::large_file(s, file));
     part(&supply.pairs, k, BATCHES).for_each(|(_, files)| stories::pair(s, files));
 }
 
@@ -73,22 +67,16 @@ fn batch(s: &mut Script, supply: &Supply, k: usize) {
 fn alone(s: &mut Script, supply: &Supply, k: usize) {
     let (k, is_large) = (k / 2, k % 2 == 1);
     if is_large {
-        for (what, bytes) in part(&supply.large, k, ALONE) {
-            stories::large_file(s, what, bytes);
-        }
+        part(&supply.large, k, ALONE).for_each(|file| stories::large_file(s, file));
         of_each(&supply.pairs, k).into_iter().for_each(|files| stories::pair(s, files));
         return;
     }
     let one = stories::placed(s);
-    let bytes = stories::good(&mut s.rng);
-    stories::asked(s, bytes, 12);
+    stories::asked(s, 12);
     stories::every_answer(s);
     let bad = supply.refused(k);
-    for bytes in &bad {
-        stories::checked(s, bytes, &one);
-    }
-    let bytes = stories::good(&mut s.rng);
-    stories::normalised(s, bytes);
+    bad.iter().for_each(|bytes| stories::checked(s, bytes, &one));
+    stories::normalised(s);
     stories::linked(s);
     match k % 4 {
         0 => stories::rewritten(s, bad[0]),

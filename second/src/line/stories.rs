@@ -1,8 +1,7 @@
 //! Stories: commands that belong together, about generated files.
 
 use super::{answers::Bytes, malformed, script::Name, script::Script};
-use crate::library::links::{BACKWARD, FORWARD};
-use crate::library::questions::{question, Question};
+use crate::library::{links::ORDERS, questions::question, questions::Question};
 use crate::making::{builder::*, generate, hostile, model, pairs, rng::Rng};
 use crate::program::{check::check, listing::MAX_INPUT};
 
@@ -54,9 +53,9 @@ pub fn questions(script: &mut Script, file: &Name, count: usize) {
     }
 }
 
-/// A file by all commands that only read.
-pub fn asked(script: &mut Script, bytes: impl Into<Bytes>, count: usize) {
-    let file = script.place(bytes);
+/// A good file by all commands that only read.
+pub fn asked(script: &mut Script, count: usize) {
+    let file = placed(script);
     script.story();
     script.check(&file);
     script.list(&file);
@@ -140,8 +139,8 @@ pub fn headers(script: &mut Script) {
 }
 
 /// The normal form, asked and normalised again.
-pub fn normalised(script: &mut Script, bytes: impl Into<Bytes>) {
-    let file = script.place(bytes);
+pub fn normalised(script: &mut Script) {
+    let file = placed(script);
     let (out, again) = (output(script), script.free());
     script.story();
     script.normal(&file, &out);
@@ -157,13 +156,13 @@ pub fn pair(script: &mut Script, files: &[Bytes; 2]) {
     let [a, b] = files.each_ref().map(|bytes| script.place(bytes.clone()));
     let [ab, ba] = [0; 2].map(|_| script.free());
     script.story();
-    script.write(&[&a, &b, &ab], Some(FORWARD));
+    script.write(&[&a, &b, &ab], Some(ORDERS[0]));
     match script.content(&ab).is_some() {
         true => questions(script, &ab, 4),
         false if script.rng.percent(20) => script.check(&ab),
         false => {}
     }
-    script.write(&[&b, &a, &ba], Some(BACKWARD));
+    script.write(&[&b, &a, &ba], Some(ORDERS[1]));
     script.law(["swapping: same bytes", "swapping: neither"], &ab, &ba);
 }
 
@@ -316,12 +315,6 @@ pub fn malformed(script: &mut Script, bad: &Bytes) {
     malformed::empty_words(script, &bad);
 }
 
-pub fn long_lines(script: &mut Script) {
-    let bytes = generate::family(&mut script.rng).bytes();
-    let file = script.place(bytes);
-    malformed::long_lines(script, &file);
-}
-
 /// Files as long as a limit, accepted and refused, and longer by one, by these names.
 pub fn about(limit: usize, names: [&'static str; 3], good: &Typelib) -> Vec<Named> {
     let filled = |lib: &Typelib, length: usize| lib.filled_to(length).bytes();
@@ -342,7 +335,7 @@ pub fn about(limit: usize, names: [&'static str; 3], good: &Typelib) -> Vec<Name
 }
 
 /// Large files, with how they count.
-pub fn large(rng: &mut Rng) -> Vec<(&'static str, Bytes)> {
+pub fn large(rng: &mut Rng) -> Vec<Named> {
     let family = generate::family(rng);
     let filled = |lib: &Typelib, length: usize| lib.filled_to(length).bytes();
     let [upward, downward] = hostile::chains();
@@ -362,11 +355,11 @@ pub fn large(rng: &mut Rng) -> Vec<(&'static str, Bytes)> {
         ("of a normal form of 1,048,576", pairs::of_normal_length(MAX_FILE, 'd').bytes()),
         ("of a normal form of 1,048,577", pairs::of_normal_length(MAX_FILE + 1, 'c').bytes()),
     ]);
-    files.into_iter().map(|(what, bytes)| (what, bytes.into())).collect()
+    files
 }
 
 /// A large file by all commands.
-pub fn large_file(script: &mut Script, what: &'static str, bytes: &Bytes) {
+pub fn large_file(script: &mut Script, (what, bytes): &Named) {
     let file = script.place(bytes.clone());
     let small = placed(script);
     script.story();

@@ -10,7 +10,7 @@ pub struct Supply {
     pub checked: Vec<(Answer, Bytes)>,
     /// Pairs whose union is large, with the number of their refusal.
     pub pairs: Vec<(u32, [Bytes; 2])>,
-    pub large: Vec<(&'static str, Bytes)>,
+    pub large: Vec<stories::Named>,
 }
 
 impl Supply {

@@ -501,17 +501,14 @@ pub fn long() -> Vec<Pair> {
     let shared: usize = 36
         + first.entries[..12].iter().map(|e| 29 + e.name.len()).sum::<usize>()
         + 12 * (first.descriptors[0].size() + 256 * 300);
-    for (over, made) in [
-        (-1_000, "normal form well below the limit"),
-        (-1, "normal form of 1,048,575"),
-        (0, "normal form of 1,048,576"),
-        (1, "normal form of 1,048,577"),
-        (2, "normal form over the limit"),
-        (3, "normal form over the limit"),
-        (284, "normal form over the limit"),
-        (900, "normal form over the limit"),
-        (40_000, "normal form over the limit"),
-    ] {
+    for over in [-1_000, -1, 0, 1, 2, 3, 284, 900, 40_000] {
+        let made = match over {
+            ..-1 => "normal form well below the limit",
+            -1 => "normal form of 1,048,575",
+            0 => "normal form of 1,048,576",
+            1 => "normal form of 1,048,577",
+            2.. => "normal form over the limit",
+        };
         let length = (70_000 + shared as isize + over) as usize;
         let second = of_normal_length(length, 'b');
         pairs.push((made, [first.clone(), second.clone()]));

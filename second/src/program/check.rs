@@ -328,16 +328,12 @@ impl<'a> Reader<'_, 'a> {
 
     /// A parameter's flags, of which those that break the rule of its kind are refused, and its
     /// outermost prefix.
-    fn parameter(
-        &mut self,
-        named: &mut Named,
-        breaks_rule: fn(u8) -> bool,
-    ) -> Result<(u8, u8), Refusal> {
+    fn parameter(&mut self, named: &mut Named, bad: fn(u8) -> bool) -> Result<(u8, u8), Refusal> {
         let place = self.at;
         let flags = self.byte()?;
         let reserved = flags & reserved_in_parameter(self.lib.minor) != 0;
         refuse_if(reserved, refusal::RESERVED, place)?;
-        refuse_if(breaks_rule(flags), refusal::RULE, place)?;
+        refuse_if(bad(flags), refusal::RULE, place)?;
         Ok((flags, self.type_(named)?))
     }
 
