@@ -1,23 +1,18 @@
 //! The second program on document 01's marked cases and the readings, by the tables beside this
-//! file; and that a planted difference is found, made smaller and kept.
+//! file; and that a planted difference is found and made smaller.
 
-use second::library::cases::{read, replay, shown, Asked, Case};
-use second::library::{checks, links, questions, questions::Found, Program, Session, OWN};
-use second::line::{compare::tells, listing, process, Folder};
+use second::library::cases::{bytes, shown, Case};
+use second::library::{checks, links, questions, questions::Question, Program, Session, OWN};
+use second::line::{answers::asked, compare::tells, listing};
 use second::making::{builder::*, generate::marked, generate::rich};
-use second::program::{check::check, listing::program, questions::Lookup, questions::Slot};
-use second::tally::{Came, Tally};
-use second::{floors, program::Answer};
-use std::fs;
+use second::program::{check::check, listing::program, questions::Lookup, Answer};
+use second::tally::{floors, Came, Tally};
+use std::panic::{catch_unwind, AssertUnwindSafe};
+use std::path::Path;
 
 /// A table's lines, without empty ones and comments.
 fn lines(table: &str) -> impl Iterator<Item = &str> {
     table.lines().filter(|line| !line.is_empty() && !line.starts_with('#'))
-}
-
-fn bytes(hex: &str) -> Vec<u8> {
-    let pairs = (0..hex.len()).step_by(2);
-    pairs.map(|at| u8::from_str_radix(&hex[at..at + 2], 16).unwrap()).collect()
 }
 
 #[test]
@@ -29,7 +24,8 @@ fn marked_files() {
         "01010001000000520000002400000040 80000000 00000000000000000000000000000001
          000000010000000000000003 4100 0000 0000 0001 00000011 01 fffe 80 4b00",
     ]
-    .map(|hex| [&MAGIC[..], &bytes(&hex.split_whitespace().collect::<String>())].concat());
+    .map(|hex| bytes(&hex.split_whitespace().collect::<String>()).unwrap())
+    .map(|rest| [&MAGIC[..], &rest].concat());
     assert_eq!(marked(), [p1.clone(), p2.clone(), p3.clone()]);
     for (file, n) in [(&p1, 0), (&p2, 1), (&p3, 1)] {
         assert_eq!(check(file), Ok(n));
@@ -43,7 +39,7 @@ fn marked_files() {
     let mut other = p3.clone();
     other[78] = 0xfd;
     assert_eq!(written(&[&p3, &other]), Err("refused 23 1".to_string()));
-    assert_eq!(answer(&p3, "constant 1 4b"), "Found(Constant(I16(-2)))");
+    assert_eq!(answer(&p3, "constant 1 4b"), "found i16 -2");
 }
 
 #[test]
@@ -70,7 +66,7 @@ fn readings_of_the_check() {
         let mut file = files.iter().find(|(file, _)| *file == name).unwrap().1.clone();
         for word in words {
             if let Some((at, new)) = word.split_once('=') {
-                let (at, new): (usize, _) = (at.parse().unwrap(), bytes(new));
+                let (at, new): (usize, _) = (at.parse().unwrap(), bytes(new).unwrap());
                 file[at..at + new.len()].copy_from_slice(&new);
             } else {
                 let length: usize = word[1..].parse().unwrap();
@@ -113,17 +109,10 @@ fn tree() -> Vec<u8> {
     lib.bytes()
 }
 
+/// The answer to a question as `xpt` gives it.
 fn answer(file: &[u8], line: &str) -> String {
-    let Some(Asked::Question(question)) = Asked::parse(line) else { panic!("{line}") };
-    assert_eq!(Asked::parse(&Asked::Question(question.clone()).line()).unwrap().line(), line);
-    match OWN.ask(file, &question) {
-        Lookup::Found(Found::Method(found)) => match found.slot {
-            Slot::Known(slot) => format!("found {} {} {slot}", found.owner, found.position),
-            Slot::Undetermined(i) => format!("found {} {} ? {i}", found.owner, found.position),
-        },
-        Lookup::Refused(Refusal { number: 20, place: 0 }) => "refused".to_string(),
-        reply => format!("{reply:?}"),
-    }
+    let outcome = asked(file, &Question::parse(line).expect(line));
+    String::from_utf8(outcome.text.unwrap()).unwrap()
 }
 
 #[test]
@@ -132,8 +121,7 @@ fn readings_of_the_questions() {
         let (question, expected) = line.split_once(": ").unwrap();
         assert_eq!(answer(&tree(), question), expected, "{line}");
         // The file's refusal comes first.
-        let refused = answer(&tree()[..81], question);
-        assert!(refused.starts_with("Refused(Refusal { number: 6, place: 20 }"), "{refused}");
+        assert_eq!(answer(&tree()[..81], question), "refused 6 20");
     }
 }
 
@@ -227,21 +215,12 @@ fn listings() {
     }
 }
 
-/// Runs a part with a program that is wrong on purpose: the one case that is kept, made smaller.
+/// Runs a part with a program that is wrong on purpose: the case in which it ends, made smaller.
 fn planted(part: &'static str, run: fn(&mut Session), wrong: Program) -> Case {
-    let folder = Folder::usual().unwrap();
-    let mut session = Session::new(part, 2, wrong, &folder.0);
-    run(&mut session);
-    assert!(session.differs);
-    let path = fs::read_dir(&folder.0).unwrap().next().unwrap().unwrap().path();
-    let (case, expected) = read(&path).unwrap();
+    let mut session = Session { seed: 2, other: wrong, tally: Tally::new(part) };
+    let ended = catch_unwind(AssertUnwindSafe(|| run(&mut session))).unwrap_err();
+    let case = *ended.downcast::<Case>().unwrap();
     assert!(case.differs(&wrong) && !case.differs(&OWN));
-    assert!(!replay(&folder.0, &wrong));
-    // Undecided, until someone puts in what document 01 asks for.
-    assert!(!replay(&folder.0, &OWN));
-    let text = fs::read_to_string(path.join("case.txt")).unwrap();
-    fs::write(path.join("case.txt"), text.replace(&expected, &case.answer(&OWN))).unwrap();
-    assert!(replay(&folder.0, &OWN) && !replay(&folder.0, &wrong));
     case
 }
 
@@ -274,9 +253,8 @@ fn planted_differences() {
         ..OWN
     };
     planted("links", links::run, wrong);
-    // `cat` prints its input in place of the listing.
-    let cat = process::Program::named("cat");
-    assert!(!listing::run(&cat, 2, 10, 1).unwrap());
+    // `env` prints no listing.
+    assert!(!listing::run(Path::new("/usr/bin/env"), 2, 10).unwrap());
 }
 
 #[test]
@@ -293,5 +271,5 @@ fn what_is_told_and_counted() {
     let short = |numbers| tally.short(&[(("refusal 9", ""), numbers)]).len();
     assert_eq!([[3, 3, 1, 1], [4, 3, 1, 1], [3, 4, 1, 1], [3, 3, 2, 1]].map(short), [0, 1, 1, 1]);
     let parts = ["compare", "checks", "questions", "links", "listings", "batches", "alone"];
-    assert_eq!(parts.map(|part| floors::of(part).len()).iter().sum::<usize>(), 834);
+    assert_eq!(parts.map(|part| floors(part).len()).iter().sum::<usize>(), 834);
 }

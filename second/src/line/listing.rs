@@ -1,15 +1,12 @@
 //! The listing program beside this one: what it prints for many inputs, each through a pipe.
 
-use super::{compare::Difference, process::Program, report};
+use super::{process, stories::about, stories::Named};
 use crate::in_parallel;
 use crate::library::shrink::shrink;
 use crate::making::{builder::*, damage, generate, hostile, rng::Rng};
 use crate::program::{check::check, listing::program as list, listing::MAX_INPUT};
 use crate::tally::{Tally, NUMBER};
-use std::{io, path::Path, time::Duration};
-
-/// How an input was made, and the input.
-type Input = (&'static str, Vec<u8>);
+use std::{fs, io, path::Path, time::Duration};
 
 const LARGE: &str = "a large listing";
 
@@ -20,8 +17,8 @@ fn listed(input: &[u8]) -> Vec<u8> {
 }
 
 /// What the program prints otherwise than this one, if it does.
-fn differs(program: &Program, input: &[u8]) -> io::Result<Option<String>> {
-    let ran = program.run(Path::new("/"), &[], input)?;
+fn differs(program: &Path, input: &[u8]) -> io::Result<Option<String>> {
+    let ran = process::run(program, Path::new("/"), &[], input)?;
     let own = listed(input);
     let common = ran.stdout.iter().zip(&own).take_while(|(a, b)| a == b).count();
     let told = ran.stdout != own || ran.broken.is_some();
@@ -86,36 +83,25 @@ fn marked() -> Vec<Vec<u8>> {
 }
 
 /// Inputs about the greatest length, and one whose listing takes 540 KB for each of its entries.
-fn edges(rng: &mut Rng, entries: usize) -> Vec<Input> {
-    let (family, empty) = (generate::family(rng), Typelib::default());
-    let filled = |lib: &Typelib, length: usize| lib.filled_to(length).bytes();
-    let at_most = filled(&family, MAX_INPUT);
-    let mut short = at_most.clone();
-    short[23] ^= 1;
-    let mut all = vec![
-        ("empty", Vec::new()),
-        ("65,536 bytes, accepted", at_most.clone()),
-        ("65,536 bytes, accepted", filled(&empty, MAX_INPUT)),
-        ("65,536 bytes, refused", vec![0; MAX_INPUT]),
-        ("65,536 bytes, refused", at_most[..MAX_INPUT - 1].to_vec()),
-        ("65,536 bytes, refused", short),
-        ("65,537 bytes", filled(&family, MAX_INPUT + 1)),
-        ("65,537 bytes", filled(&empty, MAX_INPUT + 1)),
-        ("65,537 bytes", vec![0; MAX_INPUT + 1]),
-        ("65,537 bytes", [&at_most[..], &[0]].concat()),
-    ];
+fn edges(rng: &mut Rng) -> Vec<Named> {
+    let family = generate::family(rng);
+    let at_most = family.filled_to(MAX_INPUT).bytes();
+    let names = ["65,536 bytes, accepted", "65,536 bytes, refused", "65,537 bytes"];
+    let mut all = about(MAX_INPUT, names, &family);
+    all.push(("65,536 bytes, refused", at_most[..MAX_INPUT - 1].to_vec()));
+    all.push(("empty", Vec::new()));
     for length in [MAX_INPUT + 2, 131_072, MAX_FILE, MAX_FILE + 1, 3_000_000] {
         all.push(("longer", [&at_most[..], &vec![0; length - MAX_INPUT]].concat()));
     }
-    all.push((LARGE, hostile::long_listing(entries)));
+    all.push((LARGE, hostile::long_listing(64)));
     all
 }
 
-/// About `count` inputs and some more. The large listing has up to 1,024 entries.
-fn inputs(seed: u64, count: usize, entries: usize) -> Vec<Input> {
+/// About `count` inputs and some more.
+fn inputs(seed: u64, count: usize) -> Vec<Named> {
     let rng = &mut Rng::new(seed);
-    let mut all: Vec<Input> = marked().into_iter().map(|input| ("marked", input)).collect();
-    all.extend(edges(rng, entries));
+    let mut all: Vec<Named> = marked().into_iter().map(|input| ("marked", input)).collect();
+    all.extend(edges(rng));
     // Families and other good files; then a sample of those for the check, most of them refused.
     for round in 0..count / 2 {
         let lib = match round % 8 {
@@ -141,28 +127,22 @@ fn inputs(seed: u64, count: usize, entries: usize) -> Vec<Input> {
     all
 }
 
-/// Compares what is printed for all inputs. Whether all is well.
-pub fn run(program: &Program, seed: u64, count: usize, entries: usize) -> io::Result<bool> {
-    let inputs = inputs(seed, count, entries);
+/// Compares what is printed for all inputs, at least 1,000 for the floors. Whether all is well.
+pub fn run(program: &Path, seed: u64, count: usize) -> io::Result<bool> {
+    let inputs = inputs(seed, count);
     let compared =
-        in_parallel(inputs.iter().collect(), |(_, input): &Input| differs(program, input));
+        in_parallel(inputs.iter().collect(), |(_, input): &Named| differs(program, input));
     let mut tally = Tally::new("listings");
     for ((made, input), differs) in inputs.iter().zip(compared) {
         if let Some(how) = differs? {
-            return difference(program, made, input, how).map(|()| false);
+            let still =
+                |files: &Vec<Vec<u8>>| matches!(self::differs(program, &files[0]), Ok(Some(_)));
+            let small = shrink(&vec![input.clone()], Duration::from_secs(20), &still);
+            let path = std::env::temp_dir().join("second-listing-difference");
+            println!("DIFFERENCE: {made}: {how}; made smaller: {}", path.display());
+            return fs::write(path, &small[0]).map(|()| false);
         }
         self::count(&mut tally, made, input);
     }
-    let enough = tally.is_enough();
-    if enough {
-        tally.print();
-    }
-    Ok(enough)
-}
-
-/// Tells of a difference and keeps its input, made smaller.
-fn difference(program: &Program, made: &str, input: &[u8], how: String) -> io::Result<()> {
-    let still = |files: &Vec<Vec<u8>>| differs(program, &files[0]).is_ok_and(|how| how.is_some());
-    let small = shrink(&vec![input.to_vec()], Duration::from_secs(20), &still).remove(0);
-    report(&Difference { text: format!("{made}: {how}"), files: vec![("input".into(), small)] })
+    Ok(tally.is_enough())
 }

@@ -104,19 +104,14 @@ const ROOT: usize = (POINTER | INTERFACE) as usize;
 /// Long: only the last methods have arguments, very many, so that nearly every descriptor has
 /// nearly the whole file. Otherwise: the methods have none, but are getters of long names.
 fn overlapping(long: bool) -> Vec<u8> {
-    let result =
-        |index: usize| Parameter::new(0, Type::with(POINTER | INTERFACE, index_tail(index.max(1))));
-    let long_methods = if long { 141 } else { 0 };
     let mut methods = Vec::new();
     for following in (0..MAX_METHODS).rev() {
-        methods.push(match (long, following < long_methods) {
-            (true, true) => deep_method(NOT_XPCOM, b"m", result(following)),
-            (true, false) => Method::new(NOT_XPCOM, b"m", Vec::new(), result(following)),
-            (false, _) => {
-                let kind = if following % 2 == 0 { GETTER } else { SETTER };
-                let flags = NOT_XPCOM | kind;
-                Method::new(flags, &long_name(following), Vec::new(), result(following))
-            }
+        let of = Type::with(POINTER | INTERFACE, index_tail(following.max(1)));
+        let (result, kind) = (Parameter::new(0, of), [GETTER, SETTER][following % 2]);
+        methods.push(match (long, following) {
+            (true, 0..141) => deep_method(NOT_XPCOM, b"m", result),
+            (true, _) => Method::new(NOT_XPCOM, b"m", Vec::new(), result),
+            _ => Method::new(NOT_XPCOM | kind, &long_name(following), Vec::new(), result),
         });
     }
     let mut lib = sharing(MAX_INTERFACES, Descriptor { methods, ..Descriptor::below(ROOT) });

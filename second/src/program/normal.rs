@@ -65,7 +65,11 @@ pub(crate) fn write<'a>(
     };
     let (head, pool_bytes) = out.split_at_mut(pool);
     let (header, directory) = head.split_at_mut(DIRECTORY);
-    write_header(header, n, length, pool);
+    let words = [length, if n == 0 { 0 } else { DIRECTORY }, pool].map(|word| word as u32);
+    header[..18].copy_from_slice(&[&MAGIC[..], &[1, 1]].concat());
+    header[18..20].copy_from_slice(&(n as u16).to_be_bytes());
+    header[20..32].copy_from_slice(words.map(u32::to_be_bytes).as_flattened());
+    header[32..].copy_from_slice(&[0x80, 0, 0, 0]);
     let mut writer = Writer { bytes: pool_bytes, at: 0 };
     let mut sizes = sizes.into_iter();
     for (item, entry) in items.zip(directory.chunks_exact_mut(ENTRY)) {
@@ -81,17 +85,6 @@ pub(crate) fn write<'a>(
         }
     }
     Ok(length)
-}
-
-fn write_header(header: &mut [u8], n: usize, length: usize, pool: usize) {
-    let directory = if n == 0 { 0 } else { DIRECTORY as u32 };
-    header[..16].copy_from_slice(&MAGIC);
-    header[16..18].copy_from_slice(&[1, 1]);
-    header[18..20].copy_from_slice(&(n as u16).to_be_bytes());
-    header[20..24].copy_from_slice(&(length as u32).to_be_bytes());
-    header[24..28].copy_from_slice(&directory.to_be_bytes());
-    header[28..32].copy_from_slice(&(pool as u32).to_be_bytes());
-    header[32..].copy_from_slice(&[0x80, 0, 0, 0]);
 }
 
 /// The length of the whole, and the bytes of each entry's descriptor without its names (0 where
