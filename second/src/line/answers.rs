@@ -1,5 +1,6 @@
 //! What each command of `xpt` must answer, by this program's functions, and a question's words.
 
+use super::iids;
 use crate::library::{cases::kind_word, cases::shown, questions::Found, questions::Question, OWN};
 use crate::making::rng::Rng;
 use crate::program::questions::{Constant, Lookup, Method, Slot};
@@ -149,7 +150,7 @@ fn decimal(number: u64, rng: &mut Rng) -> Vec<u8> {
 /// The command that asks, and the words after the file's.
 pub fn question_words(question: &Question, rng: &mut Rng) -> (&'static str, Words) {
     match question {
-        Question::Iid(iid) => ("iid", vec![hex(iid, rng)]),
+        Question::Iid(iid) => ("iid", vec![iids::spelled(hex(iid, rng), rng)]),
         Question::Key(space, name) => {
             let space = if space.is_empty() { b"-" } else { &space[..] };
             ("key", vec![space.to_vec(), name.clone()])

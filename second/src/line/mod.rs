@@ -3,6 +3,7 @@
 
 pub mod answers;
 pub mod compare;
+mod iids;
 pub mod listing;
 mod malformed;
 pub mod process;

@@ -1,6 +1,7 @@
 //! Commands on the files of a folder, each with what it must answer and write.
 
 use super::answers::{self, Bytes, Outcome, Words};
+use super::iids;
 use crate::library::questions::Question;
 use crate::making::rng::Rng;
 use crate::program::format::{refusal, Refusal};
@@ -228,6 +229,16 @@ impl Script {
         if words.iter().flatten().any(|byte| cannot.contains(byte)) || self.alone && is_long {
             return;
         }
+        let question = match question {
+            Question::Iid(_) => match iids::read(&words[0]) {
+                Some(iid) => Question::Iid(iid),
+                None => {
+                    let words = [command.into(), file.word.clone().into_bytes(), words.concat()];
+                    return self.error(words.into(), "IID with a sign amiss");
+                }
+            },
+            question => question,
+        };
         let alone = self.alone;
         let is_empty = words.iter().any(Vec::is_empty);
         let step = self.ask_so(file, command, words, &question);
@@ -296,6 +307,8 @@ fn spelling(step: &Step) -> Option<Count> {
     let is_found = text.starts_with(b"found ");
     let what = match &command[..] {
         _ if text.starts_with(b"refused ") => return None,
+        b"iid" if is_found && word[0] == b'{' => "IID in braces",
+        b"iid" if is_found && word.contains(&b'-') => "IID with hyphens",
         b"iid" if is_found && word.iter().any(u8::is_ascii_uppercase) => "IID in upper case",
         b"iid" if is_found && word.iter().any(u8::is_ascii_lowercase) => "IID in lower case",
         b"key" if is_found && word == b"-" => "default namespace",
