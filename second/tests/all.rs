@@ -5,7 +5,7 @@ use second::library::cases::{bytes, shown, Case};
 use second::library::{checks, links, questions, questions::Question, Program, Session, OWN};
 use second::line::{answers::asked, compare::tells, listing};
 use second::making::{builder::*, generate::marked, generate::rich};
-use second::program::{check::check, listing::program, questions::Lookup, Answer};
+use second::program::{check::check, questions::Lookup, Answer};
 use second::tally::{floors, Came, Tally};
 use std::panic::{catch_unwind, AssertUnwindSafe};
 use std::path::Path;
@@ -47,7 +47,6 @@ fn readings_of_the_check() {
     let [p1, p2, p3] = marked();
     let number = Parameter::new(0, Type::with(POINTER | INTERFACE_IS, [9, 0, 0]));
     let bad = Method::new(0, b"m", vec![number], Parameter::simple(0, 0));
-    let of = |methods: Vec<Method>| Typelib::single(Descriptor::of(methods)).bytes();
     let two = Typelib::plain(2).bytes();
     let constructors = ["a", "b"].map(|name| Method::plain(CONSTRUCTOR, name.as_bytes()));
     let files = [
@@ -56,8 +55,8 @@ fn readings_of_the_check() {
         ("p3", p3),
         ("two", two),
         ("wide", Typelib { pool_gap: 8, ..Typelib::default() }.bytes()),
-        ("call", of(vec![bad, Method::plain(0, b"n")])),
-        ("pair", of(constructors.to_vec())),
+        ("call", Typelib::of(vec![bad, Method::plain(0, b"n")]).bytes()),
+        ("pair", Typelib::of(constructors.to_vec()).bytes()),
     ];
     for line in lines(include_str!("readings.txt")) {
         let (words, expected) = line.split_once(": ").unwrap();
@@ -179,8 +178,7 @@ fn normal_forms() {
     assert_eq!(written(&[&of(&mut keys.iter().rev())]), Ok(of(&mut keys.iter())));
     // Names stand after the whole descriptor, repeated; buffers keep their other bytes.
     let methods = vec![Method::plain(GETTER, b"A"), Method::plain(SETTER, b"A")];
-    let lib = Typelib::single(Descriptor::of(methods));
-    let shared = Typelib { sharing: Sharing::Overlap, ..lib }.bytes();
+    let shared = Typelib { sharing: Sharing::Overlap, ..Typelib::of(methods) }.bytes();
     let form = written(&[&shared]).unwrap();
     assert!(form.ends_with(b"A\0A\0"));
     let mut out = vec![7; form.len() + 3];
@@ -192,11 +190,7 @@ fn normal_forms() {
 
 #[test]
 fn listings() {
-    let printed = |input: &[u8]| {
-        let mut out = Vec::new();
-        program(input, &mut out).unwrap();
-        String::from_utf8(out).unwrap()
-    };
+    let printed = |input: &[u8]| String::from_utf8(listing::listed(input)).unwrap();
     let [p1, p2, p3] = marked();
     let zero = "0".repeat(31);
     assert_eq!(printed(&p1), "accepted 0\n");

@@ -3,15 +3,14 @@
 
 use super::buffers::{lent, GUARD};
 use super::questions::{Found, Question, Reply};
-use super::{shrink::shrink, Program, OWN};
+use super::{Program, OWN};
 use crate::program::{link::LinkRefusal, questions::Kind, Answer, Refusal};
 use crate::tally::hash;
-use std::time::Duration;
+use std::time::{Duration, Instant};
 
 /// How long a difference may be made smaller.
 const PATIENCE: Duration = Duration::from_secs(20);
 
-/// Everything that is asked of one or more files.
 #[derive(Clone, Debug, PartialEq, Eq)]
 pub enum Asked {
     Check,
@@ -98,12 +97,8 @@ impl Program {
     }
 }
 
-pub fn kind_word(kind: Kind) -> &'static str {
-    match kind {
-        Kind::Getter => "getter",
-        Kind::Setter => "setter",
-        Kind::Plain => "plain",
-    }
+pub fn kind_word(kind: Kind) -> String {
+    format!("{kind:?}").to_lowercase()
 }
 
 impl Question {
@@ -137,8 +132,63 @@ pub fn found(made: &str, case: Case, other: &Program) -> Case {
     if !case.differs(other) {
         return case;
     }
-    let of = |files: &Vec<Vec<u8>>| Case { asked: case.asked.clone(), files: files.clone() };
+    let of = |files: &Files| Case { asked: case.asked.clone(), files: files.clone() };
     let small = of(&shrink(&case.files, PATIENCE, &|files| of(files).differs(other)));
     println!("made smaller:\n{}", small.told(other));
     small
+}
+
+type Files = Vec<Vec<u8>>;
+
+/// A file without a range, or with zeros in it.
+type Edit = fn(&[u8], usize, usize) -> Vec<u8>;
+
+const EDITS: [Edit; 3] = [
+    |file, from, to| {
+        let mut left = [&file[..from], &file[to..]].concat();
+        let length = (left.len() as u32).to_be_bytes();
+        if let Some(field) = left.get_mut(20..24) {
+            field.copy_from_slice(&length);
+        }
+        left
+    },
+    |file, from, to| [&file[..from], &file[to..]].concat(),
+    |file, from, to| [&file[..from], &vec![0; to - from], &file[to..]].concat(),
+];
+
+/// The smallest files that were found in the time given: takes bytes out, or makes them zero, while
+/// the programs still differ.
+pub fn shrink(files: &Files, patience: Duration, differs: &dyn Fn(&Files) -> bool) -> Files {
+    let deadline = Instant::now() + patience;
+    let mut best = files.clone();
+    loop {
+        let before = size(&best);
+        for (i, edit) in (0..files.len()).flat_map(|i| EDITS.map(|edit| (i, edit))) {
+            let mut part = best[i].len().div_ceil(2);
+            while part > 0 {
+                // From the end, where bytes are needed least.
+                for from in (0..best[i].len()).step_by(part).rev() {
+                    let to = (from + part).min(best[i].len());
+                    let mut tried = best.clone();
+                    tried[i] = edit(&best[i], from, to);
+                    if size(&tried) < size(&best) && differs(&tried) {
+                        best = tried;
+                    }
+                    if Instant::now() > deadline {
+                        return best;
+                    }
+                }
+                part /= 2;
+            }
+        }
+        if size(&best) == before {
+            return best;
+        }
+    }
+}
+
+/// What must fall: the bytes, then those that are not zero.
+fn size(files: &Files) -> (usize, usize) {
+    let bytes = files.iter().map(Vec::len).sum();
+    (bytes, files.iter().flatten().filter(|byte| **byte != 0).count())
 }

@@ -5,7 +5,6 @@ pub mod cases;
 pub mod checks;
 pub mod links;
 pub mod questions;
-pub mod shrink;
 
 use crate::in_parallel;
 use crate::program::questions::{of as asked, Constant, Kind, Lookup, Method};

@@ -4,7 +4,7 @@
 use super::process::{self, Ran};
 use super::script::{Files, Script, Step, Told, SUBFOLDER};
 use crate::program::format::refusal::is_of_file;
-use crate::tally::Tally;
+use crate::tally::{Came, Tally};
 use std::{fs, io, path::Path};
 
 /// So much of a text is told.
@@ -22,18 +22,6 @@ fn difference(what: &str, step: Option<&Step>, shown: &[(&str, Option<&[u8]>)]) 
 }
 
 // The folder.
-
-/// Makes the folder as it is at the start.
-fn lay_out(script: &Script) -> io::Result<()> {
-    fs::create_dir_all(script.folder.join(SUBFOLDER))?;
-    for (path, bytes) in &script.files {
-        fs::write(script.folder.join(path), bytes)?;
-    }
-    for (path, target) in &script.links {
-        std::os::unix::fs::symlink(target, script.folder.join(path))?;
-    }
-    Ok(())
-}
 
 /// Every file of the folder by its path, without symbolic links.
 fn found(folder: &Path, under: &str) -> io::Result<Files> {
@@ -151,7 +139,13 @@ fn input(steps: &[&Step], tally: &mut Tally) -> Vec<u8> {
 /// Runs the script's commands: in one batch, or each alone but for those with words that a process
 /// cannot be given.
 pub fn run(program: &Path, script: &Script, tally: &mut Tally) -> io::Result<()> {
-    lay_out(script)?;
+    fs::create_dir_all(script.folder.join(SUBFOLDER))?;
+    for (path, bytes) in &script.files {
+        fs::write(script.folder.join(path), bytes)?;
+    }
+    for (path, target) in &script.links {
+        std::os::unix::fs::symlink(target, script.folder.join(path))?;
+    }
     let mut files = script.files.clone();
     let mut steps = script.merged();
     steps.retain(|step| !script.alone || !step.words.iter().flatten().any(|byte| *byte == 0));
@@ -175,11 +169,8 @@ pub fn run(program: &Path, script: &Script, tally: &mut Tally) -> io::Result<()>
 }
 
 fn count(script: &Script, step: &Step, tally: &mut Tally) {
-    for (about, what, place) in &step.counts {
-        match place {
-            Some(place) => tally.add_at(about, what, *place),
-            None => tally.add(about, what),
-        }
+    for &(about, what, place) in &step.counts {
+        tally.came(about, what, Came { place, ..Came::default() });
     }
     tally.add("all", if script.alone { "commands alone" } else { "commands in batches" });
     if script.alone && step.words.iter().any(|word| word.contains(&b' ')) {

@@ -2,7 +2,7 @@
 
 use super::{process, stories::about, stories::Named};
 use crate::in_parallel;
-use crate::library::shrink::shrink;
+use crate::library::cases::shrink;
 use crate::making::{builder::*, damage, generate, hostile, rng::Rng};
 use crate::program::{check::check, listing::program as list, listing::MAX_INPUT};
 use crate::tally::{Tally, NUMBER};
@@ -10,7 +10,7 @@ use std::{fs, io, path::Path, time::Duration};
 
 const LARGE: &str = "a large listing";
 
-fn listed(input: &[u8]) -> Vec<u8> {
+pub fn listed(input: &[u8]) -> Vec<u8> {
     let mut out = Vec::new();
     list(input, &mut out).expect("writing to memory");
     out
