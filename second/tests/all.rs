@@ -10,9 +10,10 @@ use second::tally::{floors, Came, Tally};
 use std::panic::{catch_unwind, AssertUnwindSafe};
 use std::path::Path;
 
-/// A table's lines, without empty ones and comments.
-fn lines(table: &str) -> impl Iterator<Item = &str> {
-    table.lines().filter(|line| !line.is_empty() && !line.starts_with('#'))
+/// A table's rows, without empty lines and comments.
+fn rows<'t>(table: &'t str, between: &'t str) -> impl Iterator<Item = (&'t str, &'t str)> {
+    let lines = table.lines().filter(|line| !line.is_empty() && !line.starts_with('#'));
+    lines.map(move |line| line.split_once(between).expect(line))
 }
 
 #[test]
@@ -58,9 +59,8 @@ fn readings_of_the_check() {
         ("call", Typelib::of(vec![bad, Method::plain(0, b"n")]).bytes()),
         ("pair", Typelib::of(constructors.to_vec()).bytes()),
     ];
-    for line in lines(include_str!("readings.txt")) {
-        let (words, expected) = line.split_once(": ").unwrap();
-        let mut words = words.split(' ');
+    for (reading, expected) in rows(include_str!("readings.txt"), ": ") {
+        let mut words = reading.split(' ');
         let name = words.next().unwrap();
         let mut file = files.iter().find(|(file, _)| *file == name).unwrap().1.clone();
         for word in words {
@@ -75,7 +75,7 @@ fn readings_of_the_check() {
                 }
             }
         }
-        assert_eq!(shown(check(&file)), expected, "{line}");
+        assert_eq!(shown(check(&file)), expected, "{reading}");
     }
 }
 
@@ -116,9 +116,8 @@ fn answer(file: &[u8], line: &str) -> String {
 
 #[test]
 fn readings_of_the_questions() {
-    for line in lines(include_str!("answers.txt")) {
-        let (question, expected) = line.split_once(": ").unwrap();
-        assert_eq!(answer(&tree(), question), expected, "{line}");
+    for (question, expected) in rows(include_str!("answers.txt"), ": ") {
+        assert_eq!(answer(&tree(), question), expected, "{question}");
         // The file's refusal comes first.
         assert_eq!(answer(&tree()[..81], question), "refused 6 20");
     }
@@ -146,14 +145,13 @@ fn file(entries: &str) -> Vec<u8> {
 
 #[test]
 fn readings_of_links() {
-    for line in lines(include_str!("links.txt")) {
-        let (files, expected) = line.split_once(" = ").unwrap();
+    for (files, expected) in rows(include_str!("links.txt"), " = ") {
         let (first, second) = files.split_once(" + ").unwrap();
         let expected = match expected.contains(':') {
             true => written(&[&file(expected)]),
             false => Err(format!("refused {expected}")),
         };
-        assert_eq!(written(&[&file(first), &file(second)]), expected, "{line}");
+        assert_eq!(written(&[&file(first), &file(second)]), expected, "{files}");
     }
 }
 

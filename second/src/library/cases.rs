@@ -1,7 +1,7 @@
 //! Comparisons that can be made again: what is asked, the files it is asked of, and what a program
 //! answers. Where two differ the case is made smaller.
 
-use super::buffers::{lent, GUARD};
+use super::links::{lent, GUARD};
 use super::questions::{Found, Question, Reply};
 use super::{Program, OWN};
 use crate::program::{link::LinkRefusal, questions::Kind, Answer, Refusal};

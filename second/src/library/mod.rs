@@ -1,6 +1,5 @@
 //! Comparing through the library: its calls beside this program's, on all that is made.
 
-pub mod buffers;
 pub mod cases;
 pub mod checks;
 pub mod links;

@@ -21,8 +21,6 @@ fn difference(what: &str, step: Option<&Step>, shown: &[(&str, Option<&[u8]>)]) 
     io::Error::other(text)
 }
 
-// The folder.
-
 /// Every file of the folder by its path, without symbolic links.
 fn found(folder: &Path, under: &str) -> io::Result<Files> {
     let mut files = Files::new();
@@ -68,8 +66,6 @@ fn laws_hold(script: &Script, tally: &mut Tally) -> io::Result<()> {
     }
     Ok(())
 }
-
-// What is printed.
 
 /// Whether a line tells the refusal's number and names the file; of a file's own also the byte.
 pub fn tells(line: &[u8], (refusal, files): &Told) -> bool {
@@ -123,8 +119,6 @@ fn answers_stand(steps: &[&Step], ran: &Ran, alone: bool, tally: &mut Tally) -> 
     let shown = [("stderr", Some(&ran.stderr[..])), ("more", Some(printed))];
     Err(difference(what, steps.last().copied(), &shown))
 }
-
-// The run.
 
 /// The steps' lines. The last one has no newline where it can be seen without.
 fn input(steps: &[&Step], tally: &mut Tally) -> Vec<u8> {

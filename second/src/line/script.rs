@@ -77,8 +77,6 @@ impl Script {
         Script { folder, seed, rng, alone, stories, ..Script::default() }
     }
 
-    // Files.
-
     /// A file that is there at the start.
     pub fn place(&mut self, bytes: impl Into<Bytes>) -> Name {
         let name = self.name("f");
@@ -143,8 +141,6 @@ impl Script {
         let word = words.find(|word| *word != file.word).expect("there are other ways");
         Name { path, word }
     }
-
-    // Commands.
 
     /// What follows is a story of its own.
     pub fn story(&mut self) {
