@@ -34,11 +34,7 @@ pub fn ended(good: std::io::Result<bool>) -> ExitCode {
         Ok(false) => println!("too little was covered, or a difference was found"),
         Err(ref error) => eprintln!("{error}"),
     }
-    if matches!(good, Ok(true)) {
-        ExitCode::SUCCESS
-    } else {
-        ExitCode::FAILURE
-    }
+    ExitCode::from(u8::from(!matches!(good, Ok(true))))
 }
 
 /// Gives each item to `task` on one of as many threads as there are cores; results in order.

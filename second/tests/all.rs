@@ -5,7 +5,7 @@ use second::library::cases::{bytes, shown, Case};
 use second::library::{checks, links, questions, questions::Question, Program, Session, OWN};
 use second::line::{answers::asked, compare::tells, listing};
 use second::making::{builder::*, generate::marked, generate::rich};
-use second::program::{check::check, questions::Lookup, Answer};
+use second::program::{check::check, questions::Lookup};
 use second::tally::{floors, Came, Tally};
 use std::panic::{catch_unwind, AssertUnwindSafe};
 use std::path::Path;
@@ -218,13 +218,11 @@ fn planted(part: &'static str, run: fn(&mut Session), wrong: Program) -> Case {
 
 #[test]
 fn planted_differences() {
-    fn place(file: &[u8]) -> Answer {
-        check(file).map_err(|Refusal { number, place }| match number {
-            19 => Refusal { number, place: place + 1 },
-            _ => Refusal { number, place },
-        })
+    fn moved(why: Refusal) -> Refusal {
+        Refusal { place: why.place + usize::from(why.number == 19), ..why }
     }
-    let case = planted("checks", checks::run, Program { check: place, ..OWN });
+    let wrong = Program { check: |file| check(file).map_err(moved), ..OWN };
+    let case = planted("checks", checks::run, wrong);
     assert!(case.files[0].len() < 90, "{case:?}");
     let wrong = Program {
         slot: |file, index, slot| match (OWN.slot)(file, index, slot) {

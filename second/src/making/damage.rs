@@ -342,9 +342,7 @@ fn prefixes(sink: &mut Sink) {
     both(methods, types).for_each(|(method, of)| one_prefix(method, of, sink));
 }
 
-type OfPrefix = ((usize, u8), bool);
-
-fn one_prefix((minor, flags): (u8, u8), of: OfPrefix, sink: &mut Sink) {
+fn one_prefix((minor, flags): (u8, u8), of: ((usize, u8), bool), sink: &mut Sink) {
     let ((depth, prefix), in_result) = of;
     let tag = prefix & TAG;
     let of = Type::nested(depth, 2, prefix, fitting(tag, 1, 2));

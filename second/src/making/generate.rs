@@ -230,10 +230,10 @@ fn populate(
         let new = repeat_with(|| key(rng)).find(|key| keys.insert(key.clone()));
         let (namespace, name) = new.expect("there are keys enough");
         let descriptor = (i >= zeros && rng.percent(resolved)).then(|| {
-            match descriptors == 0 || rng.percent(own) {
-                true => descriptors += 1,
-                false => return rng.below(descriptors),
+            if descriptors > 0 && !rng.percent(own) {
+                return rng.below(descriptors);
             }
+            descriptors += 1;
             descriptors - 1
         });
         lib.entries.push(Entry { iid, name, namespace, descriptor });
