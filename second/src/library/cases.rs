@@ -49,12 +49,7 @@ impl Case {
 
     fn told(&self, other: &Program) -> String {
         let [own, other] = [&OWN, other].map(|program| self.answer(program));
-        let mut text = format!("{:?}\nthis program: {own}\nthe other: {other}", self.asked);
-        for file in &self.files {
-            let digits = file.iter().take(4_096).map(|byte| format!("{byte:02x}"));
-            text += &format!("\n{} bytes: {}", file.len(), digits.collect::<String>());
-        }
-        text
+        format!("{:?}\nthis program: {own}\nthe other: {other}", self.asked)
     }
 }
 
@@ -125,16 +120,20 @@ pub fn bytes(hex: &str) -> Option<Vec<u8>> {
     pairs.map(|pair| u8::from_str_radix(std::str::from_utf8(pair).ok()?, 16).ok()).collect()
 }
 
-/// Tells of a difference, and makes it smaller.
+/// Tells of a difference, makes it smaller, and keeps its files.
 pub fn found(made: &str, case: Case, other: &Program) -> Case {
     println!("DIFFERENCE ({made})\n{}", case.told(other));
-    // What is known from making a file says nothing of a smaller one.
-    if !case.differs(other) {
-        return case;
-    }
     let of = |files: &Files| Case { asked: case.asked.clone(), files: files.clone() };
-    let small = of(&shrink(&case.files, PATIENCE, &|files| of(files).differs(other)));
-    println!("made smaller:\n{}", small.told(other));
+    let mut small = case.clone();
+    // What is known from making a file says nothing of a smaller one.
+    if case.differs(other) {
+        small = of(&shrink(&case.files, PATIENCE, &|files| of(files).differs(other)));
+        println!("made smaller:\n{}", small.told(other));
+    }
+    for (i, file) in (1..).zip(&small.files) {
+        let path = std::env::temp_dir().join(format!("second-difference-{i}.xpt"));
+        println!("kept in {}: {:?}", path.display(), std::fs::write(&path, file));
+    }
     small
 }
 
