@@ -60,7 +60,7 @@ pub fn shown(answer: Answer) -> String {
     }
 }
 
-/// What a program answers that writes into a buffer of this length, and what is then in and around it.
+/// What a program answers that writes into a buffer of this length, and what is in and around it.
 fn written(program: &Program, files: &[&[u8]], room: usize) -> String {
     let before: Vec<u8> = (0..room + 2 * GUARD).map(|i| (i * 7 + 13) as u8).collect();
     let (answer, bytes) = lent(&before, room, |out| program.write(files, out));

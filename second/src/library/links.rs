@@ -245,7 +245,7 @@ impl Run<'_> {
 
     /// Both ways to group a triple end with the same bytes, or neither ends with any.
     ///
-    /// The files are in one of three orders, and the buffers mostly shorter ones, that take less time.
+    /// The files are in one of three orders; mostly the buffers are shorter and take less time.
     fn triple(&mut self, made: What, round: usize, orders: [[&File; 3]; 3]) {
         let room = if round.is_multiple_of(10) { MAX_FILE } else { 131_072 };
         let files = orders[round % 3];
