@@ -31,13 +31,10 @@ use std::{collections::BTreeMap, process::ExitCode, sync::Mutex};
 pub fn ended(good: std::io::Result<bool>) -> ExitCode {
     match good {
         Ok(true) => println!("no difference"),
-        Ok(false) => return ExitCode::FAILURE,
-        Err(error) => {
-            eprintln!("{error}");
-            return ExitCode::FAILURE;
-        }
+        Ok(false) => println!("too little was covered, or a difference was found"),
+        Err(ref error) => eprintln!("{error}"),
     }
-    ExitCode::SUCCESS
+    ExitCode::from(u8::from(!matches!(good, Ok(true))))
 }
 
 /// Gives each item to `task` on one of as many threads as there are cores; results in order.

@@ -5,14 +5,15 @@ use second::library::cases::{bytes, shown, Case};
 use second::library::{checks, links, questions, questions::Question, Program, Session, OWN};
 use second::line::{answers::asked, compare::tells, listing};
 use second::making::{builder::*, generate::marked, generate::rich};
-use second::program::{check::check, listing::program, questions::Lookup, Answer};
+use second::program::{check::check, questions::Lookup};
 use second::tally::{floors, Came, Tally};
 use std::panic::{catch_unwind, AssertUnwindSafe};
 use std::path::Path;
 
-/// A table's lines, without empty ones and comments.
-fn lines(table: &str) -> impl Iterator<Item = &str> {
-    table.lines().filter(|line| !line.is_empty() && !line.starts_with('#'))
+/// A table's rows, without empty lines and comments.
+fn rows<'t>(table: &'t str, between: &'t str) -> impl Iterator<Item = (&'t str, &'t str)> {
+    let lines = table.lines().filter(|line| !line.is_empty() && !line.starts_with('#'));
+    lines.map(move |line| line.split_once(between).expect(line))
 }
 
 #[test]
@@ -47,7 +48,6 @@ fn readings_of_the_check() {
     let [p1, p2, p3] = marked();
     let number = Parameter::new(0, Type::with(POINTER | INTERFACE_IS, [9, 0, 0]));
     let bad = Method::new(0, b"m", vec![number], Parameter::simple(0, 0));
-    let of = |methods: Vec<Method>| Typelib::single(Descriptor::of(methods)).bytes();
     let two = Typelib::plain(2).bytes();
     let constructors = ["a", "b"].map(|name| Method::plain(CONSTRUCTOR, name.as_bytes()));
     let files = [
@@ -56,12 +56,11 @@ fn readings_of_the_check() {
         ("p3", p3),
         ("two", two),
         ("wide", Typelib { pool_gap: 8, ..Typelib::default() }.bytes()),
-        ("call", of(vec![bad, Method::plain(0, b"n")])),
-        ("pair", of(constructors.to_vec())),
+        ("call", Typelib::of(vec![bad, Method::plain(0, b"n")]).bytes()),
+        ("pair", Typelib::of(constructors.to_vec()).bytes()),
     ];
-    for line in lines(include_str!("readings.txt")) {
-        let (words, expected) = line.split_once(": ").unwrap();
-        let mut words = words.split(' ');
+    for (reading, expected) in rows(include_str!("readings.txt"), ": ") {
+        let mut words = reading.split(' ');
         let name = words.next().unwrap();
         let mut file = files.iter().find(|(file, _)| *file == name).unwrap().1.clone();
         for word in words {
@@ -76,7 +75,7 @@ fn readings_of_the_check() {
                 }
             }
         }
-        assert_eq!(shown(check(&file)), expected, "{line}");
+        assert_eq!(shown(check(&file)), expected, "{reading}");
     }
 }
 
@@ -117,9 +116,8 @@ fn answer(file: &[u8], line: &str) -> String {
 
 #[test]
 fn readings_of_the_questions() {
-    for line in lines(include_str!("answers.txt")) {
-        let (question, expected) = line.split_once(": ").unwrap();
-        assert_eq!(answer(&tree(), question), expected, "{line}");
+    for (question, expected) in rows(include_str!("answers.txt"), ": ") {
+        assert_eq!(answer(&tree(), question), expected, "{question}");
         // The file's refusal comes first.
         assert_eq!(answer(&tree()[..81], question), "refused 6 20");
     }
@@ -147,14 +145,13 @@ fn file(entries: &str) -> Vec<u8> {
 
 #[test]
 fn readings_of_links() {
-    for line in lines(include_str!("links.txt")) {
-        let (files, expected) = line.split_once(" = ").unwrap();
+    for (files, expected) in rows(include_str!("links.txt"), " = ") {
         let (first, second) = files.split_once(" + ").unwrap();
         let expected = match expected.contains(':') {
             true => written(&[&file(expected)]),
             false => Err(format!("refused {expected}")),
         };
-        assert_eq!(written(&[&file(first), &file(second)]), expected, "{line}");
+        assert_eq!(written(&[&file(first), &file(second)]), expected, "{files}");
     }
 }
 
@@ -179,8 +176,7 @@ fn normal_forms() {
     assert_eq!(written(&[&of(&mut keys.iter().rev())]), Ok(of(&mut keys.iter())));
     // Names stand after the whole descriptor, repeated; buffers keep their other bytes.
     let methods = vec![Method::plain(GETTER, b"A"), Method::plain(SETTER, b"A")];
-    let lib = Typelib::single(Descriptor::of(methods));
-    let shared = Typelib { sharing: Sharing::Overlap, ..lib }.bytes();
+    let shared = Typelib { sharing: Sharing::Overlap, ..Typelib::of(methods) }.bytes();
     let form = written(&[&shared]).unwrap();
     assert!(form.ends_with(b"A\0A\0"));
     let mut out = vec![7; form.len() + 3];
@@ -192,11 +188,7 @@ fn normal_forms() {
 
 #[test]
 fn listings() {
-    let printed = |input: &[u8]| {
-        let mut out = Vec::new();
-        program(input, &mut out).unwrap();
-        String::from_utf8(out).unwrap()
-    };
+    let printed = |input: &[u8]| String::from_utf8(listing::listed(input)).unwrap();
     let [p1, p2, p3] = marked();
     let zero = "0".repeat(31);
     assert_eq!(printed(&p1), "accepted 0\n");
@@ -226,13 +218,11 @@ fn planted(part: &'static str, run: fn(&mut Session), wrong: Program) -> Case {
 
 #[test]
 fn planted_differences() {
-    fn place(file: &[u8]) -> Answer {
-        check(file).map_err(|Refusal { number, place }| match number {
-            19 => Refusal { number, place: place + 1 },
-            _ => Refusal { number, place },
-        })
+    fn moved(why: Refusal) -> Refusal {
+        Refusal { place: why.place + usize::from(why.number == 19), ..why }
     }
-    let case = planted("checks", checks::run, Program { check: place, ..OWN });
+    let wrong = Program { check: |file| check(file).map_err(moved), ..OWN };
+    let case = planted("checks", checks::run, wrong);
     assert!(case.files[0].len() < 90, "{case:?}");
     let wrong = Program {
         slot: |file, index, slot| match (OWN.slot)(file, index, slot) {

@@ -1,17 +1,16 @@
 //! Comparisons that can be made again: what is asked, the files it is asked of, and what a program
 //! answers. Where two differ the case is made smaller.
 
-use super::buffers::{lent, GUARD};
+use super::links::{lent, GUARD};
 use super::questions::{Found, Question, Reply};
-use super::{shrink::shrink, Program, OWN};
+use super::{Program, OWN};
 use crate::program::{link::LinkRefusal, questions::Kind, Answer, Refusal};
 use crate::tally::hash;
-use std::time::Duration;
+use std::time::{Duration, Instant};
 
 /// How long a difference may be made smaller.
 const PATIENCE: Duration = Duration::from_secs(20);
 
-/// Everything that is asked of one or more files.
 #[derive(Clone, Debug, PartialEq, Eq)]
 pub enum Asked {
     Check,
@@ -50,12 +49,7 @@ impl Case {
 
     fn told(&self, other: &Program) -> String {
         let [own, other] = [&OWN, other].map(|program| self.answer(program));
-        let mut text = format!("{:?}\nthis program: {own}\nthe other: {other}", self.asked);
-        for file in &self.files {
-            let digits = file.iter().take(4_096).map(|byte| format!("{byte:02x}"));
-            text += &format!("\n{} bytes: {}", file.len(), digits.collect::<String>());
-        }
-        text
+        format!("{:?}\nthis program: {own}\nthe other: {other}", self.asked)
     }
 }
 
@@ -66,7 +60,7 @@ pub fn shown(answer: Answer) -> String {
     }
 }
 
-/// What a program answers that writes into a buffer of this length, and what is then in and around it.
+/// What a program answers that writes into a buffer of this length, and what is in and around it.
 fn written(program: &Program, files: &[&[u8]], room: usize) -> String {
     let before: Vec<u8> = (0..room + 2 * GUARD).map(|i| (i * 7 + 13) as u8).collect();
     let (answer, bytes) = lent(&before, room, |out| program.write(files, out));
@@ -98,12 +92,8 @@ impl Program {
     }
 }
 
-pub fn kind_word(kind: Kind) -> &'static str {
-    match kind {
-        Kind::Getter => "getter",
-        Kind::Setter => "setter",
-        Kind::Plain => "plain",
-    }
+pub fn kind_word(kind: Kind) -> String {
+    format!("{kind:?}").to_lowercase()
 }
 
 impl Question {
@@ -130,15 +120,74 @@ pub fn bytes(hex: &str) -> Option<Vec<u8>> {
     pairs.map(|pair| u8::from_str_radix(std::str::from_utf8(pair).ok()?, 16).ok()).collect()
 }
 
-/// Tells of a difference, and makes it smaller.
+/// Tells of a difference, makes it smaller, and keeps its files.
 pub fn found(made: &str, case: Case, other: &Program) -> Case {
     println!("DIFFERENCE ({made})\n{}", case.told(other));
+    let of = |files: &Files| Case { asked: case.asked.clone(), files: files.clone() };
+    let mut small = case.clone();
     // What is known from making a file says nothing of a smaller one.
-    if !case.differs(other) {
-        return case;
+    if case.differs(other) {
+        small = of(&shrink(&case.files, PATIENCE, &|files| of(files).differs(other)));
+        println!("made smaller:\n{}", small.told(other));
     }
-    let of = |files: &Vec<Vec<u8>>| Case { asked: case.asked.clone(), files: files.clone() };
-    let small = of(&shrink(&case.files, PATIENCE, &|files| of(files).differs(other)));
-    println!("made smaller:\n{}", small.told(other));
+    for (i, file) in (1..).zip(&small.files) {
+        let path = std::env::temp_dir().join(format!("second-difference-{i}.xpt"));
+        println!("kept in {}: {:?}", path.display(), std::fs::write(&path, file));
+    }
     small
+}
+
+type Files = Vec<Vec<u8>>;
+
+/// A file without a range, or with zeros in it.
+type Edit = fn(&[u8], usize, usize) -> Vec<u8>;
+
+const EDITS: [Edit; 3] = [
+    |file, from, to| {
+        let mut left = [&file[..from], &file[to..]].concat();
+        let length = (left.len() as u32).to_be_bytes();
+        if let Some(field) = left.get_mut(20..24) {
+            field.copy_from_slice(&length);
+        }
+        left
+    },
+    |file, from, to| [&file[..from], &file[to..]].concat(),
+    |file, from, to| [&file[..from], &vec![0; to - from], &file[to..]].concat(),
+];
+
+/// The smallest files that were found in the time given: takes bytes out, or makes them zero, while
+/// the programs still differ.
+pub fn shrink(files: &Files, patience: Duration, differs: &dyn Fn(&Files) -> bool) -> Files {
+    let deadline = Instant::now() + patience;
+    let mut best = files.clone();
+    loop {
+        let before = size(&best);
+        for (i, edit) in (0..files.len()).flat_map(|i| EDITS.map(|edit| (i, edit))) {
+            let mut part = best[i].len().div_ceil(2);
+            while part > 0 {
+                // From the end, where bytes are needed least.
+                for from in (0..best[i].len()).step_by(part).rev() {
+                    let to = (from + part).min(best[i].len());
+                    let mut tried = best.clone();
+                    tried[i] = edit(&best[i], from, to);
+                    if size(&tried) < size(&best) && differs(&tried) {
+                        best = tried;
+                    }
+                    if Instant::now() > deadline {
+                        return best;
+                    }
+                }
+                part /= 2;
+            }
+        }
+        if size(&best) == before {
+            return best;
+        }
+    }
+}
+
+/// What must fall: the bytes, then those that are not zero.
+fn size(files: &Files) -> (usize, usize) {
+    let bytes = files.iter().map(Vec::len).sum();
+    (bytes, files.iter().flatten().filter(|byte| **byte != 0).count())
 }

@@ -1,7 +1,6 @@
 //! Normal forms and links of many files: answers, every byte of the buffers, and the laws of
 //! linking.
 
-use super::buffers::{lent, short, wide, Room, GUARD, ROOMS};
 use super::{cases::Asked, Session, OWN};
 use crate::making::{builder::Typelib, damage, generate, hostile, model, pairs, rng::Rng, shape};
 use crate::program::{check::check, link::LinkRefusal, refusal, Refusal, MAX_FILE};
@@ -29,6 +28,42 @@ impl File {
 pub const ORDERS: [&str; 2] = ["first with second", "second with first"];
 
 const NORMAL: &[&str] = numbered!("normal ", "");
+
+/// A buffer's length by what is needed, which is not 0.
+type Room = (&'static str, fn(usize, &mut Rng) -> usize);
+
+/// Those that are the same for all files come last.
+const ROOMS: [Room; 9] = [
+    ("buffer empty", |_, _| 0),
+    ("buffer short by one", |needed, _| needed - 1),
+    ("buffer short", |needed, rng| rng.below(needed)),
+    ("buffer exact", |needed, _| needed),
+    ("buffer longer by one", |needed, _| needed + 1),
+    ("buffer longer", |needed, rng| needed + rng.range(2, 300)),
+    ("buffer much longer", |needed, rng| 2 * needed + rng.range(1_000, 20_000)),
+    ("buffer of 1,048,576", |_, _| MAX_FILE),
+    ("buffer of over 1,048,576", |_, rng| MAX_FILE + rng.range(1, 300)),
+];
+
+/// One that is too short, except where nothing is written.
+fn short(rng: &mut Rng) -> Room {
+    *rng.pick(&ROOMS[..3])
+}
+
+/// One that does.
+fn wide(rng: &mut Rng) -> Room {
+    *rng.pick(&ROOMS[3..7])
+}
+
+/// Bytes that stand before a buffer and after it.
+pub const GUARD: usize = 64;
+
+/// Calls with a buffer of `room` bytes, guards around it. The answer, and all bytes afterwards.
+pub fn lent<T>(before: &[u8], room: usize, call: impl FnOnce(&mut [u8]) -> T) -> (T, Vec<u8>) {
+    let mut bytes = before.to_vec();
+    let answer = call(&mut bytes[GUARD..GUARD + room]);
+    (answer, bytes)
+}
 
 struct Run<'s> {
     session: &'s mut Session,
@@ -62,11 +97,7 @@ impl Run<'_> {
     }
 
     /// A file made by a generator. What it shows is counted.
-    fn file(&mut self, way: What, lib: &Typelib) -> File {
-        self.of_bytes(way, lib.bytes())
-    }
-
-    fn of_bytes(&mut self, way: What, bytes: Vec<u8>) -> File {
+    fn file(&mut self, way: What, bytes: Vec<u8>) -> File {
         let file = File::new(bytes);
         if let Ok(lib) = &file.model {
             let came = Came { way: Some(way), ..together(&[&file]) };
@@ -214,7 +245,7 @@ impl Run<'_> {
 
     /// Both ways to group a triple end with the same bytes, or neither ends with any.
     ///
-    /// The files are in one of three orders, and the buffers mostly shorter ones, that take less time.
+    /// The files are in one of three orders; mostly the buffers are shorter and take less time.
     fn triple(&mut self, made: What, round: usize, orders: [[&File; 3]; 3]) {
         let room = if round.is_multiple_of(10) { MAX_FILE } else { 131_072 };
         let files = orders[round % 3];
@@ -298,7 +329,7 @@ pub fn run(session: &mut Session) {
     let mut run = Run { session, rng: own, noise, scratch: vec![0; MAX_FILE] };
     edges(&mut run, rng);
     for (made, files) in pairs::spread(rng) {
-        let [a, b] = files.map(|lib| run.file(made, &lib));
+        let [a, b] = files.map(|lib| run.file(made, lib.bytes()));
         run.pair(made, &a, &b);
     }
     for round in 0..3_000 {
@@ -311,7 +342,7 @@ pub fn run(session: &mut Session) {
 fn edges(run: &mut Run, rng: &mut Rng) {
     let all = ROOMS;
     for (made, files) in [pairs::wide(rng), pairs::long()].concat() {
-        let [a, b] = files.map(|lib| run.file(made, &lib));
+        let [a, b] = files.map(|lib| run.file(made, lib.bytes()));
         run.pair(made, &a, &b);
         run.all_rooms(&a, &b);
         run.normal(&a, &all);
@@ -319,9 +350,9 @@ fn edges(run: &mut Run, rng: &mut Rng) {
         run.self_and_empty(&a);
     }
     for n in 1..=16 {
-        let a = run.of_bytes("overlapping heads", generate::overlapping_heads(rng, n));
-        let b = run.of_bytes("names in descriptors", generate::names_in_descriptors(rng, 3 * n));
-        let c = run.file("wide", &generate::wide(rng, 40));
+        let a = run.file("overlapping heads", generate::overlapping_heads(rng, n));
+        let b = run.file("names in descriptors", generate::names_in_descriptors(rng, 3 * n));
+        let c = run.file("wide", generate::wide(rng, 40).bytes());
         for pair in [[&a, &b], [&a, &c], [&b, &c], [&a, &a]] {
             run.pair("records that overlap", pair[0], pair[1]);
         }
@@ -332,7 +363,7 @@ fn edges(run: &mut Run, rng: &mut Rng) {
     }
     // Little bytes, a long normal form.
     for n in 2..6 {
-        let file = run.of_bytes("records that many share", hostile::long_listing(n));
+        let file = run.file("records that many share", hostile::long_listing(n));
         run.normal(&file, &all);
     }
     for (made, files) in pairs::edge_triples() {
@@ -374,7 +405,7 @@ fn refused(run: &mut Run, rng: &mut Rng, seed: u64) {
 fn small(run: &mut Run, rng: &mut Rng, round: usize) {
     let world = pairs::world(rng);
     let views = [0; 3].map(|_| pairs::view(&world, rng));
-    let files = views.each_ref().map(|lib| run.file("view of a world", lib));
+    let files = views.each_ref().map(|lib| run.file("view of a world", lib.bytes()));
     let [a, b, c] = &files;
     run.pair("one world", a, b);
     for file in &files {
@@ -383,7 +414,7 @@ fn small(run: &mut Run, rng: &mut Rng, round: usize) {
     if round.is_multiple_of(2) {
         run.triple("one world", round, [[a, b, c]; 3]);
         run.self_and_empty(a);
-        let laid = run.file("laid out again", &pairs::relaid(&views[0], rng));
+        let laid = run.file("laid out again", pairs::relaid(&views[0], rng).bytes());
         run.same_form(a, &laid);
     }
     conflicts(run, rng, round, &views, &files);
@@ -397,7 +428,7 @@ fn conflicts(run: &mut Run, rng: &mut Rng, round: usize, views: &[Typelib; 3], f
     for _ in 0..5 {
         let mut other = views[1].clone();
         if let Some(made) = pairs::conflict(&views[0], &mut other, rng) {
-            let other = run.file("a conflict put in", &other);
+            let other = run.file("a conflict put in", other.bytes());
             run.pair(made, a, &other);
             conflicting.push(other);
         }
@@ -409,7 +440,7 @@ fn conflicts(run: &mut Run, rng: &mut Rng, round: usize, views: &[Typelib; 3], f
     let mut other = views[1].clone();
     let put_in = (0..6).filter_map(|_| pairs::conflict(&views[0], &mut other, rng)).count();
     if put_in > 1 {
-        let other = run.file("two conflicts put in", &other);
+        let other = run.file("two conflicts put in", other.bytes());
         run.pair("two conflicts", a, &other);
     }
 }
@@ -417,7 +448,7 @@ fn conflicts(run: &mut Run, rng: &mut Rng, round: usize, views: &[Typelib; 3], f
 /// Chains that do not end in the union.
 fn chains(run: &mut Run, rng: &mut Rng, round: usize, c: &File) {
     let [mut first, mut second] = pairs::endless(rng);
-    let (a, b) = (run.file("endless", &first), run.file("endless", &second));
+    let (a, b) = (run.file("endless", first.bytes()), run.file("endless", second.bytes()));
     run.pair("an endless chain", &a, &b);
     if round.is_multiple_of(4) {
         run.triple("an endless chain", round, [[&a, &b, c], [&a, c, &b], [c, &b, &a]]);
@@ -425,10 +456,10 @@ fn chains(run: &mut Run, rng: &mut Rng, round: usize, c: &File) {
     if pairs::conflict(&first, &mut second, rng).is_some()
         || pairs::conflict(&second, &mut first, rng).is_some()
     {
-        let (a, b) = (run.file("endless", &first), run.file("endless", &second));
+        let (a, b) = (run.file("endless", first.bytes()), run.file("endless", second.bytes()));
         run.pair("an endless chain and a conflict", &a, &b);
     }
     // A family resolves what the other world only names, if keys meet at all.
-    let family = run.file("family", &generate::family(rng));
+    let family = run.file("family", generate::family(rng).bytes());
     run.pair("two worlds", &a, &family);
 }

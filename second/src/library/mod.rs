@@ -1,11 +1,9 @@
 //! Comparing through the library: its calls beside this program's, on all that is made.
 
-pub mod buffers;
 pub mod cases;
 pub mod checks;
 pub mod links;
 pub mod questions;
-pub mod shrink;
 
 use crate::in_parallel;
 use crate::program::questions::{of as asked, Constant, Kind, Lookup, Method};

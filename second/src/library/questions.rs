@@ -26,9 +26,9 @@ pub enum Found {
 
 pub type Reply = Lookup<Found>;
 
-// Questions for a file, each with how it was made.
-
 type What = &'static str;
+
+/// A question, with how it was made.
 type Made = (What, Question);
 
 /// What is wrong with a name, and with a namespace.
@@ -218,8 +218,6 @@ pub fn question(lib: &Typelib, rng: &mut Rng, turn: usize) -> Made {
         _ => constant_question(lib, rng),
     }
 }
-
-// The run.
 
 /// A file to be asked.
 struct File<'f> {

@@ -128,12 +128,8 @@ pub fn asked(file: &[u8], question: &Question) -> Outcome {
 fn hex(bytes: &[u8], rng: &mut Rng) -> Vec<u8> {
     let text: String = bytes.iter().map(|byte| format!("{byte:02x}")).collect();
     let case = rng.below(3);
-    let digit = |digit: u8| match case {
-        0 => digit,
-        1 => digit.to_ascii_uppercase(),
-        _ if rng.percent(50) => digit.to_ascii_uppercase(),
-        _ => digit,
-    };
+    let mut is_upper = || case == 1 || case == 2 && rng.percent(50);
+    let digit = |digit: u8| if is_upper() { digit.to_ascii_uppercase() } else { digit };
     text.into_bytes().into_iter().map(digit).collect()
 }
 
@@ -156,7 +152,7 @@ pub fn question_words(question: &Question, rng: &mut Rng) -> (&'static str, Word
             ("key", vec![space.to_vec(), name.clone()])
         }
         Question::Method(index, name, kind) => {
-            ("method", vec![decimal(*index, rng), name.clone(), kind_word(*kind).into()])
+            ("method", vec![decimal(*index, rng), name.clone(), kind_word(*kind).into_bytes()])
         }
         Question::Slot(index, slot) => ("slot", vec![decimal(*index, rng), decimal(*slot, rng)]),
         Question::Constant(index, name) => ("const", vec![decimal(*index, rng), name.clone()]),

@@ -4,7 +4,7 @@
 use super::process::{self, Ran};
 use super::script::{Files, Script, Step, Told, SUBFOLDER};
 use crate::program::format::refusal::is_of_file;
-use crate::tally::Tally;
+use crate::tally::{Came, Tally};
 use std::{fs, io, path::Path};
 
 /// So much of a text is told.
@@ -19,20 +19,6 @@ fn difference(what: &str, step: Option<&Step>, shown: &[(&str, Option<&[u8]>)]) 
         text.extend(start.map(|start| format!("\n  {name}: {start}")));
     }
     io::Error::other(text)
-}
-
-// The folder.
-
-/// Makes the folder as it is at the start.
-fn lay_out(script: &Script) -> io::Result<()> {
-    fs::create_dir_all(script.folder.join(SUBFOLDER))?;
-    for (path, bytes) in &script.files {
-        fs::write(script.folder.join(path), bytes)?;
-    }
-    for (path, target) in &script.links {
-        std::os::unix::fs::symlink(target, script.folder.join(path))?;
-    }
-    Ok(())
 }
 
 /// Every file of the folder by its path, without symbolic links.
@@ -80,8 +66,6 @@ fn laws_hold(script: &Script, tally: &mut Tally) -> io::Result<()> {
     }
     Ok(())
 }
-
-// What is printed.
 
 /// Whether a line tells the refusal's number and names the file; of a file's own also the byte.
 pub fn tells(line: &[u8], (refusal, files): &Told) -> bool {
@@ -136,8 +120,6 @@ fn answers_stand(steps: &[&Step], ran: &Ran, alone: bool, tally: &mut Tally) -> 
     Err(difference(what, steps.last().copied(), &shown))
 }
 
-// The run.
-
 /// The steps' lines. The last one has no newline where it can be seen without.
 fn input(steps: &[&Step], tally: &mut Tally) -> Vec<u8> {
     let mut input: Vec<u8> = steps.iter().flat_map(|s| [s.line(), vec![b'\n']].concat()).collect();
@@ -151,7 +133,13 @@ fn input(steps: &[&Step], tally: &mut Tally) -> Vec<u8> {
 /// Runs the script's commands: in one batch, or each alone but for those with words that a process
 /// cannot be given.
 pub fn run(program: &Path, script: &Script, tally: &mut Tally) -> io::Result<()> {
-    lay_out(script)?;
+    fs::create_dir_all(script.folder.join(SUBFOLDER))?;
+    for (path, bytes) in &script.files {
+        fs::write(script.folder.join(path), bytes)?;
+    }
+    for (path, target) in &script.links {
+        std::os::unix::fs::symlink(target, script.folder.join(path))?;
+    }
     let mut files = script.files.clone();
     let mut steps = script.merged();
     steps.retain(|step| !script.alone || !step.words.iter().flatten().any(|byte| *byte == 0));
@@ -175,11 +163,8 @@ pub fn run(program: &Path, script: &Script, tally: &mut Tally) -> io::Result<()>
 }
 
 fn count(script: &Script, step: &Step, tally: &mut Tally) {
-    for (about, what, place) in &step.counts {
-        match place {
-            Some(place) => tally.add_at(about, what, *place),
-            None => tally.add(about, what),
-        }
+    for &(about, what, place) in &step.counts {
+        tally.came(about, what, Came { place, ..Came::default() });
     }
     tally.add("all", if script.alone { "commands alone" } else { "commands in batches" });
     if script.alone && step.words.iter().any(|word| word.contains(&b' ')) {

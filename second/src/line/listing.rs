@@ -2,7 +2,7 @@
 
 use super::{process, stories::about, stories::Named};
 use crate::in_parallel;
-use crate::library::shrink::shrink;
+use crate::library::cases::shrink;
 use crate::making::{builder::*, damage, generate, hostile, rng::Rng};
 use crate::program::{check::check, listing::program as list, listing::MAX_INPUT};
 use crate::tally::{Tally, NUMBER};
@@ -10,22 +10,16 @@ use std::{fs, io, path::Path, time::Duration};
 
 const LARGE: &str = "a large listing";
 
-fn listed(input: &[u8]) -> Vec<u8> {
+pub fn listed(input: &[u8]) -> Vec<u8> {
     let mut out = Vec::new();
     list(input, &mut out).expect("writing to memory");
     out
 }
 
-/// What the program prints otherwise than this one, if it does.
-fn differs(program: &Path, input: &[u8]) -> io::Result<Option<String>> {
+/// Whether the program prints otherwise than this one, or does not end by itself.
+fn differs(program: &Path, input: &[u8]) -> io::Result<bool> {
     let ran = process::run(program, Path::new("/"), &[], input)?;
-    let own = listed(input);
-    let common = ran.stdout.iter().zip(&own).take_while(|(a, b)| a == b).count();
-    let told = ran.stdout != own || ran.broken.is_some();
-    Ok(told.then(|| {
-        let (printed, ended) = (ran.stdout.len(), ran.broken.unwrap_or_default());
-        format!("{printed} bytes printed of {}, {common} of them alike {ended}", own.len())
-    }))
+    Ok(ran.stdout != listed(input) || ran.broken.is_some())
 }
 
 fn count(tally: &mut Tally, made: &'static str, input: &[u8]) {
@@ -62,24 +56,12 @@ fn count(tally: &mut Tally, made: &'static str, input: &[u8]) {
 /// The marked cases P1 to P11.
 fn marked() -> Vec<Vec<u8>> {
     let [p1, p2, p3] = generate::marked();
-    let p3_with = |at: usize, new: &[u8]| {
-        let mut bytes = p3.clone();
-        bytes[at..at + new.len()].copy_from_slice(new);
-        bytes
-    };
-    vec![
-        p1.clone(),
-        p2,
-        p3.clone(),
-        p3[..81].to_vec(),
-        p3_with(17, &[2]),
-        p1[..31].to_vec(),
-        p3_with(66, &[0, 1]),
-        p3_with(66, &[0, 2]),
-        p3_with(76, &[3]),
-        p3_with(79, &[0x81]),
-        p3_with(36, &[0; 16]),
-    ]
+    let mut all = vec![p1.clone(), p2, p3.clone(), p3[..81].to_vec(), p1[..31].to_vec()];
+    let changes = [(17, &[2][..]), (66, &[0, 1]), (66, &[0, 2]), (76, &[3]), (79, &[0x81])];
+    for (at, new) in changes.into_iter().chain([(36, &[0; 16][..])]) {
+        all.push([&p3[..at], new, &p3[at + new.len()..]].concat());
+    }
+    all
 }
 
 /// Inputs about the greatest length, and one whose listing takes 540 KB for each of its entries.
@@ -134,12 +116,11 @@ pub fn run(program: &Path, seed: u64, count: usize) -> io::Result<bool> {
         in_parallel(inputs.iter().collect(), |(_, input): &Named| differs(program, input));
     let mut tally = Tally::new("listings");
     for ((made, input), differs) in inputs.iter().zip(compared) {
-        if let Some(how) = differs? {
-            let still =
-                |files: &Vec<Vec<u8>>| matches!(self::differs(program, &files[0]), Ok(Some(_)));
+        if differs? {
+            let still = |files: &Vec<Vec<u8>>| self::differs(program, &files[0]).unwrap_or(false);
             let small = shrink(&vec![input.clone()], Duration::from_secs(20), &still);
             let path = std::env::temp_dir().join("second-listing-difference");
-            println!("DIFFERENCE: {made}: {how}; made smaller: {}", path.display());
+            println!("DIFFERENCE: {made}; the input, made smaller, is in {}", path.display());
             return fs::write(path, &small[0]).map(|()| false);
         }
         self::count(&mut tally, made, input);

@@ -143,8 +143,6 @@ fn too_large(rng: &mut Rng) -> String {
     format!("{}{}", "0".repeat(rng.below(3)), rng.pick(&NUMBERS))
 }
 
-// Lines at the edge of what can be asked.
-
 /// Words that are empty: as a name they are bad, as an IID too short. Where a line's spaces make
 /// them, it may be an error too, and so for a namespace.
 pub fn empty_words(script: &mut Script, file: &Name) {

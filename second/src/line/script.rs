@@ -34,7 +34,6 @@ pub struct Step {
     pub words: Words,
     pub outcome: Outcome,
     pub told: Option<Told>,
-    /// The path of its output.
     pub out: Option<String>,
     pub counts: Vec<Count>,
 }
@@ -78,8 +77,6 @@ impl Script {
         let (rng, stories) = (Rng::new(seed), vec![Vec::new()]);
         Script { folder, seed, rng, alone, stories, ..Script::default() }
     }
-
-    // Files.
 
     /// A file that is there at the start.
     pub fn place(&mut self, bytes: impl Into<Bytes>) -> Name {
@@ -141,15 +138,10 @@ impl Script {
             self.links.push((word.clone(), self.folder.join(&path)));
             return Name { path, word };
         }
-        loop {
-            let word = self.word(&path);
-            if word != file.word {
-                return Name { path, word };
-            }
-        }
+        let mut words = std::iter::repeat_with(|| self.word(&path));
+        let word = words.find(|word| *word != file.word).expect("there are other ways");
+        Name { path, word }
     }
-
-    // Commands.
 
     /// What follows is a story of its own.
     pub fn story(&mut self) {
@@ -160,12 +152,9 @@ impl Script {
         if let (Some(path), Some(bytes)) = (&step.out, &step.outcome.written) {
             self.now.insert(path.clone(), bytes.clone());
         }
-        self.stories.last_mut().expect("there is a story").push(step);
-        self.last()
-    }
-
-    fn last(&mut self) -> &mut Step {
-        self.stories.last_mut().and_then(|story| story.last_mut()).expect("there is a step")
+        let story = self.stories.last_mut().expect("there is a story");
+        story.push(step);
+        story.last_mut().expect("it was just added")
     }
 
     /// Words that cannot be asked. None of them names an output.
@@ -180,7 +169,8 @@ impl Script {
 
     /// Another row that the last step counts for.
     pub fn count(&mut self, about: &'static str, what: &'static str) {
-        self.last().counts.push((about, what, None));
+        let last = self.stories.last_mut().and_then(|story| story.last_mut());
+        last.expect("there is a step").counts.push((about, what, None));
     }
 
     /// A command with these names, the last of which is the output where it writes, and more words

@@ -28,7 +28,6 @@ pub fn good(rng: &mut Rng) -> Vec<u8> {
     }
 }
 
-/// Such a file in the folder.
 pub fn placed(script: &mut Script) -> Name {
     let bytes = good(&mut script.rng);
     script.place(bytes)

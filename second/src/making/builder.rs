@@ -236,7 +236,6 @@ pub enum Field {
     InterfaceFlags,
 }
 
-/// A field and where it stands.
 #[derive(Clone, Copy, Debug)]
 pub struct Spot {
     pub field: Field,
@@ -494,6 +493,11 @@ impl Typelib {
     pub fn single(descriptor: Descriptor) -> Typelib {
         let entry = Entry { descriptor: Some(0), ..Entry::new(1, "A") };
         Typelib { entries: vec![entry], descriptors: vec![descriptor], ..Typelib::default() }
+    }
+
+    /// One such entry with these methods.
+    pub fn of(methods: Vec<Method>) -> Typelib {
+        Typelib::single(Descriptor::of(methods))
     }
 
     /// Resolves an entry, by position, with a descriptor of its own.

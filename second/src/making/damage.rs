@@ -73,11 +73,6 @@ fn set_length(bytes: &mut [u8]) {
     put(bytes, 20, &(bytes.len() as u32).to_be_bytes());
 }
 
-/// One interface with these methods.
-fn with_methods(methods: Vec<Method>) -> Typelib {
-    Typelib::single(Descriptor::of(methods))
-}
-
 /// Known faults alone, up to `singles`, and `pairs` times two at once: the one met first is given.
 fn single_and_paired(lib: &Typelib, seed: u64, singles: usize, pairs: usize, sink: &mut Sink) {
     let built = lib.build();
@@ -253,11 +248,9 @@ fn scrambled(good: &[u8], rounds: usize, rng: &mut Rng, sink: &mut Sink) {
 /// Too short files: the starts of good ones, and any bytes.
 fn too_short(rng: &mut Rng, sink: &mut Sink) {
     for length in 0..HEADER {
-        for good in generate::marked() {
-            sink.put(&good[..length], refused(refusal::TOO_SHORT, length), "1 too short");
-        }
-        for _ in 0..8 {
-            let bytes: Vec<u8> = (0..length).map(|_| rng.byte()).collect();
+        let starts = generate::marked().map(|good| good[..length].to_vec());
+        let random = [0; 8].map(|_| (0..length).map(|_| rng.byte()).collect());
+        for bytes in starts.into_iter().chain(random) {
             sink.put(&bytes, refused(refusal::TOO_SHORT, length), "1 too short");
         }
     }
@@ -349,9 +342,7 @@ fn prefixes(sink: &mut Sink) {
     both(methods, types).for_each(|(method, of)| one_prefix(method, of, sink));
 }
 
-type OfPrefix = ((usize, u8), bool);
-
-fn one_prefix((minor, flags): (u8, u8), of: OfPrefix, sink: &mut Sink) {
+fn one_prefix((minor, flags): (u8, u8), of: ((usize, u8), bool), sink: &mut Sink) {
     let ((depth, prefix), in_result) = of;
     let tag = prefix & TAG;
     let of = Type::nested(depth, 2, prefix, fitting(tag, 1, 2));
@@ -360,7 +351,7 @@ fn one_prefix((minor, flags): (u8, u8), of: OfPrefix, sink: &mut Sink) {
     method.arguments = [0, POINTER | IID, UINT32].map(|leaf| Parameter::simple(IN, leaf)).to_vec();
     let it = if in_result { &mut method.result } else { &mut method.arguments[0] };
     it.of = of;
-    let built = Typelib { minor, ..with_methods(vec![method]) }.build();
+    let built = Typelib { minor, ..Typelib::of(vec![method]) }.build();
     let field = if in_result { Field::ResultPrefix } else { Field::ArgumentPrefix };
     let it = |spot: &&Spot| spot.field == field && usize::from(spot.more) == depth;
     let at = built.spots.iter().find(it).unwrap().at;
@@ -404,7 +395,7 @@ fn numbers(sink: &mut Sink) {
                 method.arguments = arguments.clone();
                 let it = if flags == 0 { &mut method.arguments[0] } else { &mut method.result };
                 it.of = Type::nested(depth, 1, POINTER | tag, tail);
-                let built = with_methods(vec![Method::plain(0, b"e"), method]).build();
+                let built = Typelib::of(vec![Method::plain(0, b"e"), method]).build();
                 let rule = (refusal::RULE, built.placed[0].methods[1]);
                 sink.built(&built, (!good).then_some(rule), "numbers");
             }
@@ -424,7 +415,7 @@ fn wide_numbers(sink: &mut Sink) {
             let mut arguments = vec![Parameter::simple(IN, 1); count];
             arguments[named] = Parameter::simple(IN, target);
             let method = Method::new(0, b"f", arguments, Parameter::new(RETVAL, of));
-            let built = with_methods(vec![method]).build();
+            let built = Typelib::of(vec![method]).build();
             let rule = (refusal::RULE, built.placed[0].methods[0]);
             let fault = (usize::from(number) != named).then_some(rule);
             sink.built(&built, fault, "numbers among many arguments");
@@ -498,7 +489,7 @@ fn accessors(rng: &mut Rng, sink: &mut Sink) {
 
 fn accessor_row(row: &[(u8, &[u8])], sharing: Sharing, sink: &mut Sink) {
     let methods = row.iter().map(|&(flags, name)| Method::plain(flags, name)).collect();
-    let built = Typelib { sharing, ..with_methods(methods) }.build();
+    let built = Typelib { sharing, ..Typelib::of(methods) }.build();
     let constructors = row.iter().filter(|(flags, _)| flags & CONSTRUCTOR != 0).count();
     let is_pair = |i: usize, j: usize| {
         row[i].0 & GETTER != 0 && row[j].0 & SETTER != 0 && row[i].1 == row[j].1
@@ -526,7 +517,6 @@ fn long_names(lib: &Typelib, sink: &mut Sink) {
     }
 }
 
-/// All names of a typelib.
 fn names(lib: &mut Typelib) -> Vec<&mut Vec<u8>> {
     let mut all = Vec::new();
     for entry in &mut lib.entries {
@@ -545,7 +535,7 @@ fn sizes(sink: &mut Sink) {
     let too_many = Typelib::plain(MAX_INTERFACES + 1).bytes();
     sink.put(&too_many, refused(refusal::COUNT, 18), "7 count");
     for sharing in [Sharing::None, Sharing::Equal] {
-        let methods = with_methods(vec![Method::plain(0, b"m"); MAX_METHODS + 1]);
+        let methods = Typelib::of(vec![Method::plain(0, b"m"); MAX_METHODS + 1]);
         let constants = vec![Constant::new(b"k", 1, 7); MAX_CONSTANTS + 1];
         let constants = Typelib::single(Descriptor { constants, ..Descriptor::default() });
         // A count of methods stands behind the parent, one of constants behind that of methods.
@@ -562,7 +552,7 @@ fn sizes(sink: &mut Sink) {
             0 => method.result = deep(RETVAL, depth),
             _ => method.arguments[position] = deep(OUT, depth),
         }
-        let built = with_methods(vec![method]).build();
+        let built = Typelib::of(vec![method]).build();
         let ninth = built.spots.iter().find(|spot| {
             matches!(spot.field, Field::ArgumentPrefix | Field::ResultPrefix)
                 && usize::from(spot.more) == MAX_ARRAYS

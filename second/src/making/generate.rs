@@ -2,6 +2,7 @@
 
 use super::{builder::*, model::KeyOf, rng::Rng};
 use std::collections::{HashMap, HashSet};
+use std::iter::repeat_with;
 
 /// The largest counts of a random typelib.
 #[derive(Clone, Copy)]
@@ -105,12 +106,8 @@ impl Scope {
                 arrays.push([prefix, *rng.pick(&self.sizes), *rng.pick(&self.sizes)]);
             }
         }
-        let tag = loop {
-            let tag = rng.below(usize::from(LAST_TAG) + 1) as u8;
-            if tag != ARRAY && self.allows(tag) {
-                break tag;
-            }
-        };
+        let mut tags = repeat_with(|| rng.below(usize::from(LAST_TAG) + 1) as u8);
+        let tag = tags.find(|tag| *tag != ARRAY && self.allows(*tag)).expect("void is allowed");
         let tail = match tag {
             INTERFACE => index_tail(rng.range(1, self.n)),
             INTERFACE_IS => [*rng.pick(&self.iids), 0, 0],
@@ -230,17 +227,13 @@ fn populate(
     let mut keys = HashSet::new();
     let mut descriptors = 0;
     for (i, iid) in ids.into_iter().enumerate() {
-        let (namespace, name) = loop {
-            let key = key(rng);
-            if keys.insert(key.clone()) {
-                break key;
-            }
-        };
+        let new = repeat_with(|| key(rng)).find(|key| keys.insert(key.clone()));
+        let (namespace, name) = new.expect("there are keys enough");
         let descriptor = (i >= zeros && rng.percent(resolved)).then(|| {
-            match descriptors == 0 || rng.percent(own) {
-                true => descriptors += 1,
-                false => return rng.below(descriptors),
+            if descriptors > 0 && !rng.percent(own) {
+                return rng.below(descriptors);
             }
+            descriptors += 1;
             descriptors - 1
         });
         lib.entries.push(Entry { iid, name, namespace, descriptor });
@@ -475,7 +468,6 @@ pub fn chain(count: usize, upward: bool) -> Typelib {
 /// Good typelibs at the edges of what is allowed.
 pub fn special() -> Vec<Typelib> {
     let empty = Typelib::default();
-    let with = |methods: Vec<Method>| Typelib::single(Descriptor::of(methods));
     // 33 bytes, and no entries with gaps, annotations and an unused pool.
     let mut all = vec![empty.clone()];
     for (tail, pool_gap) in both([0, 1, 2, 3, 100], [0, 1, 5, 1000]) {
@@ -511,7 +503,7 @@ pub fn special() -> Vec<Typelib> {
         many.resolve(i, Descriptor::below(if i == 500 { 7 } else { i }));
     }
     all.extend([many.clone(), Typelib { sharing: Sharing::Equal, ..many }]);
-    let methods = with(vec![Method::plain(0, b"m"); MAX_METHODS]);
+    let methods = Typelib::of(vec![Method::plain(0, b"m"); MAX_METHODS]);
     let constants = vec![Constant::new(b"k", 2, 7); MAX_CONSTANTS];
     let constants = Typelib::single(Descriptor { constants, ..Descriptor::default() });
     for sharing in [Sharing::None, Sharing::Equal] {
@@ -530,7 +522,7 @@ pub fn special() -> Vec<Typelib> {
         pairs.map(|(name, flags)| Method::plain(flags, name.as_bytes())).collect();
     accessors.extend(vec![Method::plain(GETTER, b"read"); 200]);
     accessors.extend(vec![Method::plain(SETTER, b"write"); 200]);
-    all.push(with(accessors));
+    all.push(Typelib::of(accessors));
 
     // 255 arguments, eight arrays, numbers that name the last argument.
     let of_number = |i: usize| match i % 4 {
@@ -542,7 +534,7 @@ pub fn special() -> Vec<Typelib> {
     };
     let arguments = (0..255).map(|i| Parameter::new(IN, of_number(i))).collect();
     let result = Parameter::new(RETVAL, Type::nested(8, 254, ASTRING, [0; 3]));
-    all.push(with(vec![Method::new(0, b"wide", arguments, result); 3]));
+    all.push(Typelib::of(vec![Method::new(0, b"wide", arguments, result); 3]));
 
     // Every tag, plain and in arrays, as argument and as result.
     let tags = both(0..=MAX_MINOR, 0..=LAST_TAG);
@@ -555,7 +547,7 @@ pub fn special() -> Vec<Typelib> {
             Method::new(NOT_XPCOM, b"f", arguments, Parameter::new(0, of))
         };
         let depths = if tag == ARRAY { 0..=7 } else { 0..=8 };
-        all.push(Typelib { minor, ..with(depths.map(method).collect()) });
+        all.push(Typelib { minor, ..Typelib::of(depths.map(method).collect()) });
     }
 
     // A long chain of parents in both directions.

@@ -71,8 +71,7 @@ fn deep_arguments() -> Vec<u8> {
     let method = deep_method(0, b"m", Parameter::simple(0, VOID));
     let size = Descriptor::of(vec![method.clone()]).size() - Descriptor::default().size();
     let count = (MAX_FILE - 100) / size;
-    let lib = Typelib::single(Descriptor::of(vec![method; count]));
-    Typelib { sharing: Sharing::Equal, ..lib }.bytes()
+    Typelib { sharing: Sharing::Equal, ..Typelib::of(vec![method; count]) }.bytes()
 }
 
 /// (c) 512 getters of one long name and 512 setters of another in each descriptor, which differ

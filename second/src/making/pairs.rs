@@ -316,8 +316,7 @@ fn taken_iid(first: &Typelib, second: &mut Typelib, rng: &mut Rng) -> Made {
     if may_be.is_empty() {
         // A new entry then.
         let name = generate::identifier(rng, 9);
-        let entry = Entry { iid: taken.iid, name, namespace: None, descriptor: None };
-        second.entries.push(entry);
+        second.entries.push(Entry { iid: taken.iid, name, namespace: None, descriptor: None });
         return Some("an IID taken by a new key");
     }
     second.entries[*rng.pick(&may_be)].iid = taken.iid;

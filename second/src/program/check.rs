@@ -274,7 +274,6 @@ impl<'a> Reader<'_, 'a> {
         Ok(count)
     }
 
-    /// Interface descriptor.
     fn descriptor(mut self, accessors: &mut Vec<Accessor<'a>>) -> Result<(), Refusal> {
         let start = self.at;
         let parent = self.pair()?;
@@ -375,7 +374,6 @@ impl<'a> Reader<'_, 'a> {
         }
     }
 
-    /// Constant.
     fn constant(&mut self) -> Result<(), Refusal> {
         self.name()?;
         let place = self.at;

@@ -12,10 +12,9 @@ pub(crate) fn refused<T>(number: u32, place: usize) -> Result<T, Refusal> {
 }
 
 pub(crate) fn refuse_if(holds: bool, number: u32, place: usize) -> Result<(), Refusal> {
-    if holds {
-        refused(number, place)
-    } else {
-        Ok(())
+    match holds {
+        true => refused(number, place),
+        false => Ok(()),
     }
 }
 

@@ -205,6 +205,6 @@ impl<'l, 'a> Union<'l, 'a> {
             Source { lib: first, renumbered: rank },
             Source { lib: second, renumbered: of_second },
         ];
-        write(&sources, order.iter().map(|&number| *item(number)), out)
+        write(&sources, &order.iter().map(|&number| *item(number)).collect::<Vec<_>>(), out)
     }
 }

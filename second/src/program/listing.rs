@@ -26,7 +26,6 @@ pub fn list(file: &[u8], out: &mut impl Write) -> io::Result<()> {
 }
 
 impl Accepted<'_> {
-    /// Prints the listing.
     pub fn list(&self, out: &mut impl Write) -> io::Result<()> {
         let mut page = Page { out, bytes: Vec::with_capacity(PAGE) };
         page.text(b"accepted ").number(self.n as u64).end_line()?;

@@ -3,6 +3,7 @@
 use super::accepted::{pair, Accepted, Key};
 use super::check::accept;
 use super::format::{refusal, refused, Refusal, ENTRY, MAGIC, MAX_FILE};
+use super::Answer;
 
 /// Writes the normal form and gives its length; the rest of the buffer keeps its bytes, on a
 /// refusal all of it.
@@ -27,7 +28,7 @@ impl<'a> Accepted<'a> {
             let descriptor = self.descriptor(index).map(|place| (0, place));
             Item { iid: self.iid(index), key: self.key(index), descriptor }
         };
-        write(&sources, order.iter().map(item), out)
+        write(&sources, &order.iter().map(item).collect::<Vec<_>>(), out)
     }
 }
 
@@ -50,14 +51,10 @@ pub(crate) struct Item<'a> {
 const DIRECTORY: usize = 36;
 
 /// Writes the normal form of these entries, which come in order: 26, then 27.
-pub(crate) fn write<'a>(
-    sources: &[Source<'_, 'a>],
-    items: impl ExactSizeIterator<Item = Item<'a>> + Clone,
-    out: &mut [u8],
-) -> Result<usize, Refusal> {
+pub(crate) fn write(sources: &[Source], items: &[Item], out: &mut [u8]) -> Answer {
     let n = items.len();
     let pool = DIRECTORY + ENTRY * n;
-    let Some((length, sizes)) = lengths(sources, items.clone(), pool) else {
+    let Some((length, sizes)) = lengths(sources, items, pool) else {
         return refused(refusal::FORM_SIZE, 0);
     };
     let Some(out) = out.get_mut(..length) else {
@@ -72,7 +69,7 @@ pub(crate) fn write<'a>(
     header[32..].copy_from_slice(&[0x80, 0, 0, 0]);
     let mut writer = Writer { bytes: pool_bytes, at: 0 };
     let mut sizes = sizes.into_iter();
-    for (item, entry) in items.zip(directory.chunks_exact_mut(ENTRY)) {
+    for (item, entry) in items.iter().zip(directory.chunks_exact_mut(ENTRY)) {
         let (namespace, name) = item.key;
         let name = writer.name(name);
         let namespace = if namespace.is_empty() { 0 } else { writer.name(namespace) };
@@ -90,11 +87,7 @@ pub(crate) fn write<'a>(
 /// The length of the whole, and the bytes of each entry's descriptor without its names (0 where
 /// there is none); nothing if it is over the limit. As nothing is shared in a normal form, what
 /// is read up to there is little, however much the sources share.
-fn lengths<'a>(
-    sources: &[Source<'_, 'a>],
-    items: impl ExactSizeIterator<Item = Item<'a>>,
-    pool: usize,
-) -> Option<(usize, Vec<u32>)> {
+fn lengths(sources: &[Source], items: &[Item], pool: usize) -> Option<(usize, Vec<u32>)> {
     let mut length = pool;
     let mut sizes = Vec::with_capacity(items.len());
     for item in items {
