@@ -241,7 +241,7 @@ fn call(asked: Asked, files: &[&[u8]], rounds: &Rounds) -> Outcome<Measured> {
         Box::new(|out: &mut [u8]| answer(program, &asked, files, out))
     };
     measure(Clock::Thread, room, [made(&OWN), made(&LIBRARY)], rounds)
-        .map_err(|why| format!("{}: {why}", asked.line()).into())
+        .map_err(|why| format!("{asked:?}: {why}").into())
 }
 
 /// How often both programs make a call, in turns.

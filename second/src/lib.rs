@@ -4,7 +4,7 @@
 //! - `making`: generating and damaging typelibs;
 //! - `library`: comparing through the static library (the calls themselves: `linked/`);
 //! - `line`: comparing through the command line, `xpt` and the listing program;
-//! - `floors`: the one table of what must come at least, with `tally`, which counts.
+//! - `tally`: the counts, and `floors.txt`, the one table of what must come at least.
 //!
 //! Where to add
 //!
@@ -21,44 +21,34 @@
 //!   `library/questions.rs`;
 //! - a command of `xpt`: its answer in `line/answers.rs`, a method of `Script`, and a story.
 
-pub mod floors;
 pub mod library;
 pub mod line;
 pub mod making;
 pub mod program;
 pub mod tally;
 
-use std::{process::ExitCode, sync::Mutex};
+use std::{collections::BTreeMap, process::ExitCode, sync::Mutex};
 
 /// Tells how a comparison ended.
 pub fn ended(good: std::io::Result<bool>) -> ExitCode {
     match good {
         Ok(true) => println!("no difference"),
-        Ok(false) => return ExitCode::FAILURE,
-        Err(error) => {
-            eprintln!("{error}");
-            return ExitCode::FAILURE;
-        }
+        Ok(false) => println!("too little was covered, or a difference was found"),
+        Err(ref error) => eprintln!("{error}"),
     }
-    ExitCode::SUCCESS
+    ExitCode::from(u8::from(!matches!(good, Ok(true))))
 }
 
 /// Gives each item to `task` on one of as many threads as there are cores; results in order.
 pub fn in_parallel<T: Send, R: Send>(items: Vec<T>, task: impl Fn(T) -> R + Sync) -> Vec<R> {
     let cores = std::thread::available_parallelism().map_or(1, |cores| cores.get());
-    let mut results: Vec<Option<R>> = Vec::new();
-    results.resize_with(items.len(), || None);
-    let (waiting, done) = (Mutex::new(items.into_iter().enumerate()), Mutex::new(&mut results));
+    let waiting = Mutex::new(items.into_iter().enumerate());
     let next = || waiting.lock().unwrap().next();
+    let work = || std::iter::from_fn(next).map(|(i, item)| (i, task(item))).collect::<Vec<_>>();
     std::thread::scope(|scope| {
-        for _ in 0..cores {
-            scope.spawn(|| {
-                while let Some((i, item)) = next() {
-                    let result = task(item);
-                    done.lock().unwrap()[i] = Some(result);
-                }
-            });
-        }
-    });
-    results.into_iter().map(|result| result.expect("every item is done")).collect()
+        let workers: Vec<_> = (0..cores).map(|_| scope.spawn(work)).collect();
+        let done = workers.into_iter().flat_map(|worker| worker.join().expect("it ends well"));
+        let in_order: BTreeMap<usize, R> = done.collect();
+        in_order.into_values().collect()
+    })
 }

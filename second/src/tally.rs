@@ -1,9 +1,8 @@
-//! Counts of what was compared, row by row, held against the floors.
+//! Counts of what was compared, row by row, held against the one table of floors: how often
+//! everything must come at least in a run, of any seed.
 
-use crate::floors;
-use std::collections::hash_map::DefaultHasher;
-use std::collections::{BTreeSet, HashMap, HashSet};
-use std::hash::{Hash, Hasher};
+use std::collections::{HashMap, HashSet};
+use std::hash::{DefaultHasher, Hash, Hasher};
 
 /// What a row is about, and what came.
 pub type Row = (&'static str, &'static str);
@@ -21,19 +20,9 @@ pub struct Came {
     pub way: Option<&'static str>,
 }
 
+/// How often a row came, and the different places, files and ways.
 #[derive(Default)]
-struct Counts {
-    count: usize,
-    places: HashSet<u64>,
-    files: HashSet<u64>,
-    ways: BTreeSet<&'static str>,
-}
-
-impl Counts {
-    fn numbers(&self) -> Numbers {
-        [self.count, self.places.len(), self.files.len(), self.ways.len()]
-    }
-}
+struct Counts(usize, [HashSet<u64>; 3]);
 
 /// The counts of one part of a run.
 pub struct Tally {
@@ -58,6 +47,34 @@ pub const REFUSED: &[&str] = numbered!("refused ", "");
 pub const REFUSAL: &[&str] = numbered!("refusal ", "");
 pub const LINK: &[&str] = numbered!("link ", "");
 
+/// What depends on the seed is set well below what came with twenty of them.
+const FLOORS: &str = include_str!("floors.txt");
+
+/// The floors of a part, in the table's order.
+pub fn floors(part: &str) -> Vec<(Row, Numbers)> {
+    let mut floors = Vec::new();
+    let mut is_part = false;
+    let mut group = ("", [0; 4]);
+    for line in FLOORS.lines().filter(|line| !line.starts_with('#')) {
+        if let Some(named) = line.strip_prefix('[') {
+            is_part = named.strip_suffix(']') == Some(part);
+        } else if is_part && !line.is_empty() {
+            let mut columns = line.split('|').map(str::trim).rev();
+            let whats = columns.next().unwrap_or("");
+            // A line without numbers goes on with the group before it.
+            if let (Some(numbers), Some(about)) = (columns.next(), columns.next()) {
+                group = (about, [0; 4]);
+                for (least, number) in group.1.iter_mut().zip(numbers.split_whitespace()) {
+                    *least = number.parse().unwrap_or_else(|_| panic!("no number: {line}"));
+                }
+            }
+            let whats = whats.strip_suffix(';').unwrap_or(whats).split(';').map(str::trim);
+            floors.extend(whats.map(|what| ((group.0, what), group.1)));
+        }
+    }
+    floors
+}
+
 /// Tells files and rows of files apart.
 pub fn hash(files: &[&[u8]]) -> u64 {
     let mut hasher = DefaultHasher::new();
@@ -72,7 +89,7 @@ impl Tally {
 
     /// Many at once, of which nothing else is known.
     pub fn add_many(&mut self, about: &'static str, what: &'static str, count: usize) {
-        self.rows.entry((about, what)).or_default().count += count;
+        self.rows.entry((about, what)).or_default().0 += count;
     }
 
     pub fn add(&mut self, about: &'static str, what: &'static str) {
@@ -84,11 +101,10 @@ impl Tally {
     }
 
     pub fn came(&mut self, about: &'static str, what: &'static str, came: Came) {
-        let row = self.rows.entry((about, what)).or_default();
-        row.count += 1;
-        row.places.extend(came.place);
-        row.files.extend(came.file);
-        row.ways.extend(came.way);
+        let way = came.way.map(|way| hash(&[way.as_bytes()]));
+        let Counts(count, seen) = self.rows.entry((about, what)).or_default();
+        *count += 1;
+        seen.iter_mut().zip([came.place, came.file, way]).for_each(|(seen, new)| seen.extend(new));
     }
 
     pub fn count(&self, about: &'static str, what: &'static str) -> usize {
@@ -96,17 +112,16 @@ impl Tally {
     }
 
     fn numbers(&self, row: &Row) -> Numbers {
-        self.rows.get(row).map_or([0; 4], Counts::numbers)
+        let of = |Counts(n, [a, b, c]): &Counts| [*n, a.len(), b.len(), c.len()];
+        self.rows.get(row).map_or([0; 4], of)
     }
 
     /// Adds what came elsewhere in the same part.
     pub fn join(&mut self, other: Tally) {
         for (row, more) in other.rows {
-            let counts = self.rows.entry(row).or_default();
-            counts.count += more.count;
-            counts.places.extend(more.places);
-            counts.files.extend(more.files);
-            counts.ways.extend(more.ways);
+            let Counts(count, seen) = self.rows.entry(row).or_default();
+            *count += more.0;
+            seen.iter_mut().zip(more.1).for_each(|(seen, more)| seen.extend(more));
         }
     }
 
@@ -118,12 +133,11 @@ impl Tally {
         floors.iter().filter(falls).map(|(row, _)| *row).collect()
     }
 
-    /// Whether every floor of the part is reached; if not the table is printed.
+    /// Prints the table, and whether every floor of the part is reached.
     pub fn is_enough(&self) -> bool {
-        let short = self.short(&floors::of(self.part));
-        if !short.is_empty() {
-            self.print();
-        }
+        let floors = floors(self.part);
+        self.print(&floors);
+        let short = self.short(&floors);
         for (about, what) in &short {
             println!("TOO FEW: {}, {about}, {what}", self.part);
         }
@@ -131,15 +145,14 @@ impl Tally {
     }
 
     /// Prints the table: rows with floors in their order, then the others.
-    pub fn print(&self) {
+    fn print(&self, floors: &[(Row, Numbers)]) {
         let [count, places, files, ways] = ["count", "places", "files", "ways"];
         println!("{:<20}{:<39}{count:>9}{places:>8}{files:>8}{ways:>6}   at least", self.part, "");
-        let floors = floors::of(self.part);
         let has_floor: HashSet<Row> = floors.iter().map(|(row, _)| *row).collect();
         let mut others: Vec<_> = self.rows.keys().filter(|row| !has_floor.contains(row)).collect();
         others.sort_unstable();
         let others = others.into_iter().map(|row| (*row, [0; 4]));
-        for (row, least) in floors.into_iter().chain(others) {
+        for (row, least) in floors.iter().copied().chain(others) {
             let [count, places, files, ways] = self.numbers(&row).map(|number| match number {
                 0 => String::new(),
                 number => number.to_string(),

@@ -10,6 +10,7 @@ use Rattle.words.specs.declared.Hex.{Hex}
 use Rattle.words.specs.declared.Hex.the-variants.{Whole, OtherLength, NotHex}
 use Rattle.words.specs.Numbers.{numberOf}
 use Rattle.words.specs.Digits.{hexOf, bytesOf}
+use Rattle.guids.specs.Forms.{plainOf}
 use Rattle.reader.specs.Reader.{decode, checkOf}
 use Rattle.lookup.specs.declared.Kind.{Kind}
 use Rattle.lookup.specs.declared.Kind.the-variants.{Getter, Setter, Plain}
@@ -66,9 +67,13 @@ spaceOf w = if sameWord w hyphen then [] else w
 unfoldable pub checkSaying : List ℕ → Saying
 checkSaying s = sayVerdict (checkOf s)
 
--- iid FILE HEX
+-- iid FILE HEX, where the digits stand alone
+unfoldable pub digitsSaying : List ℕ → List ℕ → Saying
+digitsSaying s hex = withHex (hexOf hex) (sayInterface (askIid (decode s) (bytesOf hex)))
+
+-- iid FILE HEX, also with hyphens and in braces
 unfoldable pub iidSaying : List ℕ → List ℕ → Saying
-iidSaying s hex = withHex (hexOf hex) (sayInterface (askIid (decode s) (bytesOf hex)))
+iidSaying s hex = digitsSaying s (plainOf hex)
 
 -- key FILE NAMESPACE NAME
 unfoldable pub keySaying : List ℕ → List ℕ → List ℕ → Saying

@@ -1,6 +1,6 @@
 // The line that answers each command about a file, at the front of a buffer.
 ghost use Rattle.sayings.specs.Sayings.{Says, sayMethod};
-ghost use Rattle.answers.specs.Commands.{checkSaying, iidSaying, keySaying, methodSaying, slotSaying, constantSaying, withSlot, withKind};
+ghost use Rattle.answers.specs.Commands.{checkSaying, digitsSaying, iidSaying, keySaying, methodSaying, slotSaying, constantSaying, withSlot, withKind};
 ghost use Rattle.reader.specs.Reader.{decode};
 ghost use Rattle.lookup.specs.Question.{askMethod, askSlot};
 ghost use Rattle.words.specs.Numbers.{numberOf};
@@ -20,9 +20,9 @@ pub fn check(file: &[u8], line: &mut [u8; 128]) -> Said
     }
 }
 
-// Interface by IID. Digits of another length are asked as no bytes, which is malformed too.
-pub fn iid(file: &[u8], hex: &[u8], line: &mut [u8; 128]) -> Said
-    ensures { λ r. ⌜ Says (iidSaying (now (file .entry)) (now (hex .entry))) (now (line .entry)) r (now (line .exit)) ⌝ }
+// Interface by an IID's digits. Those of another length are asked as no bytes, which is malformed too.
+fn of_digits(file: &[u8], hex: &[u8], line: &mut [u8; 128]) -> Said
+    ensures { λ r. ⌜ Says (digitsSaying (now (file .entry)) (now (hex .entry))) (now (line .entry)) r (now (line .exit)) ⌝ }
 {
     let mut bytes = [0u8; 16];
     match words::iid_bytes(hex, &mut bytes) {
@@ -33,6 +33,17 @@ pub fn iid(file: &[u8], hex: &[u8], line: &mut [u8; 128]) -> Said
             line,
         ),
     }
+}
+
+// Interface by IID: its digits, or these with hyphens, bare or in braces.
+pub fn iid(file: &[u8], hex: &[u8], line: &mut [u8; 128]) -> Said
+    ensures { λ r. ⌜ Says (iidSaying (now (file .entry)) (now (hex .entry))) (now (line .entry)) r (now (line .exit)) ⌝ }
+{
+    let mut digits = [0u8; 32];
+    if guids::plain(hex, &mut digits) {
+        return of_digits(file, &digits, line);
+    }
+    of_digits(file, hex, line)
 }
 
 // Interface by key; `-` is the default namespace, and so is an empty word.

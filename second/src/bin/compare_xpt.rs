@@ -5,8 +5,8 @@
 //!
 //! Without names of parts all are run. `long` runs with ten seeds.
 
-use second::line::{process::Program, run, PARTS};
-use std::{path::Path, process::ExitCode};
+use second::line::{run, PARTS};
+use std::{path::absolute, process::ExitCode};
 
 fn main() -> ExitCode {
     let mut arguments = std::env::args().skip(1);
@@ -24,5 +24,5 @@ fn main() -> ExitCode {
         }
     }
     let parts = if parts.is_empty() { PARTS.to_vec() } else { parts };
-    second::ended(Program::new(Path::new(&path)).and_then(|xpt| run(&xpt, &parts, seed, rounds)))
+    second::ended(absolute(path).and_then(|xpt| run(&xpt, &parts, seed, rounds)))
 }

@@ -36,27 +36,25 @@ fn add(lib: &mut Typelib, line: &str) {
     match words[..] {
         ["compiler", ref text @ ..] => {
             let text = text.join(" ").into_bytes();
-            lib.annotations = vec![Annotation::Texts(b"compiler".to_vec(), text)];
+            lib.annotations = vec![Some([b"compiler".to_vec(), text])];
         }
         ["entry", iid, namespace, name, ref parent @ ..] => {
             let iid = u128::from_str_radix(iid, 16).expect("an IID").to_be_bytes();
-            lib.entries.push(Entry { iid, ..Entry::new(0, name) });
-            let i = lib.entries.len() - 1;
-            lib.entries[i].set_key(namespace.trim_matches('-'), name);
-            for parent in parent {
-                let d = Descriptor { flags: SCRIPTABLE, ..Descriptor::below(number(parent)) };
-                lib.resolve(i, d);
-            }
+            let mut entry = Entry { iid, ..Entry::new(0, name) };
+            entry.set_key(namespace.trim_matches('-'), name);
+            let below = |parent| Descriptor { flags: SCRIPTABLE, ..Descriptor::below(parent) };
+            let parent = parent.first().map(|parent| number(parent));
+            entry.descriptor = parent.map(|parent| lib.add(below(parent)));
+            lib.entries.push(entry);
         }
         [how, name, ref more @ ..] => {
-            let (d, name) =
-                (lib.descriptors.last_mut().expect("a resolved entry"), name.as_bytes());
+            let (name, d) = (name.as_bytes(), lib.descriptors.last_mut().expect("an interface"));
             if how == "const" {
                 let (kind, value) = (number(more[0]) as u8, number(more[1]) as u32);
                 return d.constants.push(Constant::new(name, kind, value));
             }
-            let (arguments, result) =
-                (more.iter().map(argument).collect(), Parameter::simple(0, UINT32));
+            let arguments = more.iter().map(argument).collect();
+            let result = Parameter::simple(0, UINT32);
             d.methods.push(Method::new(of(&CALLS, how), name, arguments, result));
         }
         _ => {}
@@ -68,20 +66,21 @@ fn main() -> ExitCode {
         eprintln!("usage: console FOLDER");
         return ExitCode::FAILURE;
     };
-    let mut files = Vec::new();
+    let mut libs = Vec::new();
     for line in include_str!("console.txt").lines().filter(|line| !line.starts_with('#')) {
         match line.strip_prefix("file ") {
-            Some(name) => files.push((name, Typelib::default())),
-            None => files.last_mut().into_iter().for_each(|(_, lib)| add(lib, line)),
+            Some(name) => libs.push((name, Typelib::default())),
+            None => libs.last_mut().into_iter().for_each(|(_, lib)| add(lib, line)),
         }
     }
-    let mut files: Vec<_> = files.into_iter().map(|(name, lib)| (name, lib.bytes(), lib)).collect();
-    let (_, whole, mut old) = files.last().expect("the second supplier's").clone();
+    let mut old = libs.last().expect("the second supplier's").1.clone();
+    let whole = old.bytes();
     // The older analyser cannot be calibrated.
     old.descriptors[0].methods.pop();
-    files.push(("gas_old.xpt", old.bytes(), old.clone()));
-    files.push(("gas_torn.xpt", whole[..whole.len() * 2 / 3].to_vec(), old));
-    for (name, bytes, _) in files {
+    libs.push(("gas_old.xpt", old));
+    let mut files: Vec<_> = libs.into_iter().map(|(name, lib)| (name, lib.bytes())).collect();
+    files.push(("gas_torn.xpt", whole[..whole.len() * 2 / 3].to_vec()));
+    for (name, bytes) in files {
         let path = Path::new(&folder).join(name);
         if let Err(error) = std::fs::write(&path, bytes) {
             eprintln!("{}: {error}", path.display());

@@ -1,20 +1,16 @@
 //! Comparisons that can be made again: what is asked, the files it is asked of, and what a program
-//! answers. Where two differ the case is made smaller and kept in a folder; kept cases are replayed.
+//! answers. Where two differ the case is made smaller.
 
-use super::buffers::{lent, strayed, GUARD};
+use super::links::{lent, GUARD};
 use super::questions::{Found, Question, Reply};
-use super::{lists, shrink::shrink, Program, OWN};
+use super::{lists, Program, OWN};
 use crate::program::{link::LinkRefusal, questions::Kind, Answer, Refusal};
 use crate::tally::hash;
-use std::{fs, io, path::Path, path::PathBuf, time::Duration};
-
-/// Where differences are kept.
-pub const FOLDER: &str = concat!(env!("CARGO_MANIFEST_DIR"), "/cases");
+use std::time::{Duration, Instant};
 
 /// How long a difference may be made smaller.
 const PATIENCE: Duration = Duration::from_secs(20);
 
-/// Everything that is asked of one or more files.
 #[derive(Clone, Debug, PartialEq, Eq)]
 pub enum Asked {
     Check,
@@ -59,7 +55,7 @@ impl Case {
 
     fn told(&self, other: &Program) -> String {
         let [own, other] = [&OWN, other].map(|program| self.answer(program));
-        format!("this program: {own}\nthe other program: {other}\n")
+        format!("{:?}\nthis program: {own}\nthe other: {other}", self.asked)
     }
 }
 
@@ -70,33 +66,16 @@ pub fn shown(answer: Answer) -> String {
     }
 }
 
-/// Not the hash of the standard library, which may change: a case is kept for long.
-pub fn fnv(bytes: &[u8]) -> u64 {
-    let mix = |sum: u64, byte: &u8| (sum ^ u64::from(*byte)).wrapping_mul(0x100_0000_01b3);
-    bytes.iter().fold(0xcbf2_9ce4_8422_2325, mix)
-}
-
 /// What a buffer of this length holds before a call, and its guards.
 pub fn noise(room: usize) -> Vec<u8> {
     (0..room + 2 * GUARD).map(|i| (i * 7 + 13) as u8).collect()
 }
 
-/// What a program writes into a buffer of this length.
+/// What a program answers that writes into a buffer of this length, and what is in and around it.
 fn written(program: &Program, files: &[&[u8]], room: usize) -> String {
     let before = noise(room);
     let (answer, bytes) = lent(&before, room, |out| program.write(files, out));
-    let mut text = match answer {
-        Ok(length) if length <= room => {
-            format!("written {length} bytes, FNV-1a {:016x}", fnv(&bytes[GUARD..][..length]))
-        }
-        Ok(length) => format!("written {length} bytes"),
-        Err((0, refusal)) => shown(Err(refusal)),
-        Err((which, refusal)) => format!("{} of file {which}", shown(Err(refusal))),
-    };
-    if let Some(at) = strayed(&before, &bytes, answer.unwrap_or(0)) {
-        text.push_str(&format!(", but changed byte {at} of the buffer"));
-    }
-    text
+    format!("{answer:?}, bytes of hash {:016x}", hash(&[&bytes]))
 }
 
 impl Program {
@@ -124,58 +103,15 @@ impl Program {
     }
 }
 
-// What is asked as text, one line each.
-
-pub fn kind_word(kind: Kind) -> &'static str {
-    match kind {
-        Kind::Getter => "getter",
-        Kind::Setter => "setter",
-        Kind::Plain => "plain",
-    }
+pub fn kind_word(kind: Kind) -> String {
+    format!("{kind:?}").to_lowercase()
 }
 
-impl Asked {
-    /// How many files it is asked of.
-    fn files(&self) -> usize {
-        match self {
-            Asked::Link(_) => 2,
-            Asked::List(asked, _) => asked.files(),
-            _ => 1,
-        }
-    }
-
-    /// The line that `parse` reads.
-    pub fn line(&self) -> String {
-        match self {
-            Asked::Check => "check".to_string(),
-            Asked::Normal(room) => format!("normal {room}"),
-            Asked::Link(room) => format!("link {room}"),
-            Asked::Kind(index, name, kind) => format!("kind {index} {} {kind}", hex(name)),
-            Asked::List(asked, room) => format!("list {room} {}", asked.line()),
-            Asked::Question(question) => match question {
-                Question::Iid(iid) => format!("iid {}", hex(iid)),
-                Question::Key(space, name) => format!("key {} {}", hex(space), hex(name)),
-                Question::Method(index, name, kind) => {
-                    format!("method {index} {} {}", hex(name), kind_word(*kind))
-                }
-                Question::Slot(index, slot) => format!("slot {index} {slot}"),
-                Question::Constant(index, name) => format!("constant {index} {}", hex(name)),
-            },
-        }
-    }
-
-    pub fn parse(line: &str) -> Option<Asked> {
-        if let Some((room, asked)) = line.strip_prefix("list ").and_then(|l| l.split_once(' ')) {
-            return Some(Asked::List(Box::new(Asked::parse(asked)?), room.parse().ok()?));
-        }
+impl Question {
+    /// A question from its words, names in hexadecimal.
+    pub fn parse(line: &str) -> Option<Question> {
         let words: Vec<&str> = line.split(' ').collect();
-        let question = match words[..] {
-            ["check"] => return Some(Asked::Check),
-            ["normal", room] => return Some(Asked::Normal(room.parse().ok()?)),
-            ["link", room] => return Some(Asked::Link(room.parse().ok()?)),
-            ["kind", index, name, kind] => {
-                return Some(Asked::Kind(index.parse().ok()?, bytes(name)?, kind.parse().ok()?))
-            }
+        Some(match words[..] {
             ["iid", iid] => Question::Iid(bytes(iid)?),
             ["key", space, name] => Question::Key(bytes(space)?, bytes(name)?),
             ["method", index, name, kind] => {
@@ -185,98 +121,84 @@ impl Asked {
             ["slot", index, slot] => Question::Slot(index.parse().ok()?, slot.parse().ok()?),
             ["constant", index, name] => Question::Constant(index.parse().ok()?, bytes(name)?),
             _ => return None,
-        };
-        Some(Asked::Question(question))
+        })
     }
 }
 
-fn hex(bytes: &[u8]) -> String {
-    bytes.iter().map(|byte| format!("{byte:02x}")).collect()
-}
-
-fn bytes(hex: &str) -> Option<Vec<u8>> {
+/// Bytes from hexadecimal digits.
+pub fn bytes(hex: &str) -> Option<Vec<u8>> {
     let pairs = hex.as_bytes().chunks(2);
     pairs.map(|pair| u8::from_str_radix(std::str::from_utf8(pair).ok()?, 16).ok()).collect()
 }
 
-// Kept cases: a folder with the files 1.xpt, 2.xpt, .. and a text.
-
-const TEXT: &str = "case.txt";
-const QUESTION: &str = "question: ";
-const EXPECTED: &str = "expected: ";
-const UNDECIDED: &str = "to be decided by document 01";
-
-/// Tells of a difference, makes it smaller and keeps it.
-pub fn found(folder: &Path, made: &str, case: Case, other: &Program) {
-    let lengths: Vec<_> = case.files.iter().map(|file| file.len().to_string()).collect();
-    println!("DIFFERENCE on {} bytes ({made}), asked: {}", lengths.join(", "), case.asked.line());
-    print!("{}", case.told(other));
-    let of = |files: &Vec<Vec<u8>>| Case { asked: case.asked.clone(), files: files.clone() };
-    let small = match case.differs(other) {
-        true => of(&shrink(&case.files, PATIENCE, &|files| of(files).differs(other))),
-        // What is known from making a file says nothing of a smaller one.
-        false => case.clone(),
-    };
-    print!("made smaller:\n{}", small.told(other));
-    for file in small.files.iter().filter(|file| file.len() <= 4_096) {
-        println!("{}", hex(file));
+/// Tells of a difference, makes it smaller, and keeps its files.
+pub fn found(made: &str, case: Case, other: &Program) -> Case {
+    println!("DIFFERENCE ({made})\n{}", case.told(other));
+    let of = |files: &Files| Case { asked: case.asked.clone(), files: files.clone() };
+    let mut small = case.clone();
+    // What is known from making a file says nothing of a smaller one.
+    if case.differs(other) {
+        small = of(&shrink(&case.files, PATIENCE, &|files| of(files).differs(other)));
+        println!("made smaller:\n{}", small.told(other));
     }
-    match keep(folder, &small, other) {
-        Ok(path) => println!("kept as {}", path.display()),
-        Err(error) => println!("not kept: {error}"),
+    for (i, file) in (1..).zip(&small.files) {
+        let path = std::env::temp_dir().join(format!("second-difference-{i}.xpt"));
+        println!("kept in {}: {:?}", path.display(), std::fs::write(&path, file));
     }
+    small
 }
 
-/// Writes a case into a folder of its own and gives that.
-fn keep(folder: &Path, case: &Case, other: &Program) -> io::Result<PathBuf> {
-    let line = case.asked.line();
-    let word = line.split(' ').next().unwrap_or("case");
-    let files: Vec<&[u8]> = case.files.iter().map(|file| &file[..]).collect();
-    let path = folder.join(format!("{word}-{:08x}", hash(&files) as u32));
-    fs::create_dir_all(&path)?;
-    for (i, file) in files.iter().enumerate() {
-        fs::write(path.join(format!("{}.xpt", i + 1)), file)?;
-    }
-    let text = format!("{QUESTION}{line}\n{}{EXPECTED}{UNDECIDED}\n", case.told(other));
-    fs::write(path.join(TEXT), text)?;
-    Ok(path)
-}
+type Files = Vec<Vec<u8>>;
 
-/// Reads what `keep` wrote, perhaps with the expected answer put in.
-pub fn read(path: &Path) -> Result<(Case, String), String> {
-    let text = fs::read_to_string(path.join(TEXT)).map_err(|error| format!("{TEXT}: {error}"))?;
-    let field = |start: &str| text.lines().find_map(|line| line.strip_prefix(start));
-    let question = field(QUESTION).ok_or("no question")?;
-    let asked = Asked::parse(question).ok_or_else(|| format!("not a question: {question}"))?;
-    let file = |i: usize| {
-        let name = format!("{i}.xpt");
-        fs::read(path.join(&name)).map_err(|error| format!("{name}: {error}"))
-    };
-    let files = (1..=asked.files()).map(file).collect::<Result<_, _>>()?;
-    Ok((Case { asked, files }, field(EXPECTED).unwrap_or(UNDECIDED).to_string()))
-}
+/// A file without a range, or with zeros in it.
+type Edit = fn(&[u8], usize, usize) -> Vec<u8>;
 
-/// Why a kept case does not pass, if it does not.
-fn replayed((case, expected): (Case, String), other: &Program) -> Result<(), String> {
-    match case.differs(other) || case.answer(&OWN) != expected {
-        true => Err(format!("expected: {expected}\n{}", case.told(other))),
-        false => Ok(()),
-    }
-}
+const EDITS: [Edit; 3] = [
+    |file, from, to| {
+        let mut left = [&file[..from], &file[to..]].concat();
+        let length = (left.len() as u32).to_be_bytes();
+        if let Some(field) = left.get_mut(20..24) {
+            field.copy_from_slice(&length);
+        }
+        left
+    },
+    |file, from, to| [&file[..from], &file[to..]].concat(),
+    |file, from, to| [&file[..from], &vec![0; to - from], &file[to..]].concat(),
+];
 
-/// Replays the kept cases of a folder. Whether all are well.
-pub fn replay(folder: &Path, other: &Program) -> bool {
-    let entries = fs::read_dir(folder).into_iter().flatten().flatten();
-    let mut paths: Vec<_> =
-        entries.map(|entry| entry.path()).filter(|path| path.is_dir()).collect();
-    paths.sort();
-    let mut good = true;
-    for path in &paths {
-        if let Err(why) = read(path).and_then(|kept| replayed(kept, other)) {
-            println!("CASE {}: {why}", path.display());
-            good = false;
+/// The smallest files that were found in the time given: takes bytes out, or makes them zero, while
+/// the programs still differ.
+pub fn shrink(files: &Files, patience: Duration, differs: &dyn Fn(&Files) -> bool) -> Files {
+    let deadline = Instant::now() + patience;
+    let mut best = files.clone();
+    loop {
+        let before = size(&best);
+        for (i, edit) in (0..files.len()).flat_map(|i| EDITS.map(|edit| (i, edit))) {
+            let mut part = best[i].len().div_ceil(2);
+            while part > 0 {
+                // From the end, where bytes are needed least.
+                for from in (0..best[i].len()).step_by(part).rev() {
+                    let to = (from + part).min(best[i].len());
+                    let mut tried = best.clone();
+                    tried[i] = edit(&best[i], from, to);
+                    if size(&tried) < size(&best) && differs(&tried) {
+                        best = tried;
+                    }
+                    if Instant::now() > deadline {
+                        return best;
+                    }
+                }
+                part /= 2;
+            }
+        }
+        if size(&best) == before {
+            return best;
         }
     }
-    println!("{} kept cases replayed", paths.len());
-    good
+}
+
+/// What must fall: the bytes, then those that are not zero.
+fn size(files: &Files) -> (usize, usize) {
+    let bytes = files.iter().map(Vec::len).sum();
+    (bytes, files.iter().flatten().filter(|byte| **byte != 0).count())
 }

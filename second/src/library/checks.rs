@@ -19,14 +19,6 @@ pub struct Shares {
     shown: HashSet<u64>,
 }
 
-impl Shares {
-    /// Whether a place counts.
-    fn counts(&mut self, base: u64, Refusal { number, place }: Refusal) -> bool {
-        let places = self.places.entry((number, base)).or_default();
-        places.contains(&place) || places.len() < SHARE && places.insert(place)
-    }
-}
-
 /// Counts a file. Only files whose answer is known from how they were made count for the rows of
 /// refusals and shapes, and of those made from one file one for its shapes.
 pub fn count(tally: &mut Tally, shares: &mut Shares, made: &Made, answer: Answer) {
@@ -42,9 +34,11 @@ pub fn count(tally: &mut Tally, shares: &mut Shares, made: &Made, answer: Answer
     let came = Came { place: None, file: Some(made.base), way: Some(made.how) };
     tally.came("all", "files made on purpose", came);
     match answer {
-        Err(refusal) => {
-            let place = shares.counts(made.base, refusal).then_some(refusal.place as u64);
-            tally.came(REFUSAL[refusal.number as usize], "", Came { place, ..came });
+        Err(Refusal { number, place }) => {
+            let places = shares.places.entry((number, made.base)).or_default();
+            let counts = places.contains(&place) || places.len() < SHARE && places.insert(place);
+            let place = counts.then_some(place as u64);
+            tally.came(REFUSAL[number as usize], "", Came { place, ..came });
         }
         Ok(n) if shares.shown.insert(made.base) => {
             let came = Came { file: Some(hash(&[made.bytes])), ..came };
@@ -59,17 +53,12 @@ pub fn count(tally: &mut Tally, shares: &mut Shares, made: &Made, answer: Answer
     }
 }
 
-/// Runs over every generated file; stops at the first difference.
+/// Runs over every generated file.
 pub fn run(session: &mut Session) {
     let mut shares = Shares::default();
-    let mut lent = Vec::new();
     everything(session.seed, &mut |made: &Made| {
-        if session.differs {
-            return;
-        }
         let own = check(made.bytes);
-        lent.clear();
-        lent.extend_from_slice(made.bytes);
+        let lent = made.bytes.to_vec();
         let as_other = (session.other.check)(&lent) == own && lent == made.bytes;
         if let Some(known) = made.known.filter(|known| *known != own) {
             println!("from making the file: {}", shown(known));

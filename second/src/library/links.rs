@@ -1,7 +1,6 @@
 //! Normal forms and links of many files: answers, every byte of the buffers, and the laws of
 //! linking.
 
-use super::buffers::{lent, Room, GUARD, ROOMS};
 use super::{cases::Asked, Session, OWN};
 use crate::making::{builder::Typelib, damage, generate, hostile, model, pairs, rng::Rng, shape};
 use crate::program::{check::check, link::LinkRefusal, refusal, Refusal, MAX_FILE};
@@ -10,6 +9,8 @@ use std::collections::HashMap;
 
 /// What a call wrote, or its refusal.
 type Written = Result<Vec<u8>, LinkRefusal>;
+
+type What = &'static str;
 
 /// A file, with its model where it is accepted.
 struct File {
@@ -24,11 +25,45 @@ impl File {
     }
 }
 
-pub const FORWARD: &str = "first with second";
-pub const BACKWARD: &str = "second with first";
-const ORDERS: [&str; 2] = [FORWARD, BACKWARD];
+pub const ORDERS: [&str; 2] = ["first with second", "second with first"];
 
 const NORMAL: &[&str] = numbered!("normal ", "");
+
+/// A buffer's length by what is needed, which is not 0.
+pub type Room = (&'static str, fn(usize, &mut Rng) -> usize);
+
+/// Those that are the same for all files come last.
+const ROOMS: [Room; 9] = [
+    ("buffer empty", |_, _| 0),
+    ("buffer short by one", |needed, _| needed - 1),
+    ("buffer short", |needed, rng| rng.below(needed)),
+    ("buffer exact", |needed, _| needed),
+    ("buffer longer by one", |needed, _| needed + 1),
+    ("buffer longer", |needed, rng| needed + rng.range(2, 300)),
+    ("buffer much longer", |needed, rng| 2 * needed + rng.range(1_000, 20_000)),
+    ("buffer of 1,048,576", |_, _| MAX_FILE),
+    ("buffer of over 1,048,576", |_, rng| MAX_FILE + rng.range(1, 300)),
+];
+
+/// One that is too short, except where nothing is written.
+pub fn short(rng: &mut Rng) -> Room {
+    *rng.pick(&ROOMS[..3])
+}
+
+/// One that does.
+pub fn wide(rng: &mut Rng) -> Room {
+    *rng.pick(&ROOMS[3..7])
+}
+
+/// Bytes that stand before a buffer and after it.
+pub const GUARD: usize = 64;
+
+/// Calls with a buffer of `room` bytes, guards around it. The answer, and all bytes afterwards.
+pub fn lent<T>(before: &[u8], room: usize, call: impl FnOnce(&mut [u8]) -> T) -> (T, Vec<u8>) {
+    let mut bytes = before.to_vec();
+    let answer = call(&mut bytes[GUARD..GUARD + room]);
+    (answer, bytes)
+}
 
 struct Run<'s> {
     session: &'s mut Session,
@@ -53,24 +88,16 @@ fn numbered_by(answer: &Written) -> Option<u64> {
 }
 
 impl Run<'_> {
-    fn differs(&self) -> bool {
-        self.session.differs
-    }
-
-    fn add(&mut self, about: &'static str, what: &'static str) {
+    fn add(&mut self, about: What, what: What) {
         self.session.tally.add(about, what);
     }
 
-    fn came(&mut self, about: &'static str, what: &'static str, came: Came) {
+    fn came(&mut self, about: What, what: What, came: Came) {
         self.session.tally.came(about, what, came);
     }
 
     /// A file made by a generator. What it shows is counted.
-    fn file(&mut self, way: &'static str, lib: &Typelib) -> File {
-        self.of_bytes(way, lib.bytes())
-    }
-
-    fn of_bytes(&mut self, way: &'static str, bytes: Vec<u8>) -> File {
+    fn file(&mut self, way: What, bytes: Vec<u8>) -> File {
         let file = File::new(bytes);
         if let Ok(lib) = &file.model {
             let came = Came { way: Some(way), ..together(&[&file]) };
@@ -110,27 +137,19 @@ impl Run<'_> {
         })
     }
 
-    /// Counts a law of linking that holds. Files of which it does not are told of and kept: both
-    /// programs have answered alike, so that there is nothing to make smaller.
-    fn law(&mut self, law: &str, holds: bool, what: &'static str, files: &[&File], came: Came) {
-        match holds || self.differs() {
-            true => self.came("law", what, came),
-            false => {
-                println!("the law of {law} does not hold");
-                self.session.found(law, Asked::Link(MAX_FILE), &bytes(files));
-            }
+    /// Counts a law of linking that holds. Files of which it does not are told of: both programs
+    /// have answered alike, so that there is nothing to make smaller.
+    fn law(&mut self, law: &str, holds: bool, what: What, files: &[&File], came: Came) {
+        if !holds {
+            println!("the law of {law} does not hold");
+            self.session.found(law, Asked::Link(MAX_FILE), &bytes(files));
         }
+        self.came("law", what, came);
     }
 
     /// Counts a call with a buffer of this kind.
-    fn count_room(
-        &mut self,
-        about: &'static str,
-        files: &[&File],
-        (room, length): (&'static Room, usize),
-        answer: &Written,
-    ) {
-        self.add(about, room.name);
+    fn count_room(&mut self, about: What, files: &[&File], room: (What, usize), answer: &Written) {
+        self.add(about, room.0);
         let (whose, what) = match (files.len(), answer) {
             (1, Ok(_)) => ("normal form written", ""),
             (1, Err(_)) => ("normal form refused", "of a normal form"),
@@ -138,9 +157,9 @@ impl Run<'_> {
             (_, Err(_)) => ("link refused", "of a link"),
         };
         let came = together(files);
-        self.came(whose, room.name, Came { place: numbered_by(answer), ..came });
+        self.came(whose, room.0, Came { place: numbered_by(answer), ..came });
         match answer {
-            Ok(bytes) if bytes.len() < length => self.add(about, "bytes past the end kept"),
+            Ok(bytes) if bytes.len() < room.1 => self.add(about, "bytes past the end kept"),
             Err((_, Refusal { number: refusal::BUFFER, place })) => {
                 let came = Came { place: Some(*place as u64), ..came };
                 self.came(REFUSAL[refusal::BUFFER as usize], what, came);
@@ -150,62 +169,47 @@ impl Run<'_> {
     }
 
     /// One link with a buffer of this kind, which must be so long. What comes is told.
-    fn link(
-        &mut self,
-        order: &'static str,
-        files: [&File; 2],
-        needed: usize,
-        room: &'static Room,
-    ) -> Written {
-        let length = (room.length)(needed, &mut self.rng);
+    fn link(&mut self, order: What, files: [&File; 2], needed: usize, room: Room) -> Written {
+        let length = room.1(needed, &mut self.rng);
         let answer = self.call(&files, length);
-        let about = match &answer {
-            Ok(_) => "linked",
-            Err((0, refusal)) => LINK[refusal.number as usize],
-            Err(_) => "link, file",
+        let (about, place) = match &answer {
+            Ok(_) => ("linked", None),
+            Err((0, why)) => (LINK[why.number as usize], Some(why.place as u64)),
+            Err(_) => ("link, file", numbered_by(&answer)),
         };
-        match &answer {
-            Ok(_) => self.add(about, order),
-            Err((0, refusal)) => self.session.tally.add_at(about, order, refusal.place as u64),
-            Err((which, refusal)) => {
-                // The places are the numbers of the refusals here.
-                self.session.tally.add_at(about, order, refusal.number.into());
-                let whose = match (which, &files[1].model) {
-                    (1, Err(_)) => "both",
-                    (1, Ok(_)) => "the first",
-                    _ => "the second",
-                };
-                self.add(about, whose);
-                let came = Came { place: numbered_by(&answer), ..together(&files) };
-                self.came("file refused", whose, came);
-            }
+        self.came(about, order, Came { place, ..Came::default() });
+        if let Err((which @ 1.., _)) = answer {
+            let whose = match (which, &files[1].model) {
+                (1, Err(_)) => "both",
+                (1, Ok(_)) => "the first",
+                _ => "the second",
+            };
+            self.add(about, whose);
+            self.came("file refused", whose, Came { place, ..together(&files) });
         }
-        self.count_room(about, &files, (room, length), &answer);
+        self.count_room(about, &files, (room.0, length), &answer);
         answer
     }
 
     /// A pair in both orders, each with several buffers; and that swapping changes no more than
     /// it may.
-    fn pair(&mut self, made: &'static str, a: &File, b: &File) {
-        if self.differs() {
-            return;
-        }
+    fn pair(&mut self, made: What, a: &File, b: &File) {
         self.add("made", made);
         let came = Came { way: Some(made), ..together(&[a, b]) };
         self.came("all", "pairs of files", came);
-        let [one, two] = [(FORWARD, [a, b]), (BACKWARD, [b, a])].map(|(order, files)| {
+        let [one, two] = [(ORDERS[0], [a, b]), (ORDERS[1], [b, a])].map(|(order, files)| {
             let needed = self.needed(&files);
             let room = match self.rng.below(100) {
-                0 => &ROOMS[7],
-                1 => &ROOMS[8],
-                _ => Room::wide(&mut self.rng),
+                0 => ROOMS[7],
+                1 => ROOMS[8],
+                _ => wide(&mut self.rng),
             };
             let answer = self.link(order, files, needed, room);
-            let room = Room::short(&mut self.rng);
+            let room = short(&mut self.rng);
             let _ = self.link(order, files, needed, room);
             answer
         });
-        let (Ok(first), Ok(second), false) = (&a.model, &b.model, self.differs()) else { return };
+        let (Ok(first), Ok(second)) = (&a.model, &b.model) else { return };
         match (&one, &two) {
             (Err((which, one)), Err((other, two))) => {
                 let same = which == other && one.number == two.number;
@@ -233,19 +237,18 @@ impl Run<'_> {
     fn all_rooms(&mut self, a: &File, b: &File) {
         for (order, files) in ORDERS.into_iter().zip([[a, b], [b, a]]) {
             let needed = self.needed(&files);
-            for room in &ROOMS {
-                if !self.differs() {
-                    let _ = self.link(order, files, needed, room);
-                }
+            for room in ROOMS {
+                let _ = self.link(order, files, needed, room);
             }
         }
     }
 
     /// Both ways to group a triple end with the same bytes, or neither ends with any.
-    fn triple(&mut self, made: &'static str, room: usize, files: [&File; 3]) {
-        if self.differs() {
-            return;
-        }
+    ///
+    /// The files are in one of three orders; mostly the buffers are shorter and take less time.
+    fn triple(&mut self, made: What, round: usize, orders: [[&File; 3]; 3]) {
+        let room = if round.is_multiple_of(10) { MAX_FILE } else { 131_072 };
+        let files = orders[round % 3];
         let [a, b, c] = files;
         let left = self.call(&[a, b], room);
         let left = left.and_then(|ab| self.call(&[&File::new(ab), c], room));
@@ -261,9 +264,6 @@ impl Run<'_> {
 
     /// A file with itself and with an empty one: as normalising.
     fn self_and_empty(&mut self, a: &File) {
-        if self.differs() {
-            return;
-        }
         let room = *self.rng.pick(&[0, 36, 200, 2_000, 20_000, 20_000, MAX_FILE]);
         let normal = self.call(&[a], room);
         let empty = File::new(pairs::empty(&mut self.rng).bytes());
@@ -281,7 +281,7 @@ impl Run<'_> {
 
     /// Two files have the same normal form exactly where they mean the same.
     fn same_form(&mut self, a: &File, b: &File) {
-        let (Ok(first), Ok(second), false) = (&a.model, &b.model, self.differs()) else { return };
+        let (Ok(first), Ok(second)) = (&a.model, &b.model) else { return };
         let forms = (self.call(&[a], MAX_FILE / 4), self.call(&[b], MAX_FILE / 4));
         let (Ok(one), Ok(two)) = &forms else { return };
         let same = model::same_meaning(first, second);
@@ -290,41 +290,37 @@ impl Run<'_> {
     }
 
     /// A file's normal form, with several buffers.
-    fn normal(&mut self, file: &File, rooms: &[&'static Room]) {
-        if self.differs() {
-            return;
-        }
+    fn normal(&mut self, file: &File, rooms: &[Room]) {
         let needed = self.needed(&[file]);
         for room in rooms {
-            let length = (room.length)(needed, &mut self.rng);
+            let length = room.1(needed, &mut self.rng);
             let answer = self.call(&[file], length);
             let about = match &answer {
-                Ok(_) => "normal",
-                Err(_) if file.model.is_err() => "normal, file",
-                Err((_, refusal)) => NORMAL[refusal.number as usize],
-            };
-            match &answer {
                 Ok(bytes) => {
-                    self.add(about, "written");
+                    self.add("normal", "written");
                     if *bytes != file.bytes {
-                        self.add(about, "changed");
+                        self.add("normal", "changed");
                     }
+                    "normal"
                 }
                 Err((_, why)) if file.model.is_err() => {
-                    self.session.tally.add_at(about, "refused", why.number.into());
+                    self.session.tally.add_at("normal, file", "refused", why.number.into());
+                    "normal, file"
                 }
-                Err((_, Refusal { number: refusal::FORM_SIZE, place })) => {
-                    let came = Came { place: Some(*place as u64), ..together(&[file]) };
-                    self.came(REFUSAL[refusal::FORM_SIZE as usize], "of a normal form", came);
+                Err((_, why)) => {
+                    if why.number == refusal::FORM_SIZE {
+                        let came = Came { place: Some(why.place as u64), ..together(&[file]) };
+                        self.came(REFUSAL[why.number as usize], "of a normal form", came);
+                    }
+                    NORMAL[why.number as usize]
                 }
-                Err(_) => {}
-            }
-            self.count_room(about, &[file], (room, length), &answer);
+            };
+            self.count_room(about, &[file], (room.0, length), &answer);
         }
     }
 }
 
-/// Links and normalises many files; stops at the first difference.
+/// Links and normalises many files.
 pub fn run(session: &mut Session) {
     let seed = session.seed;
     let rng = &mut Rng::new(seed);
@@ -332,23 +328,21 @@ pub fn run(session: &mut Session) {
     let own = Rng::new(rng.number());
     let mut run = Run { session, rng: own, noise, scratch: vec![0; MAX_FILE] };
     edges(&mut run, rng);
-    for (made, a, b) in pairs::spread(rng) {
-        let (a, b) = (run.file(made, &a), run.file(made, &b));
+    for (made, files) in pairs::spread(rng) {
+        let [a, b] = files.map(|lib| run.file(made, lib.bytes()));
         run.pair(made, &a, &b);
     }
     for round in 0..3_000 {
-        if !run.differs() {
-            small(&mut run, rng, round);
-        }
+        small(&mut run, rng, round);
     }
     refused(&mut run, rng, seed);
 }
 
 /// Files and pairs about the greatest sizes.
 fn edges(run: &mut Run, rng: &mut Rng) {
-    let all = ROOMS.each_ref();
-    for (made, a, b) in [pairs::wide(rng), pairs::long()].concat() {
-        let (a, b) = (run.file(made, &a), run.file(made, &b));
+    let all = ROOMS;
+    for (made, files) in [pairs::wide(rng), pairs::long()].concat() {
+        let [a, b] = files.map(|lib| run.file(made, lib.bytes()));
         run.pair(made, &a, &b);
         run.all_rooms(&a, &b);
         run.normal(&a, &all);
@@ -356,9 +350,9 @@ fn edges(run: &mut Run, rng: &mut Rng) {
         run.self_and_empty(&a);
     }
     for n in 1..=16 {
-        let a = run.of_bytes("overlapping heads", generate::overlapping_heads(rng, n));
-        let b = run.of_bytes("names in descriptors", generate::names_in_descriptors(rng, 3 * n));
-        let c = run.file("wide", &generate::wide(rng, 40));
+        let a = run.file("overlapping heads", generate::overlapping_heads(rng, n));
+        let b = run.file("names in descriptors", generate::names_in_descriptors(rng, 3 * n));
+        let c = run.file("wide", generate::wide(rng, 40).bytes());
         for pair in [[&a, &b], [&a, &c], [&b, &c], [&a, &a]] {
             run.pair("records that overlap", pair[0], pair[1]);
         }
@@ -369,13 +363,13 @@ fn edges(run: &mut Run, rng: &mut Rng) {
     }
     // Little bytes, a long normal form.
     for n in 2..6 {
-        let file = run.of_bytes("records that many share", hostile::long_listing(n));
+        let file = run.file("records that many share", hostile::long_listing(n));
         run.normal(&file, &all);
     }
     for (made, files) in pairs::edge_triples() {
         let [a, b, c] = files.each_ref().map(|lib| File::new(lib.bytes()));
-        run.triple(made, MAX_FILE, [&a, &b, &c]);
-        run.triple(made, MAX_FILE, [&c, &a, &b]);
+        run.triple(made, 0, [[&a, &b, &c]; 3]);
+        run.triple(made, 0, [[&c, &a, &b]; 3]);
     }
 }
 
@@ -387,12 +381,11 @@ fn refused(run: &mut Run, rng: &mut Rng, seed: u64) {
     damage::everything(seed, &mut |made| {
         let counter = kinds.entry(made.how).or_default();
         *counter += 1;
-        let taken = *counter <= 3 || counter.is_multiple_of(701);
-        if !taken || run.differs() {
+        if *counter > 3 && !counter.is_multiple_of(701) {
             return;
         }
         let file = File::new(made.bytes.to_vec());
-        run.normal(&file, &[Room::short(rng), Room::wide(rng)]);
+        run.normal(&file, &[short(rng), wide(rng)]);
         let partner = File::new(pairs::view(&pairs::world(rng), rng).bytes());
         run.pair("with a file for the check", &file, &partner);
         let Err(Refusal { number, .. }) = file.model else { return };
@@ -402,33 +395,26 @@ fn refused(run: &mut Run, rng: &mut Rng, seed: u64) {
         *met += 1;
         if *met <= 3 {
             run.all_rooms(&file, &partner);
-            run.normal(&file, &ROOMS.each_ref());
+            run.normal(&file, &ROOMS);
         }
         last_refused = file;
     });
-}
-
-/// Files in one of three orders, and the buffers of a triple: mostly shorter ones, that take less
-/// time.
-fn triple(run: &mut Run, made: &'static str, round: usize, orders: [[&File; 3]; 3]) {
-    let room = if round.is_multiple_of(10) { MAX_FILE } else { 131_072 };
-    run.triple(made, room, orders[round % 3]);
 }
 
 /// Files of one small world, and conflicts between them.
 fn small(run: &mut Run, rng: &mut Rng, round: usize) {
     let world = pairs::world(rng);
     let views = [0; 3].map(|_| pairs::view(&world, rng));
-    let files = views.each_ref().map(|lib| run.file("view of a world", lib));
+    let files = views.each_ref().map(|lib| run.file("view of a world", lib.bytes()));
     let [a, b, c] = &files;
     run.pair("one world", a, b);
     for file in &files {
-        run.normal(file, &[Room::short(rng), Room::wide(rng)]);
+        run.normal(file, &[short(rng), wide(rng)]);
     }
     if round.is_multiple_of(2) {
-        triple(run, "one world", round, [[a, b, c]; 3]);
+        run.triple("one world", round, [[a, b, c]; 3]);
         run.self_and_empty(a);
-        let laid = run.file("laid out again", &pairs::relaid(&views[0], rng));
+        let laid = run.file("laid out again", pairs::relaid(&views[0], rng).bytes());
         run.same_form(a, &laid);
     }
     conflicts(run, rng, round, &views, &files);
@@ -442,39 +428,38 @@ fn conflicts(run: &mut Run, rng: &mut Rng, round: usize, views: &[Typelib; 3], f
     for _ in 0..5 {
         let mut other = views[1].clone();
         if let Some(made) = pairs::conflict(&views[0], &mut other, rng) {
-            let other = run.file("a conflict put in", &other);
+            let other = run.file("a conflict put in", other.bytes());
             run.pair(made, a, &other);
             conflicting.push(other);
         }
     }
     if let Some(other) = conflicting.first() {
-        triple(run, "a conflict", round, [[a, other, c], [other, c, a], [c, a, other]]);
+        run.triple("a conflict", round, [[a, other, c], [other, c, a], [c, a, other]]);
         run.same_form(b, other);
     }
     let mut other = views[1].clone();
     let put_in = (0..6).filter_map(|_| pairs::conflict(&views[0], &mut other, rng)).count();
     if put_in > 1 {
-        let other = run.file("two conflicts put in", &other);
+        let other = run.file("two conflicts put in", other.bytes());
         run.pair("two conflicts", a, &other);
     }
 }
 
 /// Chains that do not end in the union.
 fn chains(run: &mut Run, rng: &mut Rng, round: usize, c: &File) {
-    let (first, second) = pairs::endless(rng);
-    let (a, b) = (run.file("endless", &first), run.file("endless", &second));
+    let [mut first, mut second] = pairs::endless(rng);
+    let (a, b) = (run.file("endless", first.bytes()), run.file("endless", second.bytes()));
     run.pair("an endless chain", &a, &b);
     if round.is_multiple_of(4) {
-        triple(run, "an endless chain", round, [[&a, &b, c], [&a, c, &b], [c, &b, &a]]);
+        run.triple("an endless chain", round, [[&a, &b, c], [&a, c, &b], [c, &b, &a]]);
     }
-    let (mut first, mut second) = (first, second);
     if pairs::conflict(&first, &mut second, rng).is_some()
         || pairs::conflict(&second, &mut first, rng).is_some()
     {
-        let (a, b) = (run.file("endless", &first), run.file("endless", &second));
+        let (a, b) = (run.file("endless", first.bytes()), run.file("endless", second.bytes()));
         run.pair("an endless chain and a conflict", &a, &b);
     }
     // A family resolves what the other world only names, if keys meet at all.
-    let family = run.file("family", &generate::family(rng));
+    let family = run.file("family", generate::family(rng).bytes());
     run.pair("two worlds", &a, &family);
 }

@@ -1,14 +1,14 @@
 //! Answers as numbers in lists of every length, as include/saniotka.h tells them, and kinds of methods
 //! that there are not: what is returned, every number of the list and every byte of the buffer.
 
-use super::buffers::{lent, Room};
-use super::cases::{fnv, noise, Asked};
+use super::cases::{noise, Asked};
+use super::links::{lent, short, wide};
 use super::questions::{self, Found, Question, Reply};
 use super::{Program, Session, OWN};
 use crate::making::{builder::Typelib, damage, generate, model, rng::Rng};
 use crate::program::check::check;
 use crate::program::questions::{of, Constant, Kind, Lookup, Slot, MALFORMED};
-use crate::tally::Came;
+use crate::tally::{hash, Came};
 use std::fmt;
 
 /// Numbers that any answer fits in.
@@ -107,7 +107,7 @@ impl fmt::Display for Left {
                 number => write!(f, " {number}")?,
             }
         }
-        write!(f, ", buffer of FNV-1a {:016x}", fnv(&self.out))
+        write!(f, ", buffer of hash {:016x}", hash(&[&self.out]))
     }
 }
 
@@ -174,8 +174,8 @@ fn ask(session: &mut Session, rng: &mut Rng, bytes: &[u8], [own, lib]: [&Typelib
     let mut scratch = vec![0; 65_536];
     for files in [&[bytes][..], &[bytes, &second]] {
         let needed = OWN.write(files, &mut scratch).unwrap_or(1_000);
-        let room = if rng.percent(20) { Room::short(rng) } else { Room::wide(rng) };
-        let length = (room.length)(needed, rng);
+        let (_, room) = if rng.percent(20) { short(rng) } else { wide(rng) };
+        let length = room(needed, rng);
         asked.push(if files.len() == 1 { Asked::Normal(length) } else { Asked::Link(length) });
     }
     for asked in asked {
@@ -187,13 +187,10 @@ fn ask(session: &mut Session, rng: &mut Rng, bytes: &[u8], [own, lib]: [&Typelib
 
 /// Compares one call.
 fn one(session: &mut Session, asked: &Asked, files: &[&[u8]], room: usize, came: Came) {
-    if session.differs {
-        return;
-    }
     let own = call(&OWN, asked, files, room);
     if call(&session.other, asked, files, room) != own {
         let files = if matches!(asked, Asked::Link(_)) { files } else { &files[..1] };
-        return session.found("a list", Asked::List(Box::new(asked.clone()), room), files);
+        session.found("a list", Asked::List(Box::new(asked.clone()), room), files);
     }
     let tally = &mut session.tally;
     tally.add("all", "calls");
@@ -209,21 +206,18 @@ fn one(session: &mut Session, asked: &Asked, files: &[&[u8]], room: usize, came:
     }
 }
 
-/// Good files and damaged ones; stops at the first difference.
+/// Good files and damaged ones.
 pub fn run(session: &mut Session) {
     let rng = &mut Rng::new(session.seed);
     for file in 0..1_000 {
         let [own, other] = [0; 2].map(|_| generate::family(rng));
         let came = Came { file: Some(file), ..Came::default() };
         ask(session, rng, &own.bytes(), [&own, &other], came);
-        if session.differs {
-            return;
-        }
     }
     let mut counter = rng.below(797);
     damage::everything(session.seed, &mut |made| {
         counter += 1;
-        if !counter.is_multiple_of(797) || made.bytes.len() > 65_536 || session.differs {
+        if !counter.is_multiple_of(797) || made.bytes.len() > 65_536 {
             return;
         }
         let lib = generate::family(rng);

@@ -1,19 +1,17 @@
 //! Comparing through the library: its calls beside this program's, on all that is made.
 
-pub mod buffers;
 pub mod cases;
 pub mod checks;
 pub mod links;
 pub mod lists;
 pub mod questions;
-pub mod shrink;
 
 use crate::in_parallel;
 use crate::program::questions::{of as asked, Constant, Kind, Lookup, Method};
 use crate::program::{check, link::link, link::LinkRefusal, normal::normalise, Answer, Refusal};
 use crate::tally::Tally;
 use cases::{Asked, Case};
-use std::{path::Path, path::PathBuf, time::Instant};
+use std::{panic::panic_any, time::Instant};
 
 /// The calls of a program.
 #[derive(Clone, Copy)]
@@ -47,26 +45,14 @@ pub const OWN: Program = Program {
 pub struct Session {
     pub seed: u64,
     pub other: Program,
-    /// Where differences are kept.
-    pub folder: PathBuf,
     pub tally: Tally,
-    /// Whether a difference was found.
-    pub differs: bool,
 }
 
 impl Session {
-    pub fn new(part: &'static str, seed: u64, other: Program, folder: &Path) -> Session {
-        let (folder, tally) = (folder.to_path_buf(), Tally::new(part));
-        Session { seed, other, folder, tally, differs: false }
-    }
-
-    /// Tells of a difference, makes it smaller and keeps it.
-    pub fn found(&mut self, made: &str, asked: Asked, files: &[&[u8]]) {
-        if !self.differs {
-            let files = files.iter().map(|file| file.to_vec()).collect();
-            cases::found(&self.folder, made, Case { asked, files }, &self.other);
-        }
-        self.differs = true;
+    /// Tells of a difference, makes it smaller, and ends the part.
+    pub fn found(&self, made: &str, asked: Asked, files: &[&[u8]]) -> ! {
+        let files = files.iter().map(|file| file.to_vec()).collect();
+        panic_any(cases::found(made, Case { asked, files }, &self.other))
     }
 }
 
@@ -87,42 +73,32 @@ pub struct Chosen {
     pub rounds: u64,
 }
 
-/// Replays the kept cases, then runs the parts side by side; stops at the first difference. Whether
-/// all is well.
+/// Runs the parts with each seed. Whether enough came.
 pub fn run(chosen: &Chosen, other: Program) -> bool {
+    let mut seeds = (0..chosen.rounds).map(|round| chosen.seed.wrapping_add(round));
+    seeds.all(|seed| run_seed(chosen, seed, other))
+}
+
+/// Runs the parts side by side; each ends at its first difference.
+fn run_seed(chosen: &Chosen, seed: u64, other: Program) -> bool {
     let start = Instant::now();
-    println!("seed {}, rounds {}", chosen.seed, chosen.rounds);
-    let folder = Path::new(cases::FOLDER);
-    if !cases::replay(folder, &other) {
-        return false;
-    }
     let has = |name: &str| chosen.parts.is_empty() || chosen.parts.iter().any(|p| p == name);
     let parts: Vec<Part> = PARTS.into_iter().filter(|(name, ..)| has(name)).collect();
-    let mut whole: Vec<Tally> = parts.iter().map(|(name, ..)| Tally::new(name)).collect();
-    for seed in (0..chosen.rounds).map(|round| chosen.seed.wrapping_add(round)) {
-        let done = in_parallel(parts.clone(), |(name, part, _)| {
-            let (start, mut session) = (Instant::now(), Session::new(name, seed, other, folder));
-            part(&mut session);
-            (session, start.elapsed().as_secs_f64())
-        });
-        for (whole, (session, seconds)) in whole.iter_mut().zip(done) {
-            if session.differs || !session.tally.is_enough() {
-                println!("seed {seed} does not pass");
-                return false;
-            }
-            println!("{}, seed {seed}: {seconds:.1} s", session.tally.part);
-            whole.join(session.tally);
-        }
-    }
-    println!();
+    let is_whole = parts.len() == PARTS.len();
+    let done = in_parallel(parts, |(name, part, rows)| {
+        let start = Instant::now();
+        let mut session = Session { seed, other, tally: Tally::new(name) };
+        part(&mut session);
+        println!("{name}, seed {seed}: {:.1} s", start.elapsed().as_secs_f64());
+        (session.tally, rows)
+    });
     let mut all = Tally::new("compare");
-    for (tally, (.., rows)) in whole.iter().zip(&parts) {
-        tally.print();
-        let count = rows.iter().map(|row| tally.count("all", row)).sum();
-        all.add_many("all", "comparisons", count);
+    let mut good = true;
+    for (tally, rows) in &done {
+        good &= tally.is_enough();
+        all.add_many("all", "comparisons", rows.iter().map(|row| tally.count("all", row)).sum());
     }
-    let few = parts.len() == PARTS.len() && !all.is_enough();
-    all.print();
+    let enough = all.is_enough() || !is_whole;
     println!("{:.1} s in all", start.elapsed().as_secs_f64());
-    !few
+    good && enough
 }

@@ -26,9 +26,10 @@ pub enum Found {
 
 pub type Reply = Lookup<Found>;
 
-// Questions for a file, each with how it was made.
+type What = &'static str;
 
-type Made = (&'static str, Question);
+/// A question, with how it was made.
+type Made = (What, Question);
 
 /// What is wrong with a name, and with a namespace.
 const BAD: [[&str; 2]; 4] = [
@@ -109,51 +110,44 @@ fn key_question(lib: &Typelib, rng: &mut Rng) -> Made {
     let entry = rng.pick(&lib.entries);
     let space = entry.namespace.clone().unwrap_or_default();
     let name = entry.name.clone();
-    match rng.below(10) {
-        0..4 => ("an entry's key", Question::Key(space, name)),
+    let (made, space, name) = match rng.below(10) {
+        0..4 => ("an entry's key", space, name),
         4 => {
             let other = rng.pick(&lib.entries).namespace.clone().unwrap_or_default();
-            ("another namespace", Question::Key(other, name))
+            ("another namespace", other, name)
         }
-        5 if space.is_empty() => ("name as namespace", Question::Key(name.clone(), name)),
-        5 => ("namespace and name swapped", Question::Key(name, space)),
-        6 => ("nearly an entry's name", Question::Key(space, near_name(rng, &name))),
-        7 if !space.is_empty() => {
-            ("nearly a namespace", Question::Key(near_name(rng, &space), name))
-        }
-        8 => {
-            let good = if space.is_empty() { &name } else { &space };
-            let ([_, what], bad) = bad_name(rng, good);
-            let (space, name) = if bad.is_empty() { (space, bad) } else { (bad, name) };
-            (what, Question::Key(space, name))
-        }
+        5 if space.is_empty() => ("name as namespace", name.clone(), name),
+        5 => ("namespace and name swapped", name, space),
+        6 => ("nearly an entry's name", space, near_name(rng, &name)),
+        7 if !space.is_empty() => ("nearly a namespace", near_name(rng, &space), name),
+        8 => match bad_name(rng, if space.is_empty() { &name } else { &space }) {
+            ([_, what], bad) if bad.is_empty() => (what, space, bad),
+            ([_, what], bad) => (what, bad, name),
+        },
         _ => {
             let ([what, _], bad) = bad_name(rng, &name);
-            (what, Question::Key(space, bad))
+            (what, space, bad)
         }
-    }
+    };
+    (made, Question::Key(space, name))
 }
 
 /// An index and a name for a question about methods or constants: mostly one that stands in an entry
 /// which the chain passes, the farther ones no rarer than the near ones.
-fn named<'l, T>(
-    lib: &'l Typelib,
-    rng: &mut Rng,
-    held: fn(&'l Descriptor) -> &'l [T],
-) -> (u64, Option<&'l T>) {
+fn named<'l, T>(lib: &'l Typelib, rng: &mut Rng, of: Held<'l, T>) -> (u64, Option<&'l T>) {
     let index = rng.range(1, lib.entries.len());
-    let d = if rng.percent(70) {
-        let (resolved, _) = model::chain(lib, index);
-        (!resolved.is_empty()).then(|| model::descriptor(lib, *rng.pick(&resolved)))
-    } else {
-        (!lib.descriptors.is_empty()).then(|| rng.pick(&lib.descriptors))
+    let from: Vec<&Descriptor> = match rng.percent(70) {
+        true => model::chain(lib, index).0.iter().map(|i| model::descriptor(lib, *i)).collect(),
+        false => lib.descriptors.iter().collect(),
     };
-    let held = d.map(held).filter(|held| !held.is_empty());
-    (index as u64, held.map(|held| rng.pick(held)))
+    let held = if from.is_empty() { &[] } else { of(*rng.pick(&from)) };
+    (index as u64, (!held.is_empty()).then(|| rng.pick(held)))
 }
 
+type Held<'l, T> = fn(&'l Descriptor) -> &'l [T];
+
 /// The name itself for the most part.
-fn name(rng: &mut Rng, [own, near]: [&'static str; 2], name: &[u8]) -> (&'static str, Vec<u8>) {
+fn name(rng: &mut Rng, [own, near]: [What; 2], name: &[u8]) -> (What, Vec<u8>) {
     match rng.below(20) {
         0 => {
             let ([what, _], name) = bad_name(rng, name);
@@ -170,10 +164,8 @@ fn method_question(lib: &Typelib, rng: &mut Rng) -> Made {
         let name = generate::identifier(rng, 3);
         return ("any name", Question::Method(index, name, *rng.pick(&Kind::ALL)));
     };
-    let mut kind = *Kind::ALL.iter().find(|kind| kind.is(method.flags)).unwrap();
-    if rng.percent(20) {
-        kind = *rng.pick(&Kind::ALL);
-    }
+    let own = *Kind::ALL.iter().find(|kind| kind.is(method.flags)).unwrap();
+    let kind = if rng.percent(20) { *rng.pick(&Kind::ALL) } else { own };
     let (what, name) = name(rng, ["a method's name", "nearly a method's name"], &method.name);
     (what, Question::Method(index, name, kind))
 }
@@ -227,8 +219,6 @@ pub fn question(lib: &Typelib, rng: &mut Rng, turn: usize) -> Made {
     }
 }
 
-// The run.
-
 /// A file to be asked.
 struct File<'f> {
     bytes: &'f [u8],
@@ -240,19 +230,14 @@ struct File<'f> {
 
 /// Asks questions of a file, a kind in turn.
 fn ask(session: &mut Session, rng: &mut Rng, file: &File, count: usize) {
-    let mut lent = file.bytes.to_vec();
+    let lent = file.bytes.to_vec();
     for turn in 0..count {
         let (made, question) = question(file.lib, rng, turn);
-        if session.differs {
-            return;
-        }
         let own = OWN.ask(file.bytes, &question);
         if session.other.ask(&lent, &question) != own || lent != file.bytes {
             session.found(made, Asked::Question(question), &[file.bytes]);
-            lent = file.bytes.to_vec();
-        } else {
-            self::count(&mut session.tally, file, made, &question, own);
         }
+        self::count(&mut session.tally, file, made, &question, own);
     }
 }
 
@@ -278,6 +263,9 @@ fn about(question: &Question) -> (&'static str, Option<u64>) {
         Question::Constant(index, _) => ("constant", Some(*index)),
     }
 }
+
+const UP: [What; 4] =
+    ["found in the interface itself", "found 1 up", "found 2 up", "found 3 or more up"];
 
 fn count(tally: &mut Tally, file: &File, made: &'static str, question: &Question, reply: Reply) {
     let (about, asked) = about(question);
@@ -306,11 +294,7 @@ fn count(tally: &mut Tally, file: &File, made: &'static str, question: &Question
         }
         Lookup::Found(found) => {
             count_found(&mut row, question, found);
-            let far =
-                ["found in the interface itself", "found 1 up", "found 2 up", "found 3 or more up"];
-            if let Some(up) = steps(file.lib, question, found) {
-                row(far[up.min(3)], None);
-            }
+            steps(file.lib, question, found).into_iter().for_each(|up| row(UP[up.min(3)], None));
         }
     }
     row(made, None);
@@ -325,28 +309,24 @@ fn count_found(row: &mut impl FnMut(&'static str, Option<u64>), question: &Quest
         Found::Interface(index) => row("found", Some(index as u64)),
         Found::Method(Place { owner, slot, .. }) => {
             row("found", Some(owner as u64));
-            let (what, alone, place) = match slot {
-                Slot::Known(slot) => ("found, slot known", "slot known", slot),
-                Slot::Undetermined(index) => {
-                    ("found, slot undetermined", "slot undetermined", index as u64)
-                }
+            let (what, slot) = match slot {
+                Slot::Known(slot) => ("found, slot known", slot),
+                Slot::Undetermined(index) => ("found, slot undetermined", index as u64),
             };
             row(what, None);
-            row(alone, Some(place));
+            row(&what["found, ".len()..], Some(slot));
         }
         Found::Constant(value) => {
-            let (what, kind, high, is_high) = match value {
-                Value::I16(v) => ("found, i16", "i16", "i16 negative", v < 0),
-                Value::I32(v) => ("found, i32", "i32", "i32 negative", v < 0),
-                Value::U16(v) => ("found, u16", "u16", "u16 of 32,768 or more", v >= 1 << 15),
-                Value::U32(v) => {
-                    ("found, u32", "u32", "u32 of 2,147,483,648 or more", v >= 1 << 31)
-                }
+            let (what, high, is_high) = match value {
+                Value::I16(v) => ("found, i16", "i16 negative", v < 0),
+                Value::I32(v) => ("found, i32", "i32 negative", v < 0),
+                Value::U16(v) => ("found, u16", "u16 of 32,768 or more", v >= 1 << 15),
+                Value::U32(v) => ("found, u32", "u32 of 2,147,483,648 or more", v >= 1 << 31),
             };
             let number = Some(value.value() as u64);
             row("found", None);
             row(what, None);
-            row(kind, number);
+            row(&what["found, ".len()..], number);
             if is_high {
                 row(high, number);
             }
@@ -362,7 +342,7 @@ fn count_found(row: &mut impl FnMut(&'static str, Option<u64>), question: &Quest
     }
 }
 
-/// Asks questions of many files; stops at the first difference.
+/// Asks questions of many files.
 pub fn run(session: &mut Session) {
     let rng = &mut Rng::new(session.seed);
     // Families and other good files: the model is known before the bytes are.
@@ -373,7 +353,7 @@ pub fn run(session: &mut Session) {
             2 => (pairs::view(&pairs::world(rng), rng), "view of a world"),
             _ => (generate::family(rng), "family"),
         };
-        good(session, rng, way, &lib.bytes(), &lib, 50);
+        good(session, rng, way, (&lib.bytes(), &lib), 50);
     }
     damaged(session, rng);
     // Large files and files whose records overlap.
@@ -386,7 +366,7 @@ pub fn run(session: &mut Session) {
     large.push((hostile::ordinary(), "an ordinary file"));
     large.extend(hostile::chains().map(|chain| (chain, "a chain of 1,024")));
     for (bytes, way) in large {
-        good(session, rng, way, &bytes, &model::read(&bytes), 40);
+        good(session, rng, way, (&bytes, &model::read(&bytes)), 40);
     }
 }
 
@@ -394,16 +374,15 @@ pub fn run(session: &mut Session) {
 fn good(
     session: &mut Session,
     rng: &mut Rng,
-    way: &'static str,
-    bytes: &[u8],
-    lib: &Typelib,
-    count: usize,
+    way: What,
+    (bytes, lib): (&[u8], &Typelib),
+    n: usize,
 ) {
     let came = Came { place: None, file: Some(hash(&[bytes])), way: Some(way) };
     for shape in shape::shapes(bytes, lib) {
         session.tally.came("shape", shape, came);
     }
-    ask(session, rng, &File { bytes, is_accepted: true, lib, came }, count);
+    ask(session, rng, &File { bytes, is_accepted: true, lib, came }, n);
 }
 
 /// Some of the files for the check, most of them refused: the file's refusal comes before a
@@ -413,7 +392,7 @@ fn damaged(session: &mut Session, rng: &mut Rng) {
     let stranger = generate::family(rng);
     everything(session.seed, &mut |made| {
         counter += 1;
-        if !counter.is_multiple_of(97) || session.differs {
+        if !counter.is_multiple_of(97) {
             return;
         }
         let read = check(made.bytes).map(|_| model::read(made.bytes));

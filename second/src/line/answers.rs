@@ -1,5 +1,6 @@
 //! What each command of `xpt` must answer, by this program's functions, and a question's words.
 
+use super::iids;
 use crate::library::{cases::kind_word, cases::shown, questions::Found, questions::Question, OWN};
 use crate::making::rng::Rng;
 use crate::program::questions::{Constant, Lookup, Method, Slot};
@@ -8,18 +9,39 @@ use std::sync::Arc;
 
 pub type Bytes = Arc<[u8]>;
 
-/// What stands on standard output before a newline.
-#[derive(Clone, Debug, Default)]
-pub struct Answer {
-    /// Nothing where only an error will do. Lines of a listing have their newlines; in a batch they
-    /// are bars.
+pub type Words = Vec<Vec<u8>>;
+
+/// A command's answer and what else comes of it.
+#[derive(Default)]
+pub struct Outcome {
+    /// What stands on standard output before a newline. Nothing where only an error will do. Lines
+    /// of a listing have their newlines; in a batch they are bars.
     pub text: Option<Vec<u8>>,
     /// Whether one line that starts with `error ` will do: where it cannot be asked, and where the
     /// papers leave open whether it can.
     pub or_error: bool,
+    /// The row of the table that it counts for.
+    pub what: &'static str,
+    /// With the file that it is about, 1 or 2; 0 for a link's own.
+    pub refusal: Option<(u8, Refusal)>,
+    /// What the output holds from then on; nothing where it is left as it is.
+    pub written: Option<Bytes>,
 }
 
-impl Answer {
+impl Outcome {
+    fn line(what: &'static str, text: impl Into<Vec<u8>>) -> Outcome {
+        Outcome { text: Some(text.into()), what, ..Outcome::default() }
+    }
+
+    pub fn error(what: &'static str) -> Outcome {
+        Outcome { or_error: true, what, ..Outcome::default() }
+    }
+
+    fn refused(what: &'static str, refusal: Refusal) -> Outcome {
+        let line = Outcome::line(what, shown(Err(refusal)));
+        Outcome { refusal: Some((1, refusal)), ..line }
+    }
+
     /// The first line of what was printed, and the rest, if it is this answer.
     pub fn eat<'p>(&self, printed: &'p [u8], alone: bool) -> Option<(&'p [u8], &'p [u8])> {
         let is_error = self.or_error && printed.starts_with(b"error ");
@@ -32,35 +54,6 @@ impl Answer {
             None => is_error.then(|| printed.iter().position(|byte| *byte == b'\n'))??,
         };
         (printed.get(end) == Some(&b'\n')).then(|| (&printed[..end], &printed[end + 1..]))
-    }
-}
-
-/// An answer with what else comes of the command.
-#[derive(Default)]
-pub struct Outcome {
-    pub answer: Answer,
-    /// The row of the table that it counts for.
-    pub what: &'static str,
-    /// With the file that it is about, 1 or 2; 0 for a link's own.
-    pub refusal: Option<(u8, Refusal)>,
-    /// What the output holds then.
-    pub written: Option<Bytes>,
-}
-
-impl Outcome {
-    pub fn line(what: &'static str, text: impl Into<Vec<u8>>) -> Outcome {
-        let answer = Answer { text: Some(text.into()), or_error: false };
-        Outcome { answer, what, ..Outcome::default() }
-    }
-
-    pub fn error(what: &'static str) -> Outcome {
-        let answer = Answer { text: None, or_error: true };
-        Outcome { answer, what, ..Outcome::default() }
-    }
-
-    fn refused(what: &'static str, refusal: Refusal) -> Outcome {
-        let line = Outcome::line(what, shown(Err(refusal)));
-        Outcome { refusal: Some((1, refusal)), ..line }
     }
 }
 
@@ -83,26 +76,22 @@ pub fn listed(file: &[u8]) -> Outcome {
 /// Normalises one file or links two.
 pub fn written(files: &[&[u8]]) -> Outcome {
     let mut room = vec![0; MAX_FILE];
-    let (which, refusal) = match OWN.write(files, &mut room) {
-        Ok(length) => {
+    match (files.len(), OWN.write(files, &mut room)) {
+        (_, Ok(length)) => {
             let line = Outcome::line("written", format!("written {length}"));
-            return Outcome { written: Some(room[..length].into()), ..line };
+            Outcome { written: Some(room[..length].into()), ..line }
         }
-        Err(refused) => refused,
-    };
-    let what = match (files.len(), which) {
-        (1, _) if refusal.number == refusal::FORM_SIZE => "refused 26",
-        (1, _) => "file refused",
-        (_, 0) => "refused 21 to 26",
-        (_, 1) => "first file refused",
-        _ => "second file refused",
-    };
-    if files.len() == 1 {
-        return Outcome::refused(what, refusal);
+        (1, Err((_, why))) if why.number == refusal::FORM_SIZE => {
+            Outcome::refused("refused 26", why)
+        }
+        (1, Err((_, why))) => Outcome::refused("file refused", why),
+        (_, Err((which, why))) => {
+            let whats = ["refused 21 to 26", "first file refused", "second file refused"];
+            let text = format!("refused {which} {} {}", why.number, why.place);
+            let line = Outcome::line(whats[usize::from(which)], text);
+            Outcome { refusal: Some((which, why)), ..line }
+        }
     }
-    let Refusal { number, place } = refusal;
-    let line = Outcome::line(what, format!("refused {which} {number} {place}"));
-    Outcome { refusal: Some((which, refusal)), ..line }
 }
 
 pub fn asked(file: &[u8], question: &Question) -> Outcome {
@@ -139,12 +128,8 @@ pub fn asked(file: &[u8], question: &Question) -> Outcome {
 fn hex(bytes: &[u8], rng: &mut Rng) -> Vec<u8> {
     let text: String = bytes.iter().map(|byte| format!("{byte:02x}")).collect();
     let case = rng.below(3);
-    let digit = |digit: u8| match case {
-        0 => digit,
-        1 => digit.to_ascii_uppercase(),
-        _ if rng.percent(50) => digit.to_ascii_uppercase(),
-        _ => digit,
-    };
+    let mut is_upper = || case == 1 || case == 2 && rng.percent(50);
+    let digit = |digit: u8| if is_upper() { digit.to_ascii_uppercase() } else { digit };
     text.into_bytes().into_iter().map(digit).collect()
 }
 
@@ -159,15 +144,15 @@ fn decimal(number: u64, rng: &mut Rng) -> Vec<u8> {
 }
 
 /// The command that asks, and the words after the file's.
-pub fn question_words(question: &Question, rng: &mut Rng) -> (&'static str, Vec<Vec<u8>>) {
+pub fn question_words(question: &Question, rng: &mut Rng) -> (&'static str, Words) {
     match question {
-        Question::Iid(iid) => ("iid", vec![hex(iid, rng)]),
+        Question::Iid(iid) => ("iid", vec![iids::spelled(hex(iid, rng), rng)]),
         Question::Key(space, name) => {
             let space = if space.is_empty() { b"-" } else { &space[..] };
             ("key", vec![space.to_vec(), name.clone()])
         }
         Question::Method(index, name, kind) => {
-            ("method", vec![decimal(*index, rng), name.clone(), kind_word(*kind).into()])
+            ("method", vec![decimal(*index, rng), name.clone(), kind_word(*kind).into_bytes()])
         }
         Question::Slot(index, slot) => ("slot", vec![decimal(*index, rng), decimal(*slot, rng)]),
         Question::Constant(index, name) => ("const", vec![decimal(*index, rng), name.clone()]),

@@ -1,75 +1,29 @@
 //! Runs a script's commands by the program that is compared, in a batch or each alone, and holds
 //! what comes of them against what must come.
 
-use super::script::{Law, Script, Step, Told, SUBFOLDER};
-use super::{answers::Bytes, process::Program, process::Ran};
+use super::process::{self, Ran};
+use super::script::{Files, Script, Step, Told, SUBFOLDER};
 use crate::program::format::refusal::is_of_file;
-use crate::tally::Tally;
-use std::{collections::BTreeMap, fs, io, path::Path};
-
-/// What differs, with the files that show it.
-#[derive(Debug)]
-pub struct Difference {
-    pub text: String,
-    pub files: Vec<(String, Vec<u8>)>,
-}
-
-impl From<io::Error> for Difference {
-    fn from(error: io::Error) -> Difference {
-        Difference { text: format!("the comparison failed: {error}"), files: Vec::new() }
-    }
-}
+use crate::tally::{Came, Tally};
+use std::{fs, io, path::Path};
 
 /// So much of a text is told.
 const SHOWN: usize = 600;
 
-/// So many commands of the same story are told.
-const STORY: usize = 20;
-
-fn shown(bytes: &[u8]) -> String {
-    let start = &bytes[..bytes.len().min(SHOWN)];
-    format!("{}{}", start.escape_ascii(), if start.len() < bytes.len() { ".." } else { "" })
-}
-
-impl Difference {
-    /// With the story up to the step, and the files that it read.
-    fn new(what: &str, script: &Script, step: &Step) -> Difference {
-        let mut text = what.to_string();
-        let before = script.story_before(step);
-        for step in before[before.len().saturating_sub(STORY)..].iter().chain([step]) {
-            text += &format!("\n  command:  {}", shown(&step.line()));
-        }
-        let kept =
-            |(i, (_, bytes)): (usize, &(_, Bytes))| (format!("{}.xpt", i + 1), bytes.to_vec());
-        Difference { text, files: step.reads.iter().enumerate().map(kept).collect() }
+/// What differs at a command, and the bytes that show it.
+fn difference(what: &str, step: Option<&Step>, shown: &[(&str, Option<&[u8]>)]) -> io::Error {
+    let line = step.map(Step::line);
+    let mut text = format!("DIFFERENCE: {what}");
+    for (name, bytes) in [("command", line.as_deref())].iter().chain(shown) {
+        let start = bytes.map(|bytes| bytes[..bytes.len().min(SHOWN)].escape_ascii());
+        text.extend(start.map(|start| format!("\n  {name}: {start}")));
     }
-
-    fn with(mut self, name: &str, bytes: Option<&[u8]>) -> Difference {
-        if let Some(bytes) = bytes {
-            self.text += &format!("\n  {name}: {}", shown(bytes));
-            self.files.push((name.to_string(), bytes.to_vec()));
-        }
-        self
-    }
-}
-
-// The folder.
-
-/// Makes the folder as it is at the start.
-fn lay_out(script: &Script) -> io::Result<()> {
-    fs::create_dir_all(script.folder.join(SUBFOLDER))?;
-    for (path, bytes) in &script.files {
-        fs::write(script.folder.join(path), bytes)?;
-    }
-    for (path, target) in &script.links {
-        std::os::unix::fs::symlink(target, script.folder.join(path))?;
-    }
-    Ok(())
+    io::Error::other(text)
 }
 
 /// Every file of the folder by its path, without symbolic links.
-fn found(folder: &Path, under: &str) -> io::Result<BTreeMap<String, Vec<u8>>> {
-    let mut files = BTreeMap::new();
+fn found(folder: &Path, under: &str) -> io::Result<Files> {
+    let mut files = Files::new();
     for entry in fs::read_dir(folder)? {
         let entry = entry?;
         let path = format!("{under}{}", entry.file_name().to_string_lossy());
@@ -77,49 +31,41 @@ fn found(folder: &Path, under: &str) -> io::Result<BTreeMap<String, Vec<u8>>> {
         if kind.is_dir() {
             files.extend(found(&entry.path(), &format!("{path}/"))?);
         } else if kind.is_file() {
-            files.insert(path, fs::read(entry.path())?);
+            files.insert(path, fs::read(entry.path())?.into());
         }
     }
     Ok(files)
 }
 
 /// That the folder has just these files; `steps` are those before.
-fn folder_stands(
-    script: &Script,
-    expected: &BTreeMap<String, Bytes>,
-    steps: &[&Step],
-) -> Result<(), Difference> {
-    let found = found(&script.folder, "")?;
-    let must = |path: &String| expected.get(path).map(|bytes| &bytes[..]);
+fn folder_stands(folder: &Path, files: &Files, steps: &[&Step]) -> io::Result<()> {
+    let found = found(folder, "")?;
+    let must = |path: &String| files.get(path).map(|bytes| &bytes[..]);
     let is = |path: &String| found.get(path).map(|bytes| &bytes[..]);
-    let Some(path) = expected.keys().chain(found.keys()).find(|path| must(path) != is(path)) else {
+    let Some(path) = files.keys().chain(found.keys()).find(|path| must(path) != is(path)) else {
         return Ok(());
     };
     let about = |step: &&&Step| step.out.as_ref() == Some(path);
-    let step = steps.iter().rfind(about).or(steps.last()).expect("a step");
-    let difference = Difference::new(&format!("a file is otherwise: {path}"), script, step);
-    Err(difference.with("expected", must(path)).with("found", is(path)))
+    let step = steps.iter().rfind(about).or(steps.last()).copied();
+    let shown = [("expected", must(path)), ("found", is(path))];
+    Err(difference(&format!("a file is otherwise: {path}"), step, &shown))
 }
 
 /// The laws of linking, on the files that were written.
-fn laws_hold(script: &Script, tally: &mut Tally) -> Result<(), Difference> {
-    for Law { same, absent, files } in &script.laws {
+fn laws_hold(script: &Script, tally: &mut Tally) -> io::Result<()> {
+    for ([same, absent], files) in &script.laws {
         let [left, right] = files.each_ref().map(|name| fs::read(script.folder.join(&name.path)));
         match (left.ok(), right.ok()) {
             (Some(left), Some(right)) if left == right => tally.add("law", same),
             (None, None) => tally.add("law", absent),
             (left, right) => {
-                let text = format!("a law does not hold: {same}");
-                let difference = Difference { text, files: Vec::new() };
-                let difference = difference.with("left", left.as_deref());
-                return Err(difference.with("right", right.as_deref()));
+                let shown = [("left", left.as_deref()), ("right", right.as_deref())];
+                return Err(difference(&format!("a law does not hold: {same}"), None, &shown));
             }
         }
     }
     Ok(())
 }
-
-// What is printed.
 
 /// Whether a line tells the refusal's number and names the file; of a file's own also the byte.
 pub fn tells(line: &[u8], (refusal, files): &Told) -> bool {
@@ -139,22 +85,17 @@ pub fn tells(line: &[u8], (refusal, files): &Told) -> bool {
 
 /// That every step is answered as it must be, in order, and no more is printed: on standard error
 /// a line for every refusal, and at most one for every error beside.
-fn answers_stand(
-    script: &Script,
-    steps: &[&Step],
-    ran: &Ran,
-    tally: &mut Tally,
-) -> Result<(), Difference> {
+fn answers_stand(steps: &[&Step], ran: &Ran, alone: bool, tally: &mut Tally) -> io::Result<()> {
     let mut printed = &ran.stdout[..];
     let mut told = ran.stderr.split_inclusive(|byte| *byte == b'\n');
     let mut others_allowed = 0;
     for step in steps {
-        let Some((line, rest)) = step.answer.eat(printed, script.alone) else {
-            let line = printed.split(|byte| *byte == b'\n').next().unwrap_or(b"");
+        let Some((line, rest)) = step.outcome.eat(printed, alone) else {
+            let line = printed.split(|byte| *byte == b'\n').next();
             let ended = ran.broken.as_ref().map(|how| how.as_bytes());
-            let difference = Difference::new("answered otherwise", script, step);
-            let difference = difference.with("expected", step.answer.text.as_deref());
-            return Err(difference.with("answered", Some(line)).with("ended", ended));
+            let expected = step.outcome.text.as_deref();
+            let shown = [("expected", expected), ("answered", line), ("ended", ended)];
+            return Err(difference("answered otherwise", Some(step), &shown));
         };
         printed = rest;
         if line.starts_with(b"error ") {
@@ -163,8 +104,8 @@ fn answers_stand(
             let passed = told.position(|line| line.ends_with(b"\n") && tells(line, refusal));
             tally.add("all", "refusals on standard error");
             if passed.is_none_or(|passed| passed > others_allowed) {
-                let difference = Difference::new("a refusal is not told", script, step);
-                return Err(difference.with("stderr", Some(&ran.stderr)));
+                let shown = [("stderr", Some(&ran.stderr[..]))];
+                return Err(difference("a refusal is not told", Some(step), &shown));
             }
             others_allowed -= passed.unwrap_or(0);
         }
@@ -175,12 +116,9 @@ fn answers_stand(
         None if told.count() > others_allowed => "standard error has more lines",
         None => return Ok(()),
     };
-    let last = steps.last().expect("a step");
-    let difference = Difference::new(what, script, last).with("stderr", Some(&ran.stderr));
-    Err(difference.with("more", Some(printed)))
+    let shown = [("stderr", Some(&ran.stderr[..])), ("more", Some(printed))];
+    Err(difference(what, steps.last().copied(), &shown))
 }
-
-// The run.
 
 /// The steps' lines. The last one has no newline where it can be seen without.
 fn input(steps: &[&Step], tally: &mut Tally) -> Vec<u8> {
@@ -194,35 +132,39 @@ fn input(steps: &[&Step], tally: &mut Tally) -> Vec<u8> {
 
 /// Runs the script's commands: in one batch, or each alone but for those with words that a process
 /// cannot be given.
-pub fn run(program: &Program, script: &Script, tally: &mut Tally) -> Result<(), Difference> {
-    lay_out(script)?;
+pub fn run(program: &Path, script: &Script, tally: &mut Tally) -> io::Result<()> {
+    fs::create_dir_all(script.folder.join(SUBFOLDER))?;
+    for (path, bytes) in &script.files {
+        fs::write(script.folder.join(path), bytes)?;
+    }
+    for (path, target) in &script.links {
+        std::os::unix::fs::symlink(target, script.folder.join(path))?;
+    }
     let mut files = script.files.clone();
     let mut steps = script.merged();
     steps.retain(|step| !script.alone || !step.words.iter().flatten().any(|byte| *byte == 0));
     let at_once = if script.alone { 1 } else { steps.len() };
     for steps in steps.chunks(at_once) {
-        let ran = match script.alone {
-            true => program.run(&script.folder, &steps[0].words, b"")?,
-            false => program.run(&script.folder, &[b"batch".to_vec()], &input(steps, tally))?,
+        let (words, input) = match script.alone {
+            true => (steps[0].words.clone(), Vec::new()),
+            false => (vec![b"batch".to_vec()], input(steps, tally)),
         };
-        answers_stand(script, steps, &ran, tally)?;
+        let ran = process::run(program, &script.folder, &words, &input)?;
+        answers_stand(steps, &ran, script.alone, tally)?;
         for step in steps {
-            if let (Some(path), Some(bytes)) = (&step.out, &step.written) {
+            if let (Some(path), Some(bytes)) = (&step.out, &step.outcome.written) {
                 files.insert(path.clone(), bytes.clone());
             }
             count(script, step, tally);
         }
-        folder_stands(script, &files, steps)?;
+        folder_stands(&script.folder, &files, steps)?;
     }
     laws_hold(script, tally)
 }
 
 fn count(script: &Script, step: &Step, tally: &mut Tally) {
-    for (about, what, place) in &step.counts {
-        match place {
-            Some(place) => tally.add_at(about, what, *place),
-            None => tally.add(about, what),
-        }
+    for &(about, what, place) in &step.counts {
+        tally.came(about, what, Came { place, ..Came::default() });
     }
     tally.add("all", if script.alone { "commands alone" } else { "commands in batches" });
     if script.alone && step.words.iter().any(|word| word.contains(&b' ')) {

@@ -1,34 +1,25 @@
 //! The listing program beside this one: what it prints for many inputs, each through a pipe.
 
-use super::{compare::Difference, process::Program, report};
+use super::{process, stories::about, stories::Named};
 use crate::in_parallel;
-use crate::library::shrink::shrink;
+use crate::library::cases::shrink;
 use crate::making::{builder::*, damage, generate, hostile, rng::Rng};
 use crate::program::{check::check, listing::program as list, listing::MAX_INPUT};
 use crate::tally::{Tally, NUMBER};
-use std::{io, path::Path, time::Duration};
-
-/// How an input was made, and the input.
-type Input = (&'static str, Vec<u8>);
+use std::{fs, io, path::Path, time::Duration};
 
 const LARGE: &str = "a large listing";
 
-fn listed(input: &[u8]) -> Vec<u8> {
+pub fn listed(input: &[u8]) -> Vec<u8> {
     let mut out = Vec::new();
     list(input, &mut out).expect("writing to memory");
     out
 }
 
-/// What the program prints otherwise than this one, if it does.
-fn differs(program: &Program, input: &[u8]) -> io::Result<Option<String>> {
-    let ran = program.run(Path::new("/"), &[], input)?;
-    let own = listed(input);
-    let common = ran.stdout.iter().zip(&own).take_while(|(a, b)| a == b).count();
-    let told = ran.stdout != own || ran.broken.is_some();
-    Ok(told.then(|| {
-        let (printed, ended) = (ran.stdout.len(), ran.broken.unwrap_or_default());
-        format!("{printed} bytes printed of {}, {common} of them alike {ended}", own.len())
-    }))
+/// Whether the program prints otherwise than this one, or does not end by itself.
+fn differs(program: &Path, input: &[u8]) -> io::Result<bool> {
+    let ran = process::run(program, Path::new("/"), &[], input)?;
+    Ok(ran.stdout != listed(input) || ran.broken.is_some())
 }
 
 fn count(tally: &mut Tally, made: &'static str, input: &[u8]) {
@@ -65,57 +56,34 @@ fn count(tally: &mut Tally, made: &'static str, input: &[u8]) {
 /// The marked cases P1 to P11.
 fn marked() -> Vec<Vec<u8>> {
     let [p1, p2, p3] = generate::marked();
-    let p3_with = |at: usize, new: &[u8]| {
-        let mut bytes = p3.clone();
-        bytes[at..at + new.len()].copy_from_slice(new);
-        bytes
-    };
-    vec![
-        p1.clone(),
-        p2,
-        p3.clone(),
-        p3[..81].to_vec(),
-        p3_with(17, &[2]),
-        p1[..31].to_vec(),
-        p3_with(66, &[0, 1]),
-        p3_with(66, &[0, 2]),
-        p3_with(76, &[3]),
-        p3_with(79, &[0x81]),
-        p3_with(36, &[0; 16]),
-    ]
-}
-
-/// Inputs about the greatest length, and one whose listing takes 540 KB for each of its entries.
-fn edges(rng: &mut Rng, entries: usize) -> Vec<Input> {
-    let (family, empty) = (generate::family(rng), Typelib::default());
-    let filled = |lib: &Typelib, length: usize| lib.filled_to(length).bytes();
-    let at_most = filled(&family, MAX_INPUT);
-    let mut short = at_most.clone();
-    short[23] ^= 1;
-    let mut all = vec![
-        ("empty", Vec::new()),
-        ("65,536 bytes, accepted", at_most.clone()),
-        ("65,536 bytes, accepted", filled(&empty, MAX_INPUT)),
-        ("65,536 bytes, refused", vec![0; MAX_INPUT]),
-        ("65,536 bytes, refused", at_most[..MAX_INPUT - 1].to_vec()),
-        ("65,536 bytes, refused", short),
-        ("65,537 bytes", filled(&family, MAX_INPUT + 1)),
-        ("65,537 bytes", filled(&empty, MAX_INPUT + 1)),
-        ("65,537 bytes", vec![0; MAX_INPUT + 1]),
-        ("65,537 bytes", [&at_most[..], &[0]].concat()),
-    ];
-    for length in [MAX_INPUT + 2, 131_072, MAX_FILE, MAX_FILE + 1, 3_000_000] {
-        all.push(("longer", [&at_most[..], &vec![0; length - MAX_INPUT]].concat()));
+    let mut all = vec![p1.clone(), p2, p3.clone(), p3[..81].to_vec(), p1[..31].to_vec()];
+    let changes = [(17, &[2][..]), (66, &[0, 1]), (66, &[0, 2]), (76, &[3]), (79, &[0x81])];
+    for (at, new) in changes.into_iter().chain([(36, &[0; 16][..])]) {
+        all.push([&p3[..at], new, &p3[at + new.len()..]].concat());
     }
-    all.push((LARGE, hostile::long_listing(entries)));
     all
 }
 
-/// About `count` inputs and some more. The large listing has up to 1,024 entries.
-fn inputs(seed: u64, count: usize, entries: usize) -> Vec<Input> {
+/// Inputs about the greatest length, and one whose listing takes 540 KB for each of its entries.
+fn edges(rng: &mut Rng) -> Vec<Named> {
+    let family = generate::family(rng);
+    let at_most = family.filled_to(MAX_INPUT).bytes();
+    let names = ["65,536 bytes, accepted", "65,536 bytes, refused", "65,537 bytes"];
+    let mut all = about(MAX_INPUT, names, &family);
+    all.push(("65,536 bytes, refused", at_most[..MAX_INPUT - 1].to_vec()));
+    all.push(("empty", Vec::new()));
+    for length in [MAX_INPUT + 2, 131_072, MAX_FILE, MAX_FILE + 1, 3_000_000] {
+        all.push(("longer", [&at_most[..], &vec![0; length - MAX_INPUT]].concat()));
+    }
+    all.push((LARGE, hostile::long_listing(64)));
+    all
+}
+
+/// About `count` inputs and some more.
+fn inputs(seed: u64, count: usize) -> Vec<Named> {
     let rng = &mut Rng::new(seed);
-    let mut all: Vec<Input> = marked().into_iter().map(|input| ("marked", input)).collect();
-    all.extend(edges(rng, entries));
+    let mut all: Vec<Named> = marked().into_iter().map(|input| ("marked", input)).collect();
+    all.extend(edges(rng));
     // Families and other good files; then a sample of those for the check, most of them refused.
     for round in 0..count / 2 {
         let lib = match round % 8 {
@@ -141,28 +109,21 @@ fn inputs(seed: u64, count: usize, entries: usize) -> Vec<Input> {
     all
 }
 
-/// Compares what is printed for all inputs. Whether all is well.
-pub fn run(program: &Program, seed: u64, count: usize, entries: usize) -> io::Result<bool> {
-    let inputs = inputs(seed, count, entries);
+/// Compares what is printed for all inputs, at least 1,000 for the floors. Whether all is well.
+pub fn run(program: &Path, seed: u64, count: usize) -> io::Result<bool> {
+    let inputs = inputs(seed, count);
     let compared =
-        in_parallel(inputs.iter().collect(), |(_, input): &Input| differs(program, input));
+        in_parallel(inputs.iter().collect(), |(_, input): &Named| differs(program, input));
     let mut tally = Tally::new("listings");
     for ((made, input), differs) in inputs.iter().zip(compared) {
-        if let Some(how) = differs? {
-            return difference(program, made, input, how).map(|()| false);
+        if differs? {
+            let still = |files: &Vec<Vec<u8>>| self::differs(program, &files[0]).unwrap_or(false);
+            let small = shrink(&vec![input.clone()], Duration::from_secs(20), &still);
+            let path = std::env::temp_dir().join("second-listing-difference");
+            println!("DIFFERENCE: {made}; the input, made smaller, is in {}", path.display());
+            return fs::write(path, &small[0]).map(|()| false);
         }
         self::count(&mut tally, made, input);
     }
-    let enough = tally.is_enough();
-    if enough {
-        tally.print();
-    }
-    Ok(enough)
-}
-
-/// Tells of a difference and keeps its input, made smaller.
-fn difference(program: &Program, made: &str, input: &[u8], how: String) -> io::Result<()> {
-    let still = |files: &Vec<Vec<u8>>| differs(program, &files[0]).is_ok_and(|how| how.is_some());
-    let small = shrink(&vec![input.to_vec()], Duration::from_secs(20), &still).remove(0);
-    report(&Difference { text: format!("{made}: {how}"), files: vec![("input".into(), small)] })
+    Ok(tally.is_enough())
 }

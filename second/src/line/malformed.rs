@@ -1,9 +1,8 @@
 //! Lines that cannot be asked: each gets an error, and must not disturb its neighbours.
 
-use super::answers::Outcome;
 use super::script::{Name, Script, LONGEST_LINE, SUBFOLDER};
 use crate::library::questions::Question;
-use crate::making::rng::Rng;
+use crate::making::{generate, rng::Rng};
 use crate::program::questions::Kind;
 
 /// A line of each kind. `F` stands for any file, `G` for an accepted one and `O` for one that is
@@ -22,7 +21,7 @@ pub fn every_kind(script: &mut Script, file: &Name, good: &Name, out: &Name) {
         };
         let words = line.split(|byte| *byte == b' ').map(word).collect();
         script.story();
-        script.words(words, Outcome::error(kind).answer, ("error", kind, None));
+        script.error(words, kind);
     }
 }
 
@@ -144,8 +143,6 @@ fn too_large(rng: &mut Rng) -> String {
     format!("{}{}", "0".repeat(rng.below(3)), rng.pick(&NUMBERS))
 }
 
-// Lines at the edge of what can be asked.
-
 /// Words that are empty: as a name they are bad, as an IID too short. Where a line's spaces make
 /// them, it may be an error too, and so for a namespace.
 pub fn empty_words(script: &mut Script, file: &Name) {
@@ -155,7 +152,7 @@ pub fn empty_words(script: &mut Script, file: &Name) {
         let more = more.iter().map(|word| word.as_bytes().to_vec()).collect();
         let step = script.ask_so(file, command, more, &question);
         step.counts.push(("line", "with an empty word", None));
-        step.answer.or_error = !alone || !strictly;
+        step.outcome.or_error = !alone || !strictly;
     };
     ask("iid", &[""], true, Question::Iid(Vec::new()));
     ask("key", &["-", ""], true, Question::Key(Vec::new(), Vec::new()));
@@ -165,14 +162,16 @@ pub fn empty_words(script: &mut Script, file: &Name) {
 }
 
 /// Lines about the greatest length that must be answered.
-pub fn long_lines(script: &mut Script, file: &Name) {
+pub fn long_lines(script: &mut Script) {
+    let bytes = generate::family(&mut script.rng).bytes();
+    let file = script.place(bytes);
     let taken = "const  1 ".len() + file.word.len();
     for length in [LONGEST_LINE - 1, LONGEST_LINE, LONGEST_LINE + 1, LONGEST_LINE + 2] {
         let name = vec![b'a'; length - taken];
         script.story();
         let words = vec![b"1".to_vec(), name.clone()];
-        let step = script.ask_so(file, "const", words, &Question::Constant(1, name));
-        step.answer.or_error = length > LONGEST_LINE;
+        let step = script.ask_so(&file, "const", words, &Question::Constant(1, name));
+        step.outcome.or_error = length > LONGEST_LINE;
         let what = if length > LONGEST_LINE { "over 65,535 bytes" } else { "about 65,535 bytes" };
         step.counts.push(("line", what, None));
     }

@@ -1,8 +1,9 @@
 //! Comparing through the command line: what `xpt` and the listing program take as words and input,
 //! answer, write and tell on standard error.
 
-mod answers;
+pub mod answers;
 pub mod compare;
+mod iids;
 pub mod listing;
 mod malformed;
 pub mod process;
@@ -13,59 +14,24 @@ mod supply;
 use crate::in_parallel;
 use crate::making::rng::Rng;
 use crate::tally::Tally;
-use compare::Difference;
-use process::Program;
 use script::Script;
 use std::path::{Path, PathBuf};
-use std::sync::atomic::{AtomicUsize, Ordering};
-use std::{fs, io, time::Instant};
-use supply::{part, Supply};
+use std::{env, fs, io, time::Instant};
+use supply::{of_each, part, Supply};
 
-/// Up to so many files of each kind for the check.
-const OF_EACH_KIND: usize = 40;
-
+/// Scripts that are run as batches, and scripts of two kinds whose commands run alone.
 const BATCHES: usize = 20;
-/// In each batch: good files to be asked, each so often.
-const ASKED: usize = 60;
-const QUESTIONS: usize = 36;
-/// Worlds of files to be linked, and outputs to be written several times.
-const LINKED: usize = 8;
-const REWRITTEN: usize = 4;
-/// Scripts whose commands run alone.
 const ALONE: usize = 4;
 
-/// A folder of its own, removed in the end.
-pub struct Folder(pub PathBuf);
-
-impl Folder {
-    fn new(parent: &Path) -> io::Result<Folder> {
-        static MADE: AtomicUsize = AtomicUsize::new(0);
-        let k = MADE.fetch_add(1, Ordering::Relaxed);
-        let folder = parent.join(format!("compare-xpt-{}-{k}", std::process::id()));
-        fs::create_dir(&folder)?;
-        Ok(Folder(folder))
+/// A new folder: where it may be in memory where there is such a place, as outputs may be synced to
+/// the device.
+fn folder(name: &str, may_be_in_memory: bool) -> io::Result<PathBuf> {
+    let quick = Path::new("/dev/shm").join(name);
+    if may_be_in_memory && env::var_os("TMPDIR").is_none() && fs::create_dir(&quick).is_ok() {
+        return Ok(quick);
     }
-
-    pub fn usual() -> io::Result<Folder> {
-        Folder::new(&std::env::temp_dir())
-    }
-
-    /// In memory where there is such a place: outputs may be synced to the device.
-    fn quick() -> io::Result<Folder> {
-        let memory = Path::new("/dev/shm");
-        match memory.is_dir() && std::env::var_os("TMPDIR").is_none() {
-            true => Folder::new(memory).or_else(|_| Folder::usual()),
-            false => Folder::usual(),
-        }
-    }
-}
-
-impl Drop for Folder {
-    fn drop(&mut self) {
-        if let Err(error) = fs::remove_dir_all(&self.0) {
-            eprintln!("{} is not removed: {error}", self.0.display());
-        }
-    }
+    let folder = env::temp_dir().join(name);
+    fs::create_dir(&folder).map(|()| folder)
 }
 
 /// The k-th of all batches: all commands mixed.
@@ -74,17 +40,13 @@ fn batch(s: &mut Script, supply: &Supply, k: usize) {
     for (_, bytes) in part(&supply.checked, k, BATCHES) {
         stories::checked(s, bytes, &one);
     }
-    for _ in 0..ASKED {
-        let bytes = stories::good(&mut s.rng);
-        stories::asked(s, bytes, QUESTIONS);
-    }
-    for _ in 0..LINKED {
+    (0..60).for_each(|_| stories::asked(s, 36));
+    for _ in 0..8 {
         stories::linked(s);
-        let bytes = stories::good(&mut s.rng);
-        stories::normalised(s, bytes);
+        stories::normalised(s);
     }
     let bad = supply.refused(k);
-    for i in 0..REWRITTEN {
+    for i in 0..4 {
         stories::rewritten(s, bad[i % bad.len()]);
         stories::in_place(s);
         stories::by_other_names(s);
@@ -92,17 +54,13 @@ fn batch(s: &mut Script, supply: &Supply, k: usize) {
     stories::among_others(s);
     stories::malformed(s, bad[0]);
     stories::malformed(s, bad[1 % bad.len()]);
-    stories::long_lines(s);
+    malformed::long_lines(s);
     stories::every_answer(s);
     if k == 0 {
         stories::headers(s);
     }
-    for (what, bytes) in part(&supply.large, k, BATCHES) {
-        stories::large_file(s, what, bytes);
-    }
-    for (_, [a, b]) in part(&supply.pairs, k, BATCHES) {
-        stories::pair(s, a, b);
-    }
+    part(&supply.large, k, BATCHES).for_each(|file| stories::large_file(s, file));
+    part(&supply.pairs, k, BATCHES).for_each(|(_, files)| stories::pair(s, files));
 }
 
 /// The k-th of the scripts whose commands run alone: every other one is of large files, whose folder
@@ -110,22 +68,16 @@ fn batch(s: &mut Script, supply: &Supply, k: usize) {
 fn alone(s: &mut Script, supply: &Supply, k: usize) {
     let (k, is_large) = (k / 2, k % 2 == 1);
     if is_large {
-        for (what, bytes) in part(&supply.large, k, ALONE) {
-            stories::large_file(s, what, bytes);
-        }
-        supply.pairs(k).iter().for_each(|[a, b]| stories::pair(s, a, b));
+        part(&supply.large, k, ALONE).for_each(|file| stories::large_file(s, file));
+        of_each(&supply.pairs, k).into_iter().for_each(|files| stories::pair(s, files));
         return;
     }
     let one = stories::placed(s);
-    let bytes = stories::good(&mut s.rng);
-    stories::asked(s, bytes, 12);
+    stories::asked(s, 12);
     stories::every_answer(s);
     let bad = supply.refused(k);
-    for bytes in &bad {
-        stories::checked(s, bytes, &one);
-    }
-    let bytes = stories::good(&mut s.rng);
-    stories::normalised(s, bytes);
+    bad.iter().for_each(|bytes| stories::checked(s, bytes, &one));
+    stories::normalised(s);
     stories::linked(s);
     match k % 4 {
         0 => stories::rewritten(s, bad[0]),
@@ -144,20 +96,18 @@ pub const PARTS: [Part; 2] =
     [("batches", batch, BATCHES, BATCHES - 1), ("alone", alone, 2 * ALONE, 2 * ALONE - 2)];
 
 /// The scripts of a part with one seed, several at a time.
-fn scripts(
-    program: &Program,
-    supply: &Supply,
-    (name, fill, count, usual): Part,
-    seed: u64,
-) -> Result<Tally, Difference> {
+fn scripts(program: &Path, supply: &Supply, part: Part, seed: u64) -> io::Result<Tally> {
+    let (name, fill, count, usual) = part;
     let rng = &mut Rng::new(seed);
     let seeds: Vec<_> = (0..count).map(|k| (k, rng.number())).collect();
-    let run = |(k, seed): (usize, u64)| -> Result<Tally, Difference> {
-        let folder = if k == usual { Folder::usual()? } else { Folder::quick()? };
+    let run = |(k, seed): (usize, u64)| -> io::Result<Tally> {
+        let folder = folder(&format!("compare-xpt-{}-{name}-{k}", std::process::id()), k != usual)?;
         let mut tally = Tally::new(name);
-        let mut script = Script::new(folder.0.clone(), name == "alone", seed);
+        let mut script = Script::new(folder.clone(), name == "alone", seed);
         fill(&mut script, supply, k);
-        compare::run(program, &script, &mut tally)?;
+        let compared = compare::run(program, &script, &mut tally);
+        compared.inspect_err(|_| println!("{name}: the files are kept in {}", folder.display()))?;
+        fs::remove_dir_all(&folder)?;
         tally.add("all", name);
         Ok(tally)
     };
@@ -168,43 +118,18 @@ fn scripts(
     Ok(whole)
 }
 
-/// Prints a difference and keeps its files.
-fn report(Difference { text, files }: &Difference) -> io::Result<()> {
-    println!("DIFFERENCE: {text}");
-    let folder = std::env::temp_dir().join(format!("second-xpt-difference-{}", std::process::id()));
-    fs::create_dir_all(&folder)?;
-    for (name, bytes) in files {
-        fs::write(folder.join(name), bytes)?;
-    }
-    println!("  files kept in {}", folder.display());
-    Ok(())
-}
-
 /// Compares `xpt` with this program, these parts with so many seeds; stops at the first difference.
 /// Whether all is well.
-pub fn run(program: &Program, parts: &[Part], seed: u64, rounds: u64) -> io::Result<bool> {
-    let mut whole: Vec<Tally> = parts.iter().map(|(name, ..)| Tally::new(name)).collect();
+pub fn run(program: &Path, parts: &[Part], seed: u64, rounds: u64) -> io::Result<bool> {
+    let mut good = true;
     for seed in (0..rounds).map(|round| seed.wrapping_add(round)) {
-        let supply = Supply::new(seed, OF_EACH_KIND);
-        for (part, whole) in parts.iter().zip(&mut whole) {
+        let supply = Supply::new(seed);
+        for part in parts {
             let start = Instant::now();
-            match scripts(program, &supply, *part, seed) {
-                Ok(tally) => whole.join(tally),
-                Err(difference) => {
-                    println!("{}, seed {seed}", part.0);
-                    return report(&difference).map(|()| false);
-                }
-            }
+            let done = scripts(program, &supply, *part, seed);
             println!("{}, seed {seed}: {:.1} s", part.0, start.elapsed().as_secs_f64());
+            good &= done?.is_enough();
         }
     }
-    println!();
-    let mut enough = true;
-    for tally in &whole {
-        match tally.is_enough() {
-            true => tally.print(),
-            false => enough = false,
-        }
-    }
-    Ok(enough)
+    Ok(good)
 }

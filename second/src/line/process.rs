@@ -1,17 +1,12 @@
 //! Runs of the program that is compared, each a process of its own.
 
-use std::ffi::OsStr;
-use std::io::{self, ErrorKind, Read, Write};
-use std::os::unix::ffi::OsStrExt;
-use std::path::{Path, PathBuf};
+use std::io::{self, Read, Write};
 use std::process::{Command, Stdio};
-use std::sync::mpsc::{channel, Sender};
 use std::time::{Duration, Instant};
+use std::{ffi::OsStr, os::unix::ffi::OsStrExt, path::Path, sync::mpsc::channel};
 
 /// A run that takes longer is stopped.
 const LIMIT: Duration = Duration::from_secs(300);
-
-pub struct Program(PathBuf);
 
 /// What a run left.
 pub struct Ran {
@@ -21,66 +16,49 @@ pub struct Ran {
     pub broken: Option<String>,
 }
 
-impl Program {
-    /// By its whole path, since runs are in other folders.
-    pub fn new(path: &Path) -> io::Result<Program> {
-        std::path::absolute(path).map(Program)
-    }
-
-    /// One that is found by its name.
-    pub fn named(name: &str) -> Program {
-        Program(name.into())
-    }
-
-    /// Runs it in this folder with this input.
-    pub fn run(&self, folder: &Path, words: &[Vec<u8>], input: &[u8]) -> io::Result<Ran> {
-        let mut child = Command::new(&self.0)
-            .args(words.iter().map(|word| OsStr::from_bytes(word)))
-            .current_dir(folder)
-            .stdin(Stdio::piped())
-            .stdout(Stdio::piped())
-            .stderr(Stdio::piped())
-            .spawn()?;
-        let mut stdin = child.stdin.take().expect("a pipe to the program");
-        let stdout = child.stdout.take().expect("a pipe from the program");
-        let stderr = child.stderr.take().expect("a second pipe from the program");
-        // Each pipe has a thread, so that none of them blocks another.
-        std::thread::scope(|scope| {
-            let (done, ends) = channel();
-            let feeder = scope.spawn(move || match stdin.write_all(input) {
-                Err(error) if error.kind() == ErrorKind::BrokenPipe => Ok(()),
-                written => written,
-            });
-            let also_done = done.clone();
-            let stdout = scope.spawn(move || all(stdout, done));
-            let stderr = scope.spawn(move || all(stderr, also_done));
-            let start = Instant::now();
-            let ended = (0..2).all(|_| {
-                let left = LIMIT.saturating_sub(start.elapsed());
-                ends.recv_timeout(left).is_ok()
-            });
-            if !ended {
-                child.kill()?;
-            }
-            let status = child.wait()?;
-            // Which status a program ends with is left free, but not that it ends by itself.
-            let broken = match (ended, status.code()) {
-                (false, _) => Some(format!("it was stopped after {} s", LIMIT.as_secs())),
-                (true, None) => Some(format!("it ended with {status}")),
-                (true, Some(_)) => None,
-            };
-            feeder.join().expect("the feeder ends")?;
-            let stdout = stdout.join().expect("the reader ends")?;
-            let stderr = stderr.join().expect("the reader ends")?;
-            Ok(Ran { stdout, stderr, broken })
-        })
-    }
-}
-
-fn all(mut pipe: impl Read, done: Sender<()>) -> io::Result<Vec<u8>> {
-    let mut bytes = Vec::new();
-    let read = pipe.read_to_end(&mut bytes);
-    // None listens any more where the run was stopped.
-    let _ = done.send(());
-    read.map(|_| bytes)
+/// Runs a program, by its whole path, in this folder with this input.
+pub fn run(program: &Path, folder: &Path, words: &[Vec<u8>], input: &[u8]) -> io::Result<Ran> {
+    let mut child = Command::new(program)
+        .args(words.iter().map(|word| OsStr::from_bytes(word)))
+        .current_dir(folder)
+        .stdin(Stdio::piped())
+        .stdout(Stdio::piped())
+        .stderr(Stdio::piped())
+        .spawn()?;
+    let mut stdin = child.stdin.take().expect("a pipe to the program");
+    let pipes: [Box<dyn Read + Send>; 2] = [
+        Box::new(child.stdout.take().expect("a pipe from the program")),
+        Box::new(child.stderr.take().expect("a second pipe from the program")),
+    ];
+    // Each pipe has a thread, so that none of them blocks another.
+    std::thread::scope(|scope| {
+        // A program may end before it has read all.
+        scope.spawn(move || _ = stdin.write_all(input));
+        let (done, ends) = channel();
+        let readers = pipes.map(|mut pipe| {
+            let done = done.clone();
+            scope.spawn(move || {
+                let mut bytes = Vec::new();
+                let read = pipe.read_to_end(&mut bytes);
+                // None listens any more where the run was stopped.
+                let _ = done.send(());
+                read.map(|_| bytes)
+            })
+        });
+        let start = Instant::now();
+        let left = || LIMIT.saturating_sub(start.elapsed());
+        let ended = (0..2).all(|_| ends.recv_timeout(left()).is_ok());
+        if !ended {
+            child.kill()?;
+        }
+        let status = child.wait()?;
+        // Which status a program ends with is left free, but not that it ends by itself.
+        let broken = match (ended, status.code()) {
+            (false, _) => Some(format!("it was stopped after {} s", LIMIT.as_secs())),
+            (true, None) => Some(format!("it ended with {status}")),
+            (true, Some(_)) => None,
+        };
+        let [stdout, stderr] = readers.map(|reader| reader.join().expect("the reader ends"));
+        Ok(Ran { stdout: stdout?, stderr: stderr?, broken })
+    })
 }

@@ -1,6 +1,7 @@
 //! Commands on the files of a folder, each with what it must answer and write.
 
-use super::answers::{self, Answer, Bytes, Outcome};
+use super::answers::{self, Bytes, Outcome, Words};
+use super::iids;
 use crate::library::questions::Question;
 use crate::making::rng::Rng;
 use crate::program::format::{refusal, Refusal};
@@ -14,23 +15,26 @@ pub struct Name {
     pub word: String,
 }
 
+type What = &'static str;
+
+/// Files by their paths in the folder.
+pub type Files = BTreeMap<String, Bytes>;
+
 /// A row of the table, and a place where it has places.
-pub type Count = (&'static str, &'static str, Option<u64>);
+type Count = (What, What, Option<u64>);
+
+/// What the files that a command reads must be answered.
+type To<'a> = &'a dyn Fn(&[&[u8]]) -> Outcome;
 
 /// What a refusal must tell on standard error, and the files of which it must name one.
 pub type Told = (Refusal, Vec<String>);
 
 #[derive(Default)]
 pub struct Step {
-    pub words: Vec<Vec<u8>>,
-    pub answer: Answer,
+    pub words: Words,
+    pub outcome: Outcome,
     pub told: Option<Told>,
-    /// The files that it reads, as they are then.
-    pub reads: Vec<(Name, Bytes)>,
-    /// The path of its output.
     pub out: Option<String>,
-    /// What the output holds from then on; nothing where it is left as it is.
-    pub written: Option<Bytes>,
     pub counts: Vec<Count>,
 }
 
@@ -40,12 +44,8 @@ impl Step {
     }
 }
 
-/// Two outputs that must be the same in the end, or both absent.
-pub struct Law {
-    pub same: &'static str,
-    pub absent: &'static str,
-    pub files: [Name; 2],
-}
+/// Two outputs that must be the same in the end, or both absent: the rows of both cases.
+type Law = ([What; 2], [Name; 2]);
 
 /// A folder that stands in every folder beside the files.
 pub const SUBFOLDER: &str = "sub";
@@ -61,7 +61,7 @@ pub struct Script {
     /// Whether each command is run alone, so that its words may have spaces.
     pub alone: bool,
     /// The files that are there at the start, by path.
-    pub files: BTreeMap<String, Bytes>,
+    pub files: Files,
     /// Symbolic links at the start: path and target.
     pub links: Vec<(String, PathBuf)>,
     /// Steps of one story keep their order. No story writes what another reads or writes.
@@ -77,8 +77,6 @@ impl Script {
         let (rng, stories) = (Rng::new(seed), vec![Vec::new()]);
         Script { folder, seed, rng, alone, stories, ..Script::default() }
     }
-
-    // Files.
 
     /// A file that is there at the start.
     pub fn place(&mut self, bytes: impl Into<Bytes>) -> Name {
@@ -140,15 +138,10 @@ impl Script {
             self.links.push((word.clone(), self.folder.join(&path)));
             return Name { path, word };
         }
-        loop {
-            let word = self.word(&path);
-            if word != file.word {
-                return Name { path, word };
-            }
-        }
+        let mut words = std::iter::repeat_with(|| self.word(&path));
+        let word = words.find(|word| *word != file.word).expect("there are other ways");
+        Name { path, word }
     }
-
-    // Commands.
 
     /// What follows is a story of its own.
     pub fn story(&mut self) {
@@ -156,44 +149,41 @@ impl Script {
     }
 
     fn add(&mut self, step: Step) -> &mut Step {
-        if let (Some(path), Some(bytes)) = (&step.out, &step.written) {
+        if let (Some(path), Some(bytes)) = (&step.out, &step.outcome.written) {
             self.now.insert(path.clone(), bytes.clone());
         }
-        self.stories.last_mut().expect("there is a story").push(step);
-        self.last()
+        let story = self.stories.last_mut().expect("there is a story");
+        story.push(step);
+        story.last_mut().expect("it was just added")
     }
 
-    fn last(&mut self) -> &mut Step {
-        self.stories.last_mut().and_then(|story| story.last_mut()).expect("there is a step")
+    /// Words that cannot be asked. None of them names an output.
+    pub fn error(&mut self, words: Words, kind: &'static str) {
+        let (outcome, counts) = (Outcome::error(kind), vec![("error", kind, None)]);
+        self.add(Step { words, outcome, counts, ..Step::default() });
     }
 
-    /// Words that must be answered so, whatever they are. None of them names an output.
-    pub fn words(&mut self, words: Vec<Vec<u8>>, answer: Answer, count: Count) {
-        self.add(Step { words, answer, counts: vec![count], ..Step::default() });
+    pub fn law(&mut self, rows: [What; 2], a: &Name, b: &Name) {
+        self.laws.push((rows, [a.clone(), b.clone()]));
     }
 
     /// Another row that the last step counts for.
     pub fn count(&mut self, about: &'static str, what: &'static str) {
-        self.last().counts.push((about, what, None));
+        let last = self.stories.last_mut().and_then(|story| story.last_mut());
+        last.expect("there is a step").counts.push((about, what, None));
     }
 
-    /// A command on these files, with more words after them.
-    fn command(
-        &mut self,
-        command: &'static str,
-        files: &[&Name],
-        more: Vec<Vec<u8>>,
-        out: Option<&Name>,
-        outcome: impl Fn(&[&[u8]]) -> Outcome,
-    ) -> &mut Step {
-        let names = files.iter().copied().chain(out);
-        let mut words = vec![command.into()];
-        words.extend(names.map(|name| name.word.clone().into_bytes()));
-        words.extend(more);
+    /// A command with these names, the last of which is the output where it writes, and more words
+    /// after them.
+    fn command(&mut self, command: What, names: &[&Name], more: Words, answer: To) -> &mut Step {
+        let writes = matches!(command, "normal" | "link");
+        let (files, out) = names.split_at(names.len() - usize::from(writes));
+        let words = names.iter().map(|name| name.word.clone().into_bytes());
+        let words = [command.into()].into_iter().chain(words).chain(more).collect();
         let content = |name: &&Name| self.content(name).cloned();
-        let contents: Vec<Bytes> = files.iter().filter_map(content).collect();
-        let outcome = match contents.len() == files.len() {
-            true => outcome(&contents.iter().map(|bytes| &bytes[..]).collect::<Vec<_>>()),
+        let reads: Vec<Bytes> = files.iter().filter_map(content).collect();
+        let outcome = match reads.len() == files.len() {
+            true => answer(&reads.iter().map(|bytes| &bytes[..]).collect::<Vec<_>>()),
             false => Outcome::error("file absent"),
         };
         let mut counts = vec![(command, outcome.what, None)];
@@ -203,23 +193,16 @@ impl Script {
             let whose = if which == 0 { files } else { &files[usize::from(which) - 1..][..1] };
             (refusal, whose.iter().map(|file| file.word.clone()).collect())
         });
-        self.add(Step {
-            words,
-            answer: outcome.answer,
-            told,
-            reads: files.iter().map(|name| (*name).clone()).zip(contents).collect(),
-            out: out.map(|out| out.path.clone()),
-            written: outcome.written,
-            counts,
-        })
+        let out = out.first().map(|out| out.path.clone());
+        self.add(Step { words, outcome, told, out, counts })
     }
 
     pub fn check(&mut self, file: &Name) {
-        self.command("check", &[file], Vec::new(), None, |files| answers::checked(files[0]));
+        self.command("check", &[file], Vec::new(), &|files| answers::checked(files[0]));
     }
 
     pub fn list(&mut self, file: &Name) {
-        self.command("list", &[file], Vec::new(), None, |files| answers::listed(files[0]));
+        self.command("list", &[file], Vec::new(), &|files| answers::listed(files[0]));
     }
 
     /// One question, if it can be put so: a line has no spaces inside words, and the words of a
@@ -236,6 +219,16 @@ impl Script {
         if words.iter().flatten().any(|byte| cannot.contains(byte)) || self.alone && is_long {
             return;
         }
+        let question = match question {
+            Question::Iid(_) => match iids::read(&words[0]) {
+                Some(iid) => Question::Iid(iid),
+                None => {
+                    let words = [command.into(), file.word.clone().into_bytes(), words.concat()];
+                    return self.error(words.into(), "IID with a sign amiss");
+                }
+            },
+            question => question,
+        };
         let alone = self.alone;
         let is_empty = words.iter().any(Vec::is_empty);
         let step = self.ask_so(file, command, words, &question);
@@ -243,38 +236,28 @@ impl Script {
         if is_long || is_empty {
             let what = if is_long { "over 65,535 bytes" } else { "with an empty word" };
             step.counts.push(("line", what, None));
-            step.answer.or_error = !alone;
+            step.outcome.or_error = !alone;
         }
     }
 
     /// One question in these words after the file's.
-    pub fn ask_so(
-        &mut self,
-        file: &Name,
-        command: &'static str,
-        words: Vec<Vec<u8>>,
-        question: &Question,
-    ) -> &mut Step {
-        self.command(command, &[file], words, None, |files| answers::asked(files[0], question))
+    pub fn ask_so(&mut self, file: &Name, command: What, words: Words, q: &Question) -> &mut Step {
+        self.command(command, &[file], words, &|files| answers::asked(files[0], q))
     }
 
-    /// Normalises one file or links two; `order` counts where a pair is linked both ways. The
-    /// papers leave open what a refused file with one that can't be read gives.
-    pub fn write(
-        &mut self,
-        command: &'static str,
-        files: &[&Name],
-        out: &Name,
-        order: Option<&'static str>,
-    ) {
-        let existed = self.content(out).is_some();
-        let step = self.command(command, files, Vec::new(), Some(out), answers::written);
+    /// Normalises one file or links two, and names the output last; `order` counts where a pair is
+    /// linked both ways. The papers leave open what a refused file with one that can't be read
+    /// gives.
+    pub fn write(&mut self, names: &[&Name], order: Option<What>) {
+        let existed = self.content(names[names.len() - 1]).is_some();
+        let command = if names.len() == 2 { "normal" } else { "link" };
+        let step = self.command(command, names, Vec::new(), &answers::written);
         if let (Some(order), Some((why, _))) = (order, &step.told) {
             if !refusal::is_of_file(why.number) {
                 step.counts.push((LINK[why.number as usize], order, Some(why.place as u64)));
             }
         }
-        let what = match (step.written.is_some(), existed) {
+        let what = match (step.outcome.written.is_some(), existed) {
             (true, true) => "output replaced",
             (true, false) => "output made",
             (false, true) => "output kept",
@@ -284,11 +267,11 @@ impl Script {
     }
 
     pub fn normal(&mut self, file: &Name, out: &Name) {
-        self.write("normal", &[file], out, None);
+        self.write(&[file, out], None);
     }
 
     pub fn link(&mut self, first: &Name, second: &Name, out: &Name) {
-        self.write("link", &[first, second], out, None);
+        self.write(&[first, second, out], None);
     }
 
     /// All steps. Few or many stories are mixed at a time, so that what a program keeps of a file
@@ -305,22 +288,17 @@ impl Script {
         }
         steps
     }
-
-    /// The steps of the same story before this one.
-    pub fn story_before(&self, step: &Step) -> &[Step] {
-        let place = |story: &Vec<Step>| story.iter().position(|other| std::ptr::eq(other, step));
-        let before = self.stories.iter().find_map(|story| Some(&story[..place(story)?]));
-        before.unwrap_or(&[])
-    }
 }
 
 /// How a question is spelled that has an answer.
 fn spelling(step: &Step) -> Option<Count> {
-    let text = step.answer.text.as_ref()?;
+    let text = step.outcome.text.as_ref()?;
     let [command, _, word, ..] = &step.words[..] else { return None };
     let is_found = text.starts_with(b"found ");
     let what = match &command[..] {
         _ if text.starts_with(b"refused ") => return None,
+        b"iid" if is_found && word[0] == b'{' => "IID in braces",
+        b"iid" if is_found && word.contains(&b'-') => "IID with hyphens",
         b"iid" if is_found && word.iter().any(u8::is_ascii_uppercase) => "IID in upper case",
         b"iid" if is_found && word.iter().any(u8::is_ascii_lowercase) => "IID in lower case",
         b"key" if is_found && word == b"-" => "default namespace",

@@ -1,9 +1,12 @@
 //! Stories: commands that belong together, about generated files.
 
-use super::{answers::Bytes, malformed, script::Law, script::Name, script::Script};
-use crate::library::{cases::Asked, links::BACKWARD, links::FORWARD, questions::question};
+use super::{answers::Bytes, malformed, script::Name, script::Script};
+use crate::library::{links::ORDERS, questions::question, questions::Question};
 use crate::making::{builder::*, generate, hostile, model, pairs, rng::Rng};
 use crate::program::{check::check, listing::MAX_INPUT};
+
+/// A file and how it counts.
+pub type Named = (&'static str, Vec<u8>);
 
 /// A good file of any shape.
 pub fn good(rng: &mut Rng) -> Vec<u8> {
@@ -25,7 +28,6 @@ pub fn good(rng: &mut Rng) -> Vec<u8> {
     }
 }
 
-/// Such a file in the folder.
 pub fn placed(script: &mut Script) -> Name {
     let bytes = good(&mut script.rng);
     script.place(bytes)
@@ -50,9 +52,9 @@ pub fn questions(script: &mut Script, file: &Name, count: usize) {
     }
 }
 
-/// A file by all commands that only read.
-pub fn asked(script: &mut Script, bytes: impl Into<Bytes>, count: usize) {
-    let file = script.place(bytes);
+/// A good file by all commands that only read.
+pub fn asked(script: &mut Script, count: usize) {
+    let file = placed(script);
     script.story();
     script.check(&file);
     script.list(&file);
@@ -74,7 +76,7 @@ pub fn every_answer(script: &mut Script) {
     }
     let file = script.place(lib.bytes());
     for line in include_str!("every_answer.txt").lines() {
-        let Some(Asked::Question(question)) = Asked::parse(line) else { panic!("{line}") };
+        let question = Question::parse(line).expect(line);
         script.story();
         script.ask(&file, &question);
     }
@@ -135,36 +137,32 @@ pub fn headers(script: &mut Script) {
     }
 }
 
-fn law(script: &mut Script, same: &'static str, absent: &'static str, a: &Name, b: &Name) {
-    script.laws.push(Law { same, absent, files: [a.clone(), b.clone()] });
-}
-
 /// The normal form, asked and normalised again.
-pub fn normalised(script: &mut Script, bytes: impl Into<Bytes>) {
-    let file = script.place(bytes);
+pub fn normalised(script: &mut Script) {
+    let file = placed(script);
     let (out, again) = (output(script), script.free());
     script.story();
     script.normal(&file, &out);
     questions(script, &out, 4);
     script.normal(&out, &again);
     if script.content(&again).is_some() {
-        law(script, "its own normal form", "", &out, &again);
+        script.law(["its own normal form", ""], &out, &again);
     }
 }
 
 /// A pair in both orders.
-pub fn pair(script: &mut Script, a: &Bytes, b: &Bytes) {
-    let (a, b) = (script.place(a.clone()), script.place(b.clone()));
-    let (ab, ba) = (script.free(), script.free());
+pub fn pair(script: &mut Script, files: &[Bytes; 2]) {
+    let [a, b] = files.each_ref().map(|bytes| script.place(bytes.clone()));
+    let [ab, ba] = [0; 2].map(|_| script.free());
     script.story();
-    script.write("link", &[&a, &b], &ab, Some(FORWARD));
+    script.write(&[&a, &b, &ab], Some(ORDERS[0]));
     match script.content(&ab).is_some() {
         true => questions(script, &ab, 4),
         false if script.rng.percent(20) => script.check(&ab),
         false => {}
     }
-    script.write("link", &[&b, &a], &ba, Some(BACKWARD));
-    law(script, "swapping: same bytes", "swapping: neither", &ab, &ba);
+    script.write(&[&b, &a, &ba], Some(ORDERS[1]));
+    script.law(["swapping: same bytes", "swapping: neither"], &ab, &ba);
 }
 
 /// Both ways to group a triple. What a refused link did not write cannot be read.
@@ -176,7 +174,7 @@ pub fn triple(script: &mut Script, files: [&Bytes; 3]) {
     script.link(&ab, &c, &ab_c);
     script.link(&b, &c, &bc);
     script.link(&a, &bc, &a_bc);
-    law(script, "grouping: same bytes", "grouping: neither", &ab_c, &a_bc);
+    script.law(["grouping: same bytes", "grouping: neither"], &ab_c, &a_bc);
 }
 
 /// A file with itself and with an empty one, as normalising.
@@ -187,11 +185,11 @@ pub fn self_and_empty(script: &mut Script, bytes: impl Into<Bytes>) {
     script.story();
     script.normal(&a, &normal);
     script.link(&a, &a, &aa);
-    law(script, "self", "self: neither", &aa, &normal);
+    script.law(["self", "self: neither"], &aa, &normal);
     script.link(&a, &empty, &ae);
-    law(script, "empty", "empty: neither", &ae, &normal);
+    script.law(["empty", "empty: neither"], &ae, &normal);
     script.link(&empty, &a, &ea);
-    law(script, "empty", "empty: neither", &ea, &normal);
+    script.law(["empty", "empty: neither"], &ea, &normal);
 }
 
 /// Files of one world, and conflicts between them.
@@ -206,13 +204,13 @@ pub fn linked(script: &mut Script) {
             others.push(Bytes::from(other.bytes()));
         }
     }
-    let (one, two) = pairs::endless(rng);
+    let endless = pairs::endless(rng).map(|lib| Bytes::from(lib.bytes()));
     let [a, b, c] = views.map(|lib| Bytes::from(lib.bytes()));
-    pair(script, &a, &b);
+    pair(script, &[a.clone(), b.clone()]);
     for other in &others {
-        pair(script, &a, other);
+        pair(script, &[a.clone(), other.clone()]);
     }
-    pair(script, &one.bytes().into(), &two.bytes().into());
+    pair(script, &endless);
     match (script.rng.below(3), others.first()) {
         (0, Some(other)) => triple(script, [&a, other, &c]),
         (1, Some(other)) => triple(script, [other, &c, &a]),
@@ -316,33 +314,38 @@ pub fn malformed(script: &mut Script, bad: &Bytes) {
     malformed::empty_words(script, &bad);
 }
 
-pub fn long_lines(script: &mut Script) {
-    let bytes = generate::family(&mut script.rng).bytes();
-    let file = script.place(bytes);
-    malformed::long_lines(script, &file);
+/// Files as long as a limit, accepted and refused, and longer by one, by these names.
+pub fn about(limit: usize, names: [&'static str; 3], good: &Typelib) -> Vec<Named> {
+    let filled = |lib: &Typelib, length: usize| lib.filled_to(length).bytes();
+    let [accepted, refused, longer] = names;
+    let (at_most, empty) = (filled(good, limit), Typelib::default());
+    let mut short = at_most.clone();
+    short[23] ^= 1;
+    vec![
+        (accepted, at_most.clone()),
+        (accepted, filled(&empty, limit)),
+        (refused, short),
+        (refused, vec![0; limit]),
+        (longer, filled(good, limit + 1)),
+        (longer, filled(&empty, limit + 1)),
+        (longer, vec![0; limit + 1]),
+        (longer, [at_most, vec![0]].concat()),
+    ]
 }
 
 /// Large files, with how they count.
-pub fn large(rng: &mut Rng) -> Vec<(&'static str, Bytes)> {
+pub fn large(rng: &mut Rng) -> Vec<Named> {
     let family = generate::family(rng);
     let filled = |lib: &Typelib, length: usize| lib.filled_to(length).bytes();
-    let mut short = filled(&family, MAX_FILE);
-    short[23] ^= 1;
-    let empty = Typelib::default();
     let [upward, downward] = hostile::chains();
-    let files = [
-        ("of 1,048,576 bytes, accepted", filled(&family, MAX_FILE)),
-        ("of 1,048,576 bytes, accepted", filled(&empty, MAX_FILE)),
-        ("of 1,048,576 bytes, refused", short),
-        ("of 1,048,576 bytes, refused", vec![0; MAX_FILE]),
-        ("of 1,048,577 bytes", filled(&family, MAX_FILE + 1)),
-        ("of 1,048,577 bytes", filled(&empty, MAX_FILE + 1)),
-        ("of 1,048,577 bytes", vec![0; MAX_FILE + 1]),
-        ("of 1,048,577 bytes", [filled(&family, MAX_FILE), vec![0]].concat()),
+    let names =
+        ["of 1,048,576 bytes, accepted", "of 1,048,576 bytes, refused", "of 1,048,577 bytes"];
+    let mut files = about(MAX_FILE, names, &family);
+    files.extend([
         ("longer", filled(&family, 3_000_000)),
         ("of 65,536 bytes", filled(&family, MAX_INPUT)),
         ("of 65,537 bytes", filled(&family, MAX_INPUT + 1)),
-        ("of 65,537 bytes", filled(&empty, MAX_INPUT + 1)),
+        ("of 65,537 bytes", filled(&Typelib::default(), MAX_INPUT + 1)),
         ("of 1,024 interfaces", generate::wide(rng, MAX_INTERFACES).bytes()),
         ("of 1,024 interfaces", upward),
         ("of 1,024 interfaces", downward),
@@ -350,12 +353,12 @@ pub fn large(rng: &mut Rng) -> Vec<(&'static str, Bytes)> {
         ("of a long listing", hostile::long_listing(8)),
         ("of a normal form of 1,048,576", pairs::of_normal_length(MAX_FILE, 'd').bytes()),
         ("of a normal form of 1,048,577", pairs::of_normal_length(MAX_FILE + 1, 'c').bytes()),
-    ];
-    files.into_iter().map(|(what, bytes)| (what, bytes.into())).collect()
+    ]);
+    files
 }
 
 /// A large file by all commands.
-pub fn large_file(script: &mut Script, what: &'static str, bytes: &Bytes) {
+pub fn large_file(script: &mut Script, (what, bytes): &Named) {
     let file = script.place(bytes.clone());
     let small = placed(script);
     script.story();

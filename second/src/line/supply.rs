@@ -10,29 +10,23 @@ pub struct Supply {
     pub checked: Vec<(Answer, Bytes)>,
     /// Pairs whose union is large, with the number of their refusal.
     pub pairs: Vec<(u32, [Bytes; 2])>,
-    pub large: Vec<(&'static str, Bytes)>,
+    pub large: Vec<stories::Named>,
 }
 
 impl Supply {
-    /// With up to so many files of each kind for the check.
-    pub fn new(seed: u64, most: usize) -> Supply {
+    pub fn new(seed: u64) -> Supply {
         let rng = &mut Rng::new(seed);
-        let mut checked = sampled(seed, most);
+        let mut checked = sampled(seed);
         rng.shuffle(&mut checked);
         let mut made = [pairs::wide(rng), pairs::long()].concat();
         rng.shuffle(&mut made);
-        let pair = |(_, a, b): pairs::Pair| {
-            let (a, b) = (a.bytes(), b.bytes());
-            let linked = link(&a, &b, &mut vec![0; MAX_FILE]);
-            (linked.map_or_else(|(_, refusal)| refusal.number, |_| 0), [a.into(), b.into()])
+        let pair = |(_, files): pairs::Pair| {
+            let files = files.map(|lib| Bytes::from(lib.bytes()));
+            let linked = link(&files[0], &files[1], &mut vec![0; MAX_FILE]);
+            (linked.map_or_else(|(_, refusal)| refusal.number, |_| 0), files)
         };
         let pairs = made.into_iter().map(pair).collect();
         Supply { checked, pairs, large: stories::large(rng) }
-    }
-
-    /// A pair of each number, others for other k.
-    pub fn pairs(&self, k: usize) -> Vec<&[Bytes; 2]> {
-        of_each(&self.pairs, k)
     }
 
     /// A refused file of each number, for other k at other places where there are some.
@@ -43,13 +37,13 @@ impl Supply {
                 places.entry((*number, *place)).or_insert(bytes);
             }
         }
-        let all: Vec<(u32, &Bytes)> =
-            places.into_iter().map(|((number, _), bytes)| (number, bytes)).collect();
+        let all: Vec<_> = places.into_iter().map(|((number, _), bytes)| (number, bytes)).collect();
         of_each(&all, k).into_iter().copied().collect()
     }
 }
 
-fn of_each<T>(all: &[(u32, T)], k: usize) -> Vec<&T> {
+/// One of each number, others for other k.
+pub fn of_each<T>(all: &[(u32, T)], k: usize) -> Vec<&T> {
     let mut by_number: BTreeMap<u32, Vec<&T>> = BTreeMap::new();
     for (number, item) in all {
         by_number.entry(*number).or_default().push(item);
@@ -62,17 +56,14 @@ pub fn part<T>(all: &[T], k: usize, parts: usize) -> impl Iterator<Item = &T> {
     all.iter().skip(k % parts).step_by(parts)
 }
 
-/// Files for the check are longer only now and then.
-const LONG: usize = 100_000;
-
-/// Up to `most` files of each kind, few of them long.
-fn sampled(seed: u64, most: usize) -> Vec<(Answer, Bytes)> {
+/// Up to 40 files of each kind, few of them long.
+fn sampled(seed: u64) -> Vec<(Answer, Bytes)> {
     let rng = &mut Rng::new(seed);
     // How many were seen of each kind, and those kept: every one has the same chance.
     let mut kinds: BTreeMap<(&str, bool), (usize, Vec<Bytes>)> = BTreeMap::new();
     damage::everything(seed, &mut |made| {
-        let is_long = made.bytes.len() > LONG;
-        let most = if is_long { most.div_ceil(40) } else { most };
+        let is_long = made.bytes.len() > 100_000;
+        let most = if is_long { 1 } else { 40 };
         let (seen, kept) = kinds.entry((made.how, is_long)).or_default();
         *seen += 1;
         if kept.len() < most {

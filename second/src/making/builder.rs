@@ -1,14 +1,12 @@
 //! A typelib as a model, and its layout as bytes with the place of every field.
 
 use super::rng::Rng;
+use crate::program::check::word;
 pub use crate::program::format::*;
 use std::collections::{HashMap, HashSet};
 
-#[derive(Clone)]
-pub enum Annotation {
-    Empty,
-    Texts(Vec<u8>, Vec<u8>),
-}
+/// Two texts, or none.
+pub type Annotation = Option<[Vec<u8>; 2]>;
 
 #[derive(Clone)]
 pub struct Entry {
@@ -24,6 +22,10 @@ impl Entry {
     pub fn new(iid: u64, name: &str) -> Entry {
         let iid = u128::from(iid).to_be_bytes();
         Entry { iid, name: name.into(), namespace: None, descriptor: None }
+    }
+
+    fn names(&self) -> Vec<&[u8]> {
+        [&self.name].into_iter().chain(&self.namespace).map(|name| &name[..]).collect()
     }
 
     /// Another key; an empty namespace is the default.
@@ -140,9 +142,9 @@ impl Descriptor {
         writer.bytes.len()
     }
 
-    fn names(&self) -> impl Iterator<Item = &[u8]> {
+    fn names(&self) -> Vec<&[u8]> {
         let methods = self.methods.iter().map(|m| &m.name[..]);
-        methods.chain(self.constants.iter().map(|c| &c.name[..]))
+        methods.chain(self.constants.iter().map(|c| &c.name[..])).collect()
     }
 }
 
@@ -191,7 +193,7 @@ impl Default for Typelib {
     fn default() -> Typelib {
         Typelib {
             minor: 1,
-            annotations: vec![Annotation::Empty],
+            annotations: vec![None],
             directory_gap: 0,
             pool_gap: 0,
             record_gap: 0,
@@ -234,7 +236,6 @@ pub enum Field {
     InterfaceFlags,
 }
 
-/// A field and where it stands.
 #[derive(Clone, Copy, Debug)]
 pub struct Spot {
     pub field: Field,
@@ -365,31 +366,45 @@ impl Writer {
     }
 }
 
-/// Puts a record into the pool on bytes that are there, as far as it can.
-fn overlap(pool: &mut Vec<u8>, record: &[u8]) -> usize {
-    if let Some(at) = pool.windows(record.len()).position(|there| there == record) {
-        return at;
-    }
-    let most = record.len().min(pool.len());
-    let common = (0..=most).rev().find(|&k| pool[pool.len() - k..] == record[..k]).unwrap_or(0);
-    let at = pool.len() - common;
-    pool.extend_from_slice(&record[common..]);
-    at
-}
-
 enum Record {
     Name(usize),
     Descriptor(usize),
 }
 
 /// The pool's contents by position: names in one list, descriptors in another.
+#[derive(Default)]
 struct Pool<'a> {
     bytes: Vec<u8>,
     names: Vec<&'a [u8]>,
-    name_at: Vec<usize>,
-    /// The first name of each descriptor.
+    /// The first name of each entry, then of each descriptor; then the end of all names.
     first_name: Vec<usize>,
+    name_at: Vec<usize>,
     descriptor_at: Vec<usize>,
+}
+
+impl Pool<'_> {
+    /// Puts a record on bytes that are there, as far as it can, or behind all of them.
+    fn put(&mut self, record: &[u8], sharing: Sharing) -> usize {
+        let mut common = 0;
+        if sharing == Sharing::Overlap {
+            if let Some(at) = self.bytes.windows(record.len()).position(|there| there == record) {
+                return at;
+            }
+            let ends = |k: &usize| self.bytes.ends_with(&record[..*k]);
+            common = (0..record.len()).rfind(ends).unwrap_or(0);
+        }
+        let at = self.bytes.len() - common;
+        self.bytes.extend_from_slice(&record[common..]);
+        at
+    }
+
+    /// A descriptor's bytes, with the names as far as they have their places.
+    fn written(&self, lib: &Typelib, d: usize, pool_at: usize) -> (Writer, Placed) {
+        let mut writer = Writer::new(pool_at + self.descriptor_at[d], d);
+        let names = self.name_at[self.first_name[lib.entries.len() + d]..].iter();
+        let placed = writer.descriptor(&lib.descriptors[d], names.map(|&at| at as u32 + 1));
+        (writer, placed)
+    }
 }
 
 impl Typelib {
@@ -400,15 +415,15 @@ impl Typelib {
     }
 
     pub fn build(&self) -> Built {
+        use Field::*;
         let mut junk = Rng::new(self.junk);
         let zero = self.junk == 0;
         let mut filler = |bytes: &mut Vec<u8>, end: usize| {
             bytes.resize_with(end, || if zero { 0 } else { junk.byte() });
         };
         let n = self.entries.len();
-        let mut bytes = vec![0; HEADER];
-        let mut spots = Vec::new();
-        self.write_annotations(&mut bytes, &mut spots);
+        let Writer { mut bytes, mut spots, .. } = self.annotations();
+        bytes.splice(..0, [0; HEADER]);
         let mut directory = 0;
         if n > 0 {
             directory = bytes.len().next_multiple_of(4) + 4 * self.directory_gap;
@@ -420,47 +435,47 @@ impl Typelib {
 
         let mut users = vec![usize::MAX; self.descriptors.len()];
         for (i, entry) in self.entries.iter().enumerate().rev() {
-            if let Some(d) = entry.descriptor {
-                users[d] = i;
-            }
+            entry.descriptor.into_iter().for_each(|d| users[d] = i);
         }
-        let mut pool = self.place(&users, pool_at, &mut filler);
-        let mut placed = Vec::new();
-        let mut inner = Vec::new();
-        for (d, descriptor) in self.descriptors.iter().enumerate() {
-            let at = pool.descriptor_at[d];
-            let mut writer = Writer::new(pool_at + at, d);
-            let names = &pool.name_at[pool.first_name[d]..];
-            let mut place = writer.descriptor(descriptor, names.iter().map(|&at| at as u32 + 1));
-            place.entry = users[d];
-            pool.bytes[at..at + writer.bytes.len()].copy_from_slice(&writer.bytes);
-            placed.push(place);
-            if users[d] != usize::MAX {
-                inner.extend(writer.spots);
-            }
-        }
-
-        // Entries' names come first in the list of names.
-        let mut name_at = pool.name_at.iter().copied();
+        let pool = self.place(&users, &mut filler);
+        bytes.extend_from_slice(&pool.bytes);
         for (i, entry) in self.entries.iter().enumerate() {
             let mut writer = Writer::new(directory + ENTRY * i, i);
-            let pointer = |at: usize| (at as u32 + 1).to_be_bytes();
-            let name = name_at.next().map(pointer);
-            let namespace = entry.namespace.as_ref().and_then(|_| name_at.next()).map(pointer);
-            let target = entry.descriptor.map(|d| pointer(pool.descriptor_at[d]));
-            writer.put(Field::EntryIid, &entry.iid, 0);
-            writer.put(Field::EntryName, &name.unwrap_or_default(), 0);
-            writer.put(Field::EntryNamespace, &namespace.unwrap_or_default(), 0);
-            writer.put(Field::EntryDescriptor, &target.unwrap_or_default(), 0);
-            bytes[directory + ENTRY * i..][..ENTRY].copy_from_slice(&writer.bytes);
+            let pointer = |at: Option<usize>| at.map_or(0, |at| at as u32 + 1).to_be_bytes();
+            let names = pool.first_name[i]..pool.first_name[i + 1];
+            let mut names = pool.name_at[names].iter().copied();
+            let descriptor = entry.descriptor.map(|d| pool.descriptor_at[d]);
+            writer.put(EntryIid, &entry.iid, 0);
+            writer.put(EntryName, &pointer(names.next()), 0);
+            writer.put(EntryNamespace, &pointer(names.next()), 0);
+            writer.put(EntryDescriptor, &pointer(descriptor), 0);
+            bytes[writer.base..][..ENTRY].copy_from_slice(&writer.bytes);
             spots.extend(writer.spots);
         }
-        spots.extend(inner);
-        identifier_spots(&mut spots, &pool, pool_at, &bytes);
-        bytes.extend_from_slice(&pool.bytes);
+        let mut placed = Vec::new();
+        for (d, &entry) in users.iter().enumerate() {
+            let (writer, place) = pool.written(self, d, pool_at);
+            bytes[place.at..][..writer.bytes.len()].copy_from_slice(&writer.bytes);
+            placed.push(Placed { entry, ..place });
+            if entry != usize::MAX {
+                spots.extend(writer.spots);
+            }
+        }
+        // One spot for each identifier, at the first pointer that leads to it.
+        let mut seen = HashSet::new();
+        for id in 0..spots.len() {
+            let Spot { field, at, method, .. } = spots[id];
+            let is_name = [EntryName, EntryNamespace, MethodName, ConstantName].contains(&field);
+            let pointer = if is_name { word(&bytes, at) } else { 0 };
+            if pointer != 0 && seen.insert(pointer) {
+                let at = pool_at + pointer - 1;
+                let length = bytes[at..].iter().take_while(|byte| **byte != 0).count();
+                spots.push(Spot { field: Identifier, at, length, of: id, method, more: 0 });
+            }
+        }
+
         let length = bytes.len() + self.tail;
         filler(&mut bytes, length);
-
         let count = (n as u16).to_be_bytes();
         let words = [length, directory, pool_at].map(|word| (word as u32).to_be_bytes());
         let header = [&MAGIC[..], &[1, self.minor], &count, words.as_flattened()].concat();
@@ -480,6 +495,11 @@ impl Typelib {
         Typelib { entries: vec![entry], descriptors: vec![descriptor], ..Typelib::default() }
     }
 
+    /// One such entry with these methods.
+    pub fn of(methods: Vec<Method>) -> Typelib {
+        Typelib::single(Descriptor::of(methods))
+    }
+
     /// Resolves an entry, by position, with a descriptor of its own.
     pub fn resolve(&mut self, i: usize, descriptor: Descriptor) {
         self.entries[i].descriptor = Some(self.add(descriptor));
@@ -494,60 +514,35 @@ impl Typelib {
         self.build().bytes
     }
 
-    fn write_annotations(&self, bytes: &mut Vec<u8>, spots: &mut Vec<Spot>) {
+    fn annotations(&self) -> Writer {
+        use Field::*;
         let mut writer = Writer::new(HEADER, 0);
         for (i, annotation) in self.annotations.iter().enumerate() {
             writer.of = i;
             let last = if i + 1 == self.annotations.len() { 0x80 } else { 0 };
-            match annotation {
-                Annotation::Empty => writer.put(Field::AnnotationByte, &[last], 0),
-                Annotation::Texts(first, second) => {
-                    writer.put(Field::AnnotationByte, &[last | 1], 0);
-                    for text in [first, second] {
-                        let length = (text.len() as u16).to_be_bytes();
-                        writer.put(Field::AnnotationLength, &length, 0);
-                        writer.put(Field::AnnotationText, text, 0);
-                    }
-                }
+            writer.put(AnnotationByte, &[last | u8::from(annotation.is_some())], 0);
+            for text in annotation.iter().flatten() {
+                writer.put(AnnotationLength, &(text.len() as u16).to_be_bytes(), 0);
+                writer.put(AnnotationText, text, 0);
             }
         }
-        bytes.extend_from_slice(&writer.bytes);
-        spots.extend(writer.spots);
+        writer
     }
 
-    fn place(
-        &self,
-        users: &[usize],
-        pool_at: usize,
-        filler: &mut impl FnMut(&mut Vec<u8>, usize),
-    ) -> Pool<'_> {
-        let mut names: Vec<&[u8]> = Vec::new();
+    /// The pool's records in their order, each descriptor with the first entry that leads to it.
+    fn records(&self, users: &[usize], first_name: &[usize], rng: &mut Rng) -> Vec<Record> {
+        let names = |of: usize| (first_name[of]..first_name[of + 1]).map(Record::Name);
+        let n = self.entries.len();
+        let with_names = |d: usize| std::iter::once(Record::Descriptor(d)).chain(names(n + d));
         let mut records = Vec::new();
-        for entry in &self.entries {
-            names.push(&entry.name);
-            names.extend(entry.namespace.iter().map(|namespace| &namespace[..]));
-        }
-        let mut first_name = Vec::new();
-        for descriptor in &self.descriptors {
-            first_name.push(names.len());
-            names.extend(descriptor.names());
-        }
-        let with_names = |d: usize| {
-            let names = first_name[d]..first_name[d] + self.descriptors[d].names().count();
-            std::iter::once(Record::Descriptor(d)).chain(names.map(Record::Name))
-        };
-        let mut name = 0;
         for (i, entry) in self.entries.iter().enumerate() {
-            let count = 1 + usize::from(entry.namespace.is_some());
-            records.extend((name..name + count).map(Record::Name));
-            name += count;
+            records.extend(names(i));
             let own = entry.descriptor.filter(|&d| users[d] == i);
             records.extend(own.into_iter().flat_map(with_names));
         }
         let unused = (0..users.len()).filter(|&d| users[d] == usize::MAX);
         records.extend(unused.flat_map(with_names));
         let is_name = |record: &Record| matches!(record, Record::Name(_));
-        let mut rng = Rng::new(self.junk + 77);
         match self.order {
             _ if self.sharing == Sharing::Overlap => records.sort_by_key(|r| !is_name(r)),
             Order::Entries => {}
@@ -555,20 +550,22 @@ impl Typelib {
             Order::NamesLast => records.sort_by_key(is_name),
             Order::Shuffled => rng.shuffle(&mut records),
         }
-        if self.last.is_some() {
-            let is_last = |r: &Record| matches!(r, Record::Descriptor(d) if Some(*d) == self.last);
-            records.sort_by_key(is_last);
-        }
+        records.sort_by_key(|r| matches!(r, Record::Descriptor(d) if Some(*d) == self.last));
+        records
+    }
 
-        let mut pool = Pool {
-            bytes: Vec::new(),
-            name_at: vec![0; names.len()],
-            names,
-            first_name,
-            descriptor_at: vec![0; self.descriptors.len()],
-        };
+    fn place(&self, users: &[usize], filler: &mut impl FnMut(&mut Vec<u8>, usize)) -> Pool<'_> {
+        let mut pool = Pool { first_name: vec![0], ..Pool::default() };
+        let of_entries = self.entries.iter().map(Entry::names);
+        for names in of_entries.chain(self.descriptors.iter().map(Descriptor::names)) {
+            pool.names.extend(names);
+            pool.first_name.push(pool.names.len());
+        }
+        pool.name_at = vec![0; pool.names.len()];
+        pool.descriptor_at = vec![0; users.len()];
+        let mut rng = Rng::new(self.junk + 77);
         let mut stands = HashMap::new();
-        for record in records {
+        for record in self.records(users, &pool.first_name, &mut rng) {
             if self.record_gap > 0 {
                 let end = pool.bytes.len() + rng.below(self.record_gap + 1);
                 filler(&mut pool.bytes, end);
@@ -576,54 +573,18 @@ impl Typelib {
             match record {
                 Record::Name(id) => {
                     let name = pool.names[id];
-                    let mut new = || {
-                        let with_end = [name, &[0]].concat();
-                        if self.sharing == Sharing::Overlap {
-                            return overlap(&mut pool.bytes, &with_end);
-                        }
-                        pool.bytes.extend_from_slice(&with_end);
-                        pool.bytes.len() - with_end.len()
-                    };
+                    let mut new = || pool.put(&[name, &[0]].concat(), self.sharing);
                     pool.name_at[id] = match self.sharing {
                         Sharing::None => new(),
                         _ => *stands.entry(name).or_insert_with(new),
                     };
                 }
-                Record::Descriptor(d) if self.sharing == Sharing::Overlap => {
-                    let mut writer = Writer::new(pool_at, d);
-                    let pointers = pool.name_at[pool.first_name[d]..].iter();
-                    writer.descriptor(&self.descriptors[d], pointers.map(|&at| at as u32 + 1));
-                    pool.descriptor_at[d] = overlap(&mut pool.bytes, &writer.bytes);
-                }
                 Record::Descriptor(d) => {
-                    pool.descriptor_at[d] = pool.bytes.len();
-                    let size = self.descriptors[d].size();
-                    pool.bytes.resize(pool.bytes.len() + size, 0);
+                    let bytes = pool.written(self, d, 0).0.bytes;
+                    pool.descriptor_at[d] = pool.put(&bytes, self.sharing);
                 }
             }
         }
         pool
-    }
-}
-
-/// One spot for each identifier, at the first pointer that leads to it.
-fn identifier_spots(spots: &mut Vec<Spot>, pool: &Pool, pool_at: usize, head: &[u8]) {
-    let lengths: HashMap<usize, usize> =
-        pool.name_at.iter().zip(&pool.names).map(|(&at, name)| (at, name.len())).collect();
-    let mut seen = HashSet::new();
-    for id in 0..spots.len() {
-        let spot = spots[id];
-        let pointer = match spot.field {
-            Field::EntryName | Field::EntryNamespace => &head[spot.at..spot.at + 4],
-            Field::MethodName | Field::ConstantName => &pool.bytes[spot.at - pool_at..][..4],
-            _ => continue,
-        };
-        let pointer = u32::from_be_bytes(pointer.try_into().unwrap()) as usize;
-        if pointer != 0 && seen.insert(pointer) {
-            let at = pool_at + pointer - 1;
-            let length = lengths[&(pointer - 1)];
-            let field = Field::Identifier;
-            spots.push(Spot { field, at, length, of: id, method: spot.method, more: 0 });
-        }
     }
 }

@@ -2,11 +2,8 @@
 //! made and handed on with the file; elsewhere only the two checks are compared.
 
 use super::faults::{faults, lowest_endless, number, put, Fault};
-use super::{builder::*, generate, generate::fitting, pairs, rng::Rng};
-use crate::program::Answer;
-
-/// Takes a file, its answer where that is known, and how it was made.
-pub type Sink<'a> = dyn FnMut(&[u8], Option<Answer>, &'static str) + 'a;
+use super::{builder::*, generate, generate::both, generate::fitting, pairs, rng::Rng};
+use crate::program::{check::word, Answer};
 
 /// A generated file.
 pub struct Made<'a> {
@@ -21,31 +18,50 @@ pub struct Made<'a> {
 }
 
 /// Numbers the good files that others are made from, and hands all of them on.
-struct Bases<'a> {
-    sink: &'a mut dyn FnMut(&Made),
-    count: u64,
+struct Sink<'a> {
+    take: &'a mut dyn FnMut(&Made),
+    base: u64,
+    each: bool,
 }
 
-impl Bases<'_> {
+impl Sink<'_> {
     /// What comes is built from models, one for each file.
-    fn each(&mut self, make: impl FnOnce(&mut Sink)) {
-        make(&mut |bytes, known, how| self.one(|sink| sink(bytes, known, how)));
+    fn each(&mut self) -> &mut Self {
+        self.each = true;
+        self
     }
 
     /// What comes is made from one good file.
-    fn one(&mut self, make: impl FnOnce(&mut Sink)) {
-        self.count += 1;
-        let base = self.count;
-        make(&mut |bytes, known, how| (self.sink)(&Made { bytes, known, how, base }));
+    fn one(&mut self) -> &mut Self {
+        self.each = false;
+        self.base += 1;
+        self
     }
 
-    /// A good typelib, and what else is made from it.
-    fn good(&mut self, lib: &Typelib, how: &'static str, make: impl FnOnce(&[u8], &mut Sink)) {
-        let bytes = lib.bytes();
-        self.one(|sink| {
-            sink(&bytes, Some(Ok(lib.entries.len())), how);
-            make(&bytes, sink);
-        });
+    /// A good typelib, from which what comes is made: its bytes.
+    fn good(&mut self, lib: &Typelib, how: &'static str) -> Vec<u8> {
+        let built = lib.build();
+        self.one().built(&built, None, how);
+        built.bytes
+    }
+
+    /// A file that is good but for this refusal, by number and place.
+    fn built(&mut self, built: &Built, fault: Option<(u32, usize)>, how: &'static str) {
+        self.put(&built.bytes, fault.map_or(Some(Ok(built.n)), |(n, at)| refused(n, at)), how);
+    }
+
+    fn put(&mut self, bytes: &[u8], known: Option<Answer>, how: &'static str) {
+        self.base += u64::from(self.each);
+        (self.take)(&Made { bytes, known, how, base: self.base });
+    }
+
+    /// The file with other bytes at a place, if they fit.
+    fn patched(&mut self, bytes: &mut [u8], at: usize, new: &[u8], how: &'static str) {
+        if let Some(old) = bytes.get(at..at + new.len()).map(<[u8]>::to_vec) {
+            put(bytes, at, new);
+            self.put(bytes, None, how);
+            put(bytes, at, &old);
+        }
     }
 }
 
@@ -53,25 +69,12 @@ fn refused(number: u32, place: usize) -> Option<Answer> {
     Some(Err(Refusal { number, place }))
 }
 
-/// The answer to a file of one interface that is good, or refused with 16 at this place.
-fn good_or_rule(good: bool, place: usize) -> Option<Answer> {
-    match good {
-        true => Some(Ok(1)),
-        false => refused(refusal::RULE, place),
-    }
-}
-
 fn set_length(bytes: &mut [u8]) {
     put(bytes, 20, &(bytes.len() as u32).to_be_bytes());
 }
 
-/// One interface with these methods.
-fn with_methods(methods: Vec<Method>) -> Typelib {
-    Typelib::single(Descriptor::of(methods))
-}
-
 /// Known faults alone, up to `singles`, and `pairs` times two at once: the one met first is given.
-pub fn single_and_paired(lib: &Typelib, seed: u64, singles: usize, pairs: usize, sink: &mut Sink) {
+fn single_and_paired(lib: &Typelib, seed: u64, singles: usize, pairs: usize, sink: &mut Sink) {
     let built = lib.build();
     let good = &built.bytes;
     let mut all = faults(lib, &built, seed);
@@ -81,7 +84,7 @@ pub fn single_and_paired(lib: &Typelib, seed: u64, singles: usize, pairs: usize,
     let mut made = |faults: &[&Fault], how: &'static str| {
         faults.iter().for_each(|fault| fault.apply(&mut bytes));
         let first = faults.iter().min_by_key(|fault| fault.rank).expect("a fault");
-        sink(&bytes, Some(Err(first.refusal)), how);
+        sink.put(&bytes, Some(Err(first.refusal)), how);
         faults.iter().for_each(|fault| fault.undo(&mut bytes, good));
     };
     all.iter().take(singles).for_each(|fault| made(&[fault], fault.what));
@@ -118,12 +121,12 @@ fn field_label(field: Field) -> &'static str {
 
 /// Cuts inside the record that stands last in the pool, the length field set to the rest: every
 /// descriptor in turn, then a name.
-pub fn cut_last_record(lib: &Typelib, sink: &mut Sink) {
+fn cut_last_record(lib: &Typelib, sink: &mut Sink) {
     let lib = Typelib { tail: 0, sharing: Sharing::None, ..lib.clone() };
     let mut cut = |good: &[u8], length: usize, place: usize, what: &'static str| {
         let mut bytes = good[..length].to_vec();
         set_length(&mut bytes);
-        sink(&bytes, refused(number(what), place), what);
+        sink.put(&bytes, refused(number(what), place), what);
     };
     for d in 0..lib.descriptors.len() {
         let order = Order::NamesFirst;
@@ -150,83 +153,70 @@ pub fn cut_last_record(lib: &Typelib, sink: &mut Sink) {
     }
 }
 
-/// Hands on the file with other bytes at a place, wherever they fit.
-fn patching<'a, 'b>(
-    good: &'a [u8],
-    sink: &'a mut Sink<'b>,
-) -> impl FnMut(usize, &[u8], &'static str) + use<'a, 'b> {
-    let mut bytes = good.to_vec();
-    move |at, new, how| {
-        if let Some(old) = good.get(at..at + new.len()) {
-            put(&mut bytes, at, new);
-            sink(&bytes, None, how);
-            put(&mut bytes, at, old);
-        }
-    }
-}
-
 /// Every value of every byte.
-pub fn all_bytes(good: &[u8], sink: &mut Sink) {
-    let mut each = patching(good, sink);
+fn all_bytes(good: &[u8], sink: &mut Sink) {
+    let bytes = &mut good.to_vec();
     for (at, old) in good.iter().enumerate() {
-        (0..=255).filter(|new| new != old).for_each(|new| each(at, &[new], "one byte"));
+        let others = (0..=255).filter(|new| new != old);
+        others.for_each(|new| sink.patched(bytes, at, &[new], "one byte"));
     }
 }
 
 /// Some values of every byte, and edge values in every 2 and 4 bytes.
-pub fn edges(good: &[u8], sink: &mut Sink) {
-    let mut each = patching(good, sink);
-    let pool = u32::from_be_bytes(good[28..32].try_into().unwrap());
-    let length = good.len() as u32;
+fn edges(good: &[u8], sink: &mut Sink) {
+    let bytes = &mut good.to_vec();
+    let (pool, length) = (word(good, 28) as u32, good.len() as u32);
     let rest = length - pool;
     let n = u16::from_be_bytes([good[18], good[19]]);
     let short = [0, 1, n, n + 1, 255, 256, 1024, 1025, 0x7fff, 0x8000, 0xffff];
     let mut long = vec![0, 1, rest.wrapping_sub(1), rest, rest + 1, pool, length, length + 1];
     long.extend([0x7fff_ffff, 0x8000_0000, 0xffff_fffc, 0xffff_ffff]);
     for (at, &old) in good.iter().enumerate() {
+        let mut each = |new: &[u8], how| sink.patched(bytes, at, new, how);
         for new in [0, 0x7f, 0x80, 0xff, old.wrapping_add(1), old.wrapping_sub(1)] {
-            each(at, &[new], "edge byte");
+            each(&[new], "edge byte");
         }
-        (0..8).for_each(|bit| each(at, &[old ^ 1 << bit], "one bit"));
-        short.iter().for_each(|new| each(at, &new.to_be_bytes(), "edge of 2 bytes"));
-        long.iter().for_each(|new| each(at, &new.to_be_bytes(), "edge of 4 bytes"));
+        (0..8).for_each(|bit| each(&[old ^ 1 << bit], "one bit"));
+        short.iter().for_each(|new| each(&new.to_be_bytes(), "edge of 2 bytes"));
+        long.iter().for_each(|new| each(&new.to_be_bytes(), "edge of 4 bytes"));
     }
 }
 
 /// Every length, with and without the length field set to it.
-pub fn cuts(good: &[u8], sink: &mut Sink) {
+fn cuts(good: &[u8], sink: &mut Sink) {
     for length in 0..good.len() {
         let expected = match length {
             0..HEADER => refused(refusal::TOO_SHORT, length),
             _ => refused(refusal::LENGTH, 20),
         };
         let mut bytes = good[..length].to_vec();
-        sink(&bytes, expected, "cut");
+        sink.put(&bytes, expected, "cut");
         if length >= HEADER {
             set_length(&mut bytes);
-            sink(&bytes, None, "cut, length set");
+            sink.put(&bytes, None, "cut, length set");
         }
     }
     let mut longer = good.to_vec();
     for more in [0, 0x80, 0xff] {
         longer.push(more);
-        sink(&longer, refused(refusal::LENGTH, 20), "longer");
+        sink.put(&longer, refused(refusal::LENGTH, 20), "longer");
     }
 }
 
 /// Every pointer leads to every place of the pool.
-pub fn pointers(built: &Built, sink: &mut Sink) {
+fn pointers(built: &Built, sink: &mut Sink) {
     use Field::*;
-    let mut each = patching(&built.bytes, sink);
-    let length = (built.bytes.len() - built.pool) as u32;
+    let bytes = &mut built.bytes.clone();
     let pointers = [EntryName, EntryNamespace, EntryDescriptor, MethodName, ConstantName];
     for spot in built.spots.iter().filter(|spot| pointers.contains(&spot.field)) {
-        (0..=length + 1).for_each(|new| each(spot.at, &new.to_be_bytes(), "pointer"));
+        for new in 0..=(bytes.len() - built.pool) as u32 + 1 {
+            sink.patched(bytes, spot.at, &new.to_be_bytes(), "pointer");
+        }
     }
 }
 
 /// Several changes at once: bytes, spans copied, bytes put in or taken out.
-pub fn scrambled(good: &[u8], rounds: usize, rng: &mut Rng, sink: &mut Sink) {
+fn scrambled(good: &[u8], rounds: usize, rng: &mut Rng, sink: &mut Sink) {
     for _ in 0..rounds {
         let mut bytes = good.to_vec();
         for _ in 0..rng.range(1, 4) {
@@ -251,43 +241,40 @@ pub fn scrambled(good: &[u8], rounds: usize, rng: &mut Rng, sink: &mut Sink) {
             }
         }
         set_length(&mut bytes);
-        sink(&bytes, None, "scrambled");
+        sink.put(&bytes, None, "scrambled");
     }
 }
 
 /// Too short files: the starts of good ones, and any bytes.
-pub fn too_short(rng: &mut Rng, sink: &mut Sink) {
+fn too_short(rng: &mut Rng, sink: &mut Sink) {
     for length in 0..HEADER {
-        for good in generate::marked() {
-            sink(&good[..length], refused(refusal::TOO_SHORT, length), "1 too short");
-        }
-        for _ in 0..8 {
-            let bytes: Vec<u8> = (0..length).map(|_| rng.byte()).collect();
-            sink(&bytes, refused(refusal::TOO_SHORT, length), "1 too short");
+        let starts = generate::marked().map(|good| good[..length].to_vec());
+        let random = [0; 8].map(|_| (0..length).map(|_| rng.byte()).collect());
+        for bytes in starts.into_iter().chain(random) {
+            sink.put(&bytes, refused(refusal::TOO_SHORT, length), "1 too short");
         }
     }
 }
 
 /// Good files with more unused bytes than are allowed.
-fn too_long(rng: &mut Rng, bases: &mut Bases) {
+fn too_long(rng: &mut Rng, sink: &mut Sink) {
     for _ in 0..25 {
         let mut bytes = generate::random(rng, generate::SMALL).bytes();
         let short = bytes.len();
         bytes.resize(MAX_FILE + 300, rng.byte());
-        bases.one(|sink| {
-            for over in [1, 2, 3, rng.range(4, 300)] {
-                let expected = refused(refusal::TOO_LONG, MAX_FILE);
-                for field in [short, MAX_FILE, MAX_FILE + over] {
-                    put(&mut bytes, 20, &(field as u32).to_be_bytes());
-                    sink(&bytes[..MAX_FILE + over], expected, "2 too long");
-                }
+        sink.one();
+        for over in [1, 2, 3, rng.range(4, 300)] {
+            let expected = refused(refusal::TOO_LONG, MAX_FILE);
+            for field in [short, MAX_FILE, MAX_FILE + over] {
+                put(&mut bytes, 20, &(field as u32).to_be_bytes());
+                sink.put(&bytes[..MAX_FILE + over], expected, "2 too long");
             }
-        });
+        }
     }
 }
 
 /// Headers of all sorts.
-pub fn headers(rng: &mut Rng, sink: &mut Sink) {
+fn headers(rng: &mut Rng, sink: &mut Sink) {
     let [p1, p2, p3] = generate::marked();
     // A header alone cannot have a pool.
     for _ in 0..200 {
@@ -298,7 +285,7 @@ pub fn headers(rng: &mut Rng, sink: &mut Sink) {
         }
         bytes[31] = *rng.pick(&[0, 31, 32, 33, 36]);
         bytes[19] = rng.below(3) as u8;
-        sink(&bytes, refused(refusal::POSITION, 28), "8 header alone");
+        sink.put(&bytes, refused(refusal::POSITION, 28), "8 header alone");
     }
     // One byte more than the greatest file, and more.
     let mut long = p3.clone();
@@ -308,60 +295,55 @@ pub fn headers(rng: &mut Rng, sink: &mut Sink) {
         let field = *rng.pick(&[p3.len(), length, MAX_FILE, 0]);
         put(&mut long, 20, &(field as u32).to_be_bytes());
         long[0] = if k % 3 == 0 { 0 } else { b'X' };
-        sink(&long[..length], refused(refusal::TOO_LONG, MAX_FILE), "2 too long");
+        sink.put(&long[..length], refused(refusal::TOO_LONG, MAX_FILE), "2 too long");
     }
     // Counts, directory and pool against each other.
-    for good in [&p1, &p2, &p3] {
-        let length = good.len() as u32;
-        for n in [0_u16, 1, 2, 3, 1024, 1025, 0xffff] {
-            for directory in [0, 4, 32, 33, 34, 36, 40, 64, 0xffff_ffe4, 0xffff_fffc, length] {
-                for pool in [0, 31, 32, 33, 36, 37, 63, 64, 65, length - 1, length, length + 1, !0]
-                {
-                    let mut bytes = good.clone();
-                    put(&mut bytes, 18, &n.to_be_bytes());
-                    put(&mut bytes, 24, &directory.to_be_bytes());
-                    put(&mut bytes, 28, &pool.to_be_bytes());
-                    sink(&bytes, None, "positions");
-                }
-            }
+    for mut bytes in [p1, p2, p3] {
+        let length = bytes.len() as u32;
+        let directories = [0, 4, 32, 33, 34, 36, 40, 64, 0xffff_ffe4, 0xffff_fffc, length];
+        let pools = [0, 31, 32, 33, 36, 37, 63, 64, 65, length - 1, length, length + 1, !0];
+        for (n, (directory, pool)) in
+            both([0_u16, 1, 2, 3, 1024, 1025, !0], both(directories, pools))
+        {
+            put(&mut bytes, 18, &n.to_be_bytes());
+            put(&mut bytes, 24, &directory.to_be_bytes());
+            put(&mut bytes, 28, &pool.to_be_bytes());
+            sink.put(&bytes, None, "positions");
         }
     }
 }
 
+/// All words of a length over so many letters.
+fn words(letters: usize, length: u32) -> impl Iterator<Item = Vec<usize>> + Clone {
+    let letter = move |code: usize, i: u32| code / letters.pow(i) % letters;
+    let word = move |code: usize| (0..length).map(|i| letter(code, i)).collect();
+    (0..letters.pow(length)).map(word)
+}
+
 /// All short runs of annotation bytes, before a pool and before a directory.
-pub fn short_annotations(sink: &mut Sink) {
+fn short_annotations(sink: &mut Sink) {
     let alphabet = [0x00, 0x80, 0x01, 0x81, 0x02, 0x7f, 0xff];
     for n in [0, 1] {
         let built = Typelib { directory_gap: 1, pool_gap: 4, ..Typelib::plain(n) }.build();
         let mut bytes = built.bytes.clone();
-        let room = built.limit() - 32;
-        for tail in [0x00, 0x80, 0x41] {
-            for mut code in 0..7_usize.pow(5) {
-                bytes[32..32 + room].fill(tail);
-                for at in 0..5.min(room) {
-                    bytes[32 + at] = alphabet[code % 7];
-                    code /= 7;
-                }
-                sink(&bytes, None, "annotation bytes");
-            }
+        for (tail, word) in both([0x00, 0x80, 0x41], words(alphabet.len(), 5)) {
+            let annotations = &mut bytes[HEADER..built.limit()];
+            annotations.fill(tail);
+            annotations.iter_mut().zip(word).for_each(|(byte, k)| *byte = alphabet[k]);
+            sink.put(&bytes, None, "annotation bytes");
         }
     }
 }
 
 /// Every prefix byte, alone and inside arrays, as argument and as result.
-pub fn prefixes(sink: &mut Sink) {
-    for minor in 0..=MAX_MINOR {
-        for flags in [0, NOT_XPCOM] {
-            for (depth, prefix) in (0..=8).flat_map(|d| (0..=255).map(move |p| (d, p))) {
-                for in_result in [false, true] {
-                    one_prefix(minor, flags, depth, prefix, in_result, sink);
-                }
-            }
-        }
-    }
+fn prefixes(sink: &mut Sink) {
+    let methods = both(0..=MAX_MINOR, [0, NOT_XPCOM]);
+    let types = both(both(0..=MAX_ARRAYS, 0..=255), [false, true]);
+    both(methods, types).for_each(|(method, of)| one_prefix(method, of, sink));
 }
 
-fn one_prefix(minor: u8, flags: u8, depth: usize, prefix: u8, in_result: bool, sink: &mut Sink) {
+fn one_prefix((minor, flags): (u8, u8), of: ((usize, u8), bool), sink: &mut Sink) {
+    let ((depth, prefix), in_result) = of;
     let tag = prefix & TAG;
     let of = Type::nested(depth, 2, prefix, fitting(tag, 1, 2));
     let outer = of.prefix();
@@ -369,25 +351,25 @@ fn one_prefix(minor: u8, flags: u8, depth: usize, prefix: u8, in_result: bool, s
     method.arguments = [0, POINTER | IID, UINT32].map(|leaf| Parameter::simple(IN, leaf)).to_vec();
     let it = if in_result { &mut method.result } else { &mut method.arguments[0] };
     it.of = of;
-    let built = Typelib { minor, ..with_methods(vec![method]) }.build();
+    let built = Typelib { minor, ..Typelib::of(vec![method]) }.build();
     let field = if in_result { Field::ResultPrefix } else { Field::ArgumentPrefix };
     let it = |spot: &&Spot| spot.field == field && usize::from(spot.more) == depth;
     let at = built.spots.iter().find(it).unwrap().at;
-    let expected = if is_reserved(tag, minor) {
-        refused(refusal::RESERVED, at)
+    let fault = if is_reserved(tag, minor) {
+        Some((refusal::RESERVED, at))
     } else if prefix < POINTER && (prefix != tag || needs_pointer(tag)) {
-        refused(refusal::RULE, at)
+        Some((refusal::RULE, at))
     } else if tag == ARRAY && depth == MAX_ARRAYS {
-        refused(refusal::SIZE, at)
+        Some((refusal::SIZE, at))
     } else {
         let rule = in_result && flags == 0 && outer != VOID && outer != UINT32;
-        good_or_rule(!rule, built.placed[0].methods[0])
+        rule.then_some((refusal::RULE, built.placed[0].methods[0]))
     };
-    sink(&built.bytes, expected, "every prefix");
+    sink.built(&built, fault, "every prefix");
 }
 
 /// Every number in every kind of type, against arguments of every prefix.
-pub fn numbers(sink: &mut Sink) {
+fn numbers(sink: &mut Sink) {
     for tag in [INTERFACE_IS, ARRAY, SIZED_STRING, SIZED_WSTRING] {
         for named in 0..=255_u8 {
             let named_tag = named & TAG;
@@ -406,99 +388,82 @@ pub fn numbers(sink: &mut Sink) {
                 Parameter::simple(IN, POINTER | IID),
                 Parameter::new(OUT, Type::with(named, fitting(named_tag, 2, 1))),
             ];
-            let both = [(3, fits), (fits, 3), (3, 3)];
-            for (first, second) in both.into_iter().filter(|b| tag != INTERFACE_IS || b.0 == 3) {
-                for depth in [0, 1, 3, 7] {
-                    let of = Type::nested(depth, 1, POINTER | tag, [first, second, 0]);
-                    for flags in [0, NOT_XPCOM] {
-                        let void = Parameter::simple(0, VOID);
-                        let mut method = Method::new(flags, b"f", arguments.clone(), void);
-                        match flags {
-                            0 => method.arguments[0].of = of.clone(),
-                            _ => method.result.of = of.clone(),
-                        }
-                        let built = with_methods(vec![Method::plain(0, b"e"), method]).build();
-                        let expected = good_or_rule(good, built.placed[0].methods[1]);
-                        sink(&built.bytes, expected, "numbers");
-                    }
-                }
+            let mut tails = vec![[3, fits, 0], [fits, 3, 0], [3, 3, 0]];
+            tails.retain(|tail| tag != INTERFACE_IS || tail[0] == 3);
+            for (tail, (depth, flags)) in both(tails, both([0, 1, 3, 7], [0, NOT_XPCOM])) {
+                let mut method = Method::plain(flags, b"f");
+                method.arguments = arguments.clone();
+                let it = if flags == 0 { &mut method.arguments[0] } else { &mut method.result };
+                it.of = Type::nested(depth, 1, POINTER | tag, tail);
+                let built = Typelib::of(vec![Method::plain(0, b"e"), method]).build();
+                let rule = (refusal::RULE, built.placed[0].methods[1]);
+                sink.built(&built, (!good).then_some(rule), "numbers");
             }
         }
     }
 }
 
 /// Every number against methods of many counts of arguments, of which one can be named.
-pub fn wide_numbers(sink: &mut Sink) {
+fn wide_numbers(sink: &mut Sink) {
     for count in [1, 2, 63, 64, 65, 127, 128, 129, 191, 192, 193, 254, 255] {
-        for named in [0, count / 2, count - 1] {
-            for number in 0..=255_u8 {
-                let iid_is = (count + usize::from(number)) % 2 == 0;
-                let (target, of) = match iid_is {
-                    true => (POINTER | IID, Type::with(POINTER | INTERFACE_IS, [number, 0, 0])),
-                    false => (UINT32, Type::with(POINTER | 22, [named as u8, number, 0])),
-                };
-                let mut arguments = vec![Parameter::simple(IN, 1); count];
-                arguments[named] = Parameter::simple(IN, target);
-                let method = Method::new(0, b"f", arguments, Parameter::new(RETVAL, of));
-                let built = with_methods(vec![method]).build();
-                let good = usize::from(number) == named;
-                let expected = good_or_rule(good, built.placed[0].methods[0]);
-                sink(&built.bytes, expected, "numbers among many arguments");
-            }
+        for (named, number) in both([0, count / 2, count - 1], 0..=255_u8) {
+            let iid_is = (count + usize::from(number)) % 2 == 0;
+            let (target, of) = match iid_is {
+                true => (POINTER | IID, Type::with(POINTER | INTERFACE_IS, [number, 0, 0])),
+                false => (UINT32, Type::with(POINTER | 22, [named as u8, number, 0])),
+            };
+            let mut arguments = vec![Parameter::simple(IN, 1); count];
+            arguments[named] = Parameter::simple(IN, target);
+            let method = Method::new(0, b"f", arguments, Parameter::new(RETVAL, of));
+            let built = Typelib::of(vec![method]).build();
+            let rule = (refusal::RULE, built.placed[0].methods[0]);
+            let fault = (usize::from(number) != named).then_some(rule);
+            sink.built(&built, fault, "numbers among many arguments");
         }
     }
 }
 
 /// IIDs that differ in one byte first, whatever follows it.
-pub fn iids(sink: &mut Sink) {
-    let good = Typelib::plain(2).build();
-    let mut bytes = good.bytes.clone();
-    for at in 0..16 {
-        for (a, b) in [(0, 1), (1, 0), (0x7f, 0x80), (0x80, 0x7f), (0, 0xff), (0xff, 0), (5, 5)] {
-            for (rest_a, rest_b) in [(0, 0), (0, 0xff), (0xff, 0), (7, 7)] {
-                let (mut first, mut second) = ([0; 16], [0; 16]);
-                first[at..].fill(rest_a);
-                second[at..].fill(rest_b);
-                first[at] = a;
-                second[at] = b;
-                put(&mut bytes, good.entry(0), &first);
-                put(&mut bytes, good.entry(1), &second);
-                let rises = first < second || first == [0; 16] && second == [0; 16];
-                let order = refused(refusal::IID_ORDER, good.entry(1));
-                let expected = if rises { Some(Ok(2)) } else { order };
-                sink(&bytes, expected, "two IIDs");
-            }
-        }
+fn iids(sink: &mut Sink) {
+    let mut built = Typelib::plain(2).build();
+    let bytes = [(0, 1), (1, 0), (0x7f, 0x80), (0x80, 0x7f), (0, 0xff), (0xff, 0), (5, 5)];
+    let rests = [(0, 0), (0, 0xff), (0xff, 0), (7, 7)];
+    for (at, (byte, rest)) in both(0..16, both(bytes, rests)) {
+        let iid = |byte: u8, rest: u8| -> Vec<u8> {
+            (0..16).map(|i| [0, byte, rest][usize::from(i >= at) + usize::from(i > at)]).collect()
+        };
+        let (first, second) = (iid(byte.0, rest.0), iid(byte.1, rest.1));
+        let rises = first < second || first == [0; 16] && second == [0; 16];
+        let place = built.entry(1);
+        put(&mut built.bytes, place - ENTRY, &first);
+        put(&mut built.bytes, place, &second);
+        sink.built(&built, (!rises).then_some((refusal::IID_ORDER, place)), "two IIDs");
     }
 }
 
 /// Descriptors of entries without an IID, at many places.
-pub fn without_iid(sink: &mut Sink) {
+fn without_iid(sink: &mut Sink) {
     for n in [1, 2, 5, 30] {
-        for (position, directory_gap) in (0..n).flat_map(|i| [(i, 0), (i, 3)]) {
+        for (position, directory_gap) in both(0..n, [0, 3]) {
             let mut lib = Typelib { directory_gap, ..Typelib::plain(n) };
             lib.entries[..=position].iter_mut().for_each(|entry| entry.iid = [0; 16]);
             lib.resolve(position, Descriptor::default());
             let built = lib.build();
-            sink(&built.bytes, refused(refusal::NO_IID, built.entry(position) + 24), "12 zero IID");
+            let place = built.entry(position) + 24;
+            sink.built(&built, Some((refusal::NO_IID, place)), "12 zero IID");
         }
     }
 }
 
 /// Rows of up to five methods out of getters, setters, both, plain and constructors, two names.
-pub fn accessors(rng: &mut Rng, sink: &mut Sink) {
+fn accessors(rng: &mut Rng, sink: &mut Sink) {
     let kinds = [GETTER, SETTER, 0, GETTER | SETTER, CONSTRUCTOR, GETTER | CONSTRUCTOR];
     let names: [&[u8]; 2] = [b"x", b"xy"];
     for (length, kinds) in
         [(1, &kinds[..]), (2, &kinds), (3, &kinds), (4, &kinds[..4]), (5, &kinds[..2])]
     {
-        let choices = 2 * kinds.len();
-        for mut code in 0..choices.pow(length) {
-            let mut row = Vec::new();
-            for _ in 0..length {
-                row.push((kinds[code % choices / 2], names[code % 2]));
-                code /= choices;
-            }
+        for word in words(2 * kinds.len(), length) {
+            let row: Vec<_> = word.into_iter().map(|k| (kinds[k / 2], names[k % 2])).collect();
             accessor_row(&row, Sharing::None, sink);
         }
     }
@@ -524,18 +489,18 @@ pub fn accessors(rng: &mut Rng, sink: &mut Sink) {
 
 fn accessor_row(row: &[(u8, &[u8])], sharing: Sharing, sink: &mut Sink) {
     let methods = row.iter().map(|&(flags, name)| Method::plain(flags, name)).collect();
-    let built = Typelib { sharing, ..with_methods(methods) }.build();
+    let built = Typelib { sharing, ..Typelib::of(methods) }.build();
     let constructors = row.iter().filter(|(flags, _)| flags & CONSTRUCTOR != 0).count();
     let is_pair = |i: usize, j: usize| {
         row[i].0 & GETTER != 0 && row[j].0 & SETTER != 0 && row[i].1 == row[j].1
     };
     let each = || 0..row.len();
     let good = constructors <= 1 && each().all(|i| each().all(|j| j == i + 1 || !is_pair(i, j)));
-    sink(&built.bytes, good_or_rule(good, built.placed[0].at), "row of accessors");
+    sink.built(&built, (!good).then_some((refusal::RULE, built.placed[0].at)), "row of accessors");
 }
 
 /// Names of 255 letters, and of one and more too many.
-pub fn long_names(lib: &Typelib, sink: &mut Sink) {
+fn long_names(lib: &Typelib, sink: &mut Sink) {
     let mut lib = Typelib { sharing: Sharing::None, ..lib.clone() };
     let count = names(&mut lib).len();
     for i in 0..count {
@@ -544,17 +509,14 @@ pub fn long_names(lib: &Typelib, sink: &mut Sink) {
             let built = lib.build();
             let long = |spot: &&Spot| spot.field == Field::Identifier && spot.length == length;
             let too_long = length > MAX_IDENTIFIER;
-            let expected = match built.spots.iter().find(long) {
-                Some(spot) if too_long => refused(refusal::IDENTIFIER, built.spots[spot.of].at),
-                _ => Some(Ok(built.n)),
-            };
-            sink(&built.bytes, expected, if too_long { "11 too long" } else { "longest name" });
+            let spot = built.spots.iter().find(long).filter(|_| too_long);
+            let fault = spot.map(|spot| (refusal::IDENTIFIER, built.spots[spot.of].at));
+            sink.built(&built, fault, if too_long { "11 too long" } else { "longest name" });
             *names(&mut lib)[i] = old;
         }
     }
 }
 
-/// All names of a typelib.
 fn names(lib: &mut Typelib) -> Vec<&mut Vec<u8>> {
     let mut all = Vec::new();
     for entry in &mut lib.entries {
@@ -569,46 +531,39 @@ fn names(lib: &mut Typelib) -> Vec<&mut Vec<u8>> {
 }
 
 /// Counts one too large, with as many records as they say.
-pub fn sizes(sink: &mut Sink) {
+fn sizes(sink: &mut Sink) {
     let too_many = Typelib::plain(MAX_INTERFACES + 1).bytes();
-    sink(&too_many, refused(refusal::COUNT, 18), "7 count");
+    sink.put(&too_many, refused(refusal::COUNT, 18), "7 count");
     for sharing in [Sharing::None, Sharing::Equal] {
-        let methods = with_methods(vec![Method::plain(0, b"m"); MAX_METHODS + 1]);
+        let methods = Typelib::of(vec![Method::plain(0, b"m"); MAX_METHODS + 1]);
         let constants = vec![Constant::new(b"k", 1, 7); MAX_CONSTANTS + 1];
         let constants = Typelib::single(Descriptor { constants, ..Descriptor::default() });
-        for (lib, field, what) in [
-            (methods, Field::MethodCount, "17 methods"),
-            (constants, Field::ConstantCount, "17 constants"),
-        ] {
+        // A count of methods stands behind the parent, one of constants behind that of methods.
+        for (lib, at, what) in [(methods, 2, "17 methods"), (constants, 4, "17 constants")] {
             let built = Typelib { sharing, ..lib }.build();
-            let at = built.spots.iter().find(|spot| spot.field == field).unwrap().at;
-            sink(&built.bytes, refused(refusal::SIZE, at), what);
+            sink.built(&built, Some((refusal::SIZE, built.placed[0].at + at)), what);
         }
     }
-    for depth in 7..=20 {
-        for position in 0..4 {
-            let deep =
-                |flags: u8, depth: usize| Parameter::new(flags, Type::nested(depth, 0, 3, [0; 3]));
-            let arguments = vec![Parameter::simple(IN, UINT32); 4];
-            let mut method = Method::new(0, b"deep", arguments, deep(RETVAL, 8));
-            match position {
-                0 => method.result = deep(RETVAL, depth),
-                _ => method.arguments[position] = deep(OUT, depth),
-            }
-            let built = with_methods(vec![method]).build();
-            let ninth = built.spots.iter().find(|spot| {
-                matches!(spot.field, Field::ArgumentPrefix | Field::ResultPrefix)
-                    && usize::from(spot.more) == MAX_ARRAYS
-                    && built.bytes[spot.at] & TAG == ARRAY
-            });
-            let expected = ninth.map_or(Some(Ok(1)), |spot| refused(refusal::SIZE, spot.at));
-            sink(&built.bytes, expected, "nesting");
+    for (depth, position) in both(7..=20, 0..4) {
+        let deep = |flags: u8, depth| Parameter::new(flags, Type::nested(depth, 0, 3, [0; 3]));
+        let arguments = vec![Parameter::simple(IN, UINT32); 4];
+        let mut method = Method::new(0, b"deep", arguments, deep(RETVAL, 8));
+        match position {
+            0 => method.result = deep(RETVAL, depth),
+            _ => method.arguments[position] = deep(OUT, depth),
         }
+        let built = Typelib::of(vec![method]).build();
+        let ninth = built.spots.iter().find(|spot| {
+            matches!(spot.field, Field::ArgumentPrefix | Field::ResultPrefix)
+                && usize::from(spot.more) == MAX_ARRAYS
+                && built.bytes[spot.at] & TAG == ARRAY
+        });
+        sink.built(&built, ninth.map(|spot| (refusal::SIZE, spot.at)), "nesting");
     }
 }
 
 /// Keys that return in all sorts of patterns.
-pub fn keys(rng: &mut Rng, sink: &mut Sink) {
+fn keys(rng: &mut Rng, sink: &mut Sink) {
     let keys = [
         [("", "A"), ("", "B"), ("A", "B"), ("B", "A"), ("A", "A")],
         [("", "AB"), ("AB", "A"), ("A", "BA"), ("", "a"), ("_", "0")],
@@ -625,33 +580,22 @@ pub fn keys(rng: &mut Rng, sink: &mut Sink) {
         lib.sharing = *rng.pick(&[Sharing::None, Sharing::Equal, Sharing::Overlap]);
         lib.directory_gap = rng.below(3);
         let zeros = rng.below(pattern.len() + 1);
-        for (i, &key) in pattern.iter().enumerate() {
-            let entry = &mut lib.entries[i];
+        lib.entries[..zeros].iter_mut().for_each(|entry| entry.iid = [0; 16]);
+        for (entry, &key) in lib.entries.iter_mut().zip(&pattern) {
             entry.set_key(keys[key].0, keys[key].1);
-            if i < zeros {
-                entry.iid = [0; 16];
-            }
         }
         let built = lib.build();
         let again = (0..pattern.len()).find(|&i| pattern[..i].contains(&pattern[i]));
-        let twice = |i| refused(refusal::KEY_TWICE, built.entry(i));
-        let expected = again.map_or(Some(Ok(built.n)), twice);
-        sink(&built.bytes, expected, "pattern of keys");
+        let fault = again.map(|i| (refusal::KEY_TWICE, built.entry(i)));
+        sink.built(&built, fault, "pattern of keys");
     }
 }
 
 /// Parents in all small patterns and in larger random ones.
-pub fn chains(rng: &mut Rng, sink: &mut Sink) {
-    for n in 1..=4_usize {
-        for mut code in 0..(n + 2).pow(n as u32) {
-            // n + 1 stands for an unresolved entry.
-            let mut parents = Vec::new();
-            for _ in 0..n {
-                parents.push(code % (n + 2));
-                code /= n + 2;
-            }
-            chain(&parents, sink);
-        }
+fn chains(rng: &mut Rng, sink: &mut Sink) {
+    // n + 1 stands for an unresolved entry.
+    for parents in (1..=4).flat_map(|n| words(n + 2, n as u32)) {
+        chain(&parents, sink);
     }
     for round in 0..3_000 {
         let n = rng.range(5, 60);
@@ -684,13 +628,12 @@ fn chain(parents: &[usize], sink: &mut Sink) {
         }
     }
     let built = lib.build();
-    let cycle = |i| refused(refusal::CYCLE, built.entry(i));
-    let expected = lowest_endless(&ends).map_or(Some(Ok(n)), cycle);
-    sink(&built.bytes, expected, "pattern of parents");
+    let fault = lowest_endless(&ends).map(|i| (refusal::CYCLE, built.entry(i)));
+    sink.built(&built, fault, "pattern of parents");
 }
 
 /// Descriptors of bytes drawn at random, mostly small.
-pub fn random_pools(rounds: usize, rng: &mut Rng, sink: &mut Sink) {
+fn random_pools(rounds: usize, rng: &mut Rng, sink: &mut Sink) {
     let built = Typelib::single(Descriptor::default()).build();
     for _ in 0..rounds {
         let mut bytes = built.bytes[..built.pool].to_vec();
@@ -702,93 +645,85 @@ pub fn random_pools(rounds: usize, rng: &mut Rng, sink: &mut Sink) {
         }
         bytes[17] = rng.below(2) as u8;
         set_length(&mut bytes);
-        sink(&bytes, None, "random pool");
+        sink.put(&bytes, None, "random pool");
     }
 }
 
 /// Hands on every generated file, good and damaged.
-pub fn everything(seed: u64, sink: &mut dyn FnMut(&Made)) {
+pub fn everything(seed: u64, take: &mut dyn FnMut(&Made)) {
     let rng = &mut Rng::new(seed);
     // Other numbers with every seed.
-    let bases = &mut Bases { sink, count: seed.wrapping_mul(1 << 32) };
-    marked(bases);
-    generate::special().iter().for_each(|lib| bases.good(lib, "special", |_, _| {}));
-    bases.each(|sink| too_short(rng, sink));
-    too_long(rng, bases);
-    bases.one(|sink| headers(rng, sink));
-    bases.one(short_annotations);
-    bases.each(prefixes);
-    bases.each(numbers);
-    bases.each(wide_numbers);
-    bases.one(iids);
-    bases.each(without_iid);
-    bases.each(|sink| accessors(rng, sink));
-    bases.each(sizes);
-    bases.each(|sink| keys(rng, sink));
-    bases.each(|sink| chains(rng, sink));
-    bases.one(|sink| random_pools(20_000, rng, sink));
-    good(rng, bases);
-    related(rng, bases);
-    all_faults(rng, bases);
-    some_faults(rng, bases);
-    far_faults(rng, bases);
+    let sink = &mut Sink { take, base: seed.wrapping_mul(1 << 32), each: false };
+    marked(sink);
+    generate::special().iter().for_each(|lib| _ = sink.good(lib, "special"));
+    too_short(rng, sink.each());
+    too_long(rng, sink);
+    headers(rng, sink.one());
+    short_annotations(sink.one());
+    prefixes(sink.each());
+    numbers(sink);
+    wide_numbers(sink);
+    iids(sink.one());
+    without_iid(sink.each());
+    accessors(rng, sink);
+    sizes(sink);
+    keys(rng, sink);
+    chains(rng, sink);
+    random_pools(20_000, rng, sink.one());
+    good(rng, sink);
+    related(rng, sink);
+    all_faults(rng, sink);
+    some_faults(rng, sink);
+    far_faults(rng, sink);
 }
 
 /// The marked files and every change of a byte in them.
-fn marked(bases: &mut Bases) {
+fn marked(sink: &mut Sink) {
     for good in generate::marked() {
-        bases.one(|sink| {
-            sink(&good, Some(Ok(usize::from(good[19]))), "marked");
-            all_bytes(&good, sink);
-            edges(&good, sink);
-            cuts(&good, sink);
-        });
+        sink.one().put(&good, Some(Ok(usize::from(good[19]))), "marked");
+        all_bytes(&good, sink);
+        edges(&good, sink);
+        cuts(&good, sink);
     }
 }
 
 /// Good files of all sizes, some of them scrambled.
-fn good(rng: &mut Rng, bases: &mut Bases) {
+fn good(rng: &mut Rng, sink: &mut Sink) {
     for round in 0..12_000 {
         let size = match round % 80 {
             7 => generate::LARGE,
             k if k % 8 < 6 => generate::SMALL,
             _ => generate::MEDIUM,
         };
-        let scrambles = if round % 4 == 0 { 20 } else { 0 };
-        let lib = generate::random(rng, size);
-        bases.good(&lib, "random", |bytes, sink| scrambled(bytes, scrambles, rng, sink));
+        let bytes = sink.good(&generate::random(rng, size), "random");
+        scrambled(&bytes, if round % 4 == 0 { 20 } else { 0 }, rng, sink);
     }
 }
 
 /// Good files that inherit over several levels, and files whose records overlap.
-fn related(rng: &mut Rng, bases: &mut Bases) {
+fn related(rng: &mut Rng, sink: &mut Sink) {
     for round in 0..3_000 {
-        let (lib, how) = match round % 3 {
-            0 => (pairs::view(&pairs::world(rng), rng), "view of a world"),
-            _ => (generate::family(rng), "family"),
+        match round % 3 {
+            0 => sink.good(&pairs::view(&pairs::world(rng), rng), "view of a world"),
+            _ => sink.good(&generate::family(rng), "family"),
         };
-        bases.good(&lib, how, |_, _| {});
     }
     for round in 0..60 {
         let bytes = generate::overlapping_heads(rng, 1 + round % 16);
-        bases.one(|sink| {
-            sink(&bytes, Some(Ok(2 + round % 16)), "overlapping heads");
-            scrambled(&bytes, 50, rng, sink);
-            if round == 3 {
-                all_bytes(&bytes, sink);
-            }
-        });
+        sink.one().put(&bytes, Some(Ok(2 + round % 16)), "overlapping heads");
+        scrambled(&bytes, 50, rng, sink);
+        if round == 3 {
+            all_bytes(&bytes, sink);
+        }
         let count = 1 + round % 40;
         let bytes = generate::names_in_descriptors(rng, count);
-        bases.one(|sink| {
-            sink(&bytes, Some(Ok(count)), "names in descriptors");
-            scrambled(&bytes, 20, rng, sink);
-        });
+        sink.one().put(&bytes, Some(Ok(count)), "names in descriptors");
+        scrambled(&bytes, 20, rng, sink);
     }
 }
 
 /// Files with every kind of field, damaged in every way.
-fn all_faults(rng: &mut Rng, bases: &mut Bases) {
+fn all_faults(rng: &mut Rng, sink: &mut Sink) {
     for (minor, order) in [
         (1, Order::Entries),
         (1, Order::NamesFirst),
@@ -797,23 +732,22 @@ fn all_faults(rng: &mut Rng, bases: &mut Bases) {
         (0, Order::Shuffled),
     ] {
         let lib = generate::rich(minor, order);
-        bases.good(&lib, "rich", |bytes, sink| {
-            single_and_paired(&lib, 7, usize::MAX, 20_000, sink);
-            cut_last_record(&lib, sink);
-            long_names(&lib, sink);
-            cuts(bytes, sink);
-            scrambled(bytes, 5_000, rng, sink);
-            edges(bytes, sink);
-            if order == Order::NamesFirst {
-                all_bytes(bytes, sink);
-                pointers(&lib.build(), sink);
-            }
-        });
+        let bytes = sink.good(&lib, "rich");
+        single_and_paired(&lib, 7, usize::MAX, 20_000, sink);
+        cut_last_record(&lib, sink);
+        long_names(&lib, sink);
+        cuts(&bytes, sink);
+        scrambled(&bytes, 5_000, rng, sink);
+        edges(&bytes, sink);
+        if order == Order::NamesFirst {
+            all_bytes(&bytes, sink);
+            pointers(&lib.build(), sink);
+        }
     }
 }
 
 /// Random files, damaged in many ways.
-fn some_faults(rng: &mut Rng, bases: &mut Bases) {
+fn some_faults(rng: &mut Rng, sink: &mut Sink) {
     for round in 0..120 {
         let size = if round % 6 == 5 { generate::MEDIUM } else { generate::SMALL };
         let mut lib = generate::random(rng, size);
@@ -821,31 +755,29 @@ fn some_faults(rng: &mut Rng, bases: &mut Bases) {
             lib = generate::random(rng, size);
         }
         let built = lib.build();
-        bases.one(|sink| {
-            if built.bytes.len() < 1_000 && round % 2 == 0 {
-                cuts(&built.bytes, sink);
-                edges(&built.bytes, sink);
-                pointers(&built, sink);
-            }
-            if built.bytes.len() < 600 && round % 10 == 0 {
-                all_bytes(&built.bytes, sink);
-            }
-            if round % 4 == 0 {
-                long_names(&lib, sink);
-            }
-            lib.sharing = Sharing::None;
-            single_and_paired(&lib, round, 4_000, 3_000, sink);
-            cut_last_record(&lib, sink);
-        });
+        sink.one();
+        if built.bytes.len() < 1_000 && round % 2 == 0 {
+            cuts(&built.bytes, sink);
+            edges(&built.bytes, sink);
+            pointers(&built, sink);
+        }
+        if built.bytes.len() < 600 && round % 10 == 0 {
+            all_bytes(&built.bytes, sink);
+        }
+        if round % 4 == 0 {
+            long_names(&lib, sink);
+        }
+        lib.sharing = Sharing::None;
+        single_and_paired(&lib, round, 4_000, 3_000, sink);
+        cut_last_record(&lib, sink);
     }
 }
 
 /// Far places: large files, of which a check reads much before it meets the fault.
-fn far_faults(rng: &mut Rng, bases: &mut Bases) {
+fn far_faults(rng: &mut Rng, sink: &mut Sink) {
     for round in 0..8 {
-        let mut lib = generate::random(rng, generate::LARGE);
-        lib.sharing = Sharing::None;
-        bases.one(|sink| single_and_paired(&lib, round, 400, 400, sink));
+        let lib = Typelib { sharing: Sharing::None, ..generate::random(rng, generate::LARGE) };
+        single_and_paired(&lib, round, 400, 400, sink.one());
     }
     let rich = generate::rich(1, Order::NamesFirst);
     let to_the_end = MAX_FILE - rich.bytes().len();
@@ -854,16 +786,17 @@ fn far_faults(rng: &mut Rng, bases: &mut Bases) {
         Typelib { record_gap: 40_000, junk: 4, ..generate::rich(0, Order::Shuffled) },
         Typelib { pool_gap: to_the_end, ..rich },
     ] {
-        bases.good(&lib, "far", |_, sink| single_and_paired(&lib, 5, 1_500, 500, sink));
+        sink.good(&lib, "far");
+        single_and_paired(&lib, 5, 1_500, 500, sink);
     }
-    let text = |length: usize| vec![b'~'; length];
-    for (first, second) in [(300, 65_535), (65_535, 256)] {
-        let annotations = vec![Annotation::Texts(text(first), text(second)), Annotation::Empty];
-        let lib = Typelib { annotations, ..Typelib::plain(2) };
-        bases.one(|sink| single_and_paired(&lib, 6, 300, 100, sink));
+    for lengths in [[300, 65_535], [65_535, 256]] {
+        let texts = lengths.map(|length| vec![b'~'; length]);
+        let lib = Typelib { annotations: vec![Some(texts), None], ..Typelib::plain(2) };
+        single_and_paired(&lib, 6, 300, 100, sink.one());
     }
     for count in [200, 1023, MAX_INTERFACES] {
         let lib = generate::wide(rng, count);
-        bases.good(&lib, "wide", |_, sink| single_and_paired(&lib, 3, 400, 400, sink));
+        sink.good(&lib, "wide");
+        single_and_paired(&lib, 3, 400, 400, sink);
     }
 }

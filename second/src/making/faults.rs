@@ -174,7 +174,6 @@ impl Collector<'_> {
         }
     }
 
-    /// What can be wrong in one field.
     fn spot(&mut self, i: usize) {
         use Field::*;
         let (b, n, minor) = (self.built, self.built.n, self.lib.minor);

@@ -2,6 +2,7 @@
 
 use super::{builder::*, model::KeyOf, rng::Rng};
 use std::collections::{HashMap, HashSet};
+use std::iter::repeat_with;
 
 /// The largest counts of a random typelib.
 #[derive(Clone, Copy)]
@@ -46,9 +47,7 @@ pub fn fitting(tag: u8, iid: u8, size: u8) -> [u8; 3] {
 
 /// An IID that ends in the number.
 pub fn iid(number: u64) -> [u8; 16] {
-    let mut iid = [0; 16];
-    iid[8..].copy_from_slice(&number.to_be_bytes());
-    iid
+    u128::from(number).to_be_bytes()
 }
 
 fn iids(rng: &mut Rng, count: usize) -> Vec<[u8; 16]> {
@@ -107,12 +106,8 @@ impl Scope {
                 arrays.push([prefix, *rng.pick(&self.sizes), *rng.pick(&self.sizes)]);
             }
         }
-        let tag = loop {
-            let tag = rng.below(usize::from(LAST_TAG) + 1) as u8;
-            if tag != ARRAY && self.allows(tag) {
-                break tag;
-            }
-        };
+        let mut tags = repeat_with(|| rng.below(usize::from(LAST_TAG) + 1) as u8);
+        let tag = tags.find(|tag| *tag != ARRAY && self.allows(*tag)).expect("void is allowed");
         let tail = match tag {
             INTERFACE => index_tail(rng.range(1, self.n)),
             INTERFACE_IS => [*rng.pick(&self.iids), 0, 0],
@@ -148,45 +143,36 @@ fn method(rng: &mut Rng, (minor, n): (u8, usize), flags: u8, name: &[u8], most: 
         Parameter::new(argument_flags(rng, minor), of)
     };
     let list = kinds.iter().map(argument).collect();
-    let mut result_flags = rng.byte() & rng.byte() & !(IN | OUT | reserved_in_parameter(minor));
-    if rng.percent(50) {
-        result_flags = 0;
-    }
+    let some = rng.byte() & rng.byte() & !(IN | OUT | reserved_in_parameter(minor));
+    let result_flags = if rng.percent(50) { 0 } else { some };
     let free = flags & NOT_XPCOM != 0 || result_flags & RETVAL != 0;
     let of = if free { scope.of(rng) } else { Type::simple(*rng.pick(&[VOID, UINT32, UINT32])) };
     Method::new(flags, name, list, Parameter::new(result_flags, of))
 }
 
 /// A descriptor for a file of this minor version and so many entries.
-fn descriptor(
-    rng: &mut Rng,
-    of: (u8, usize),
-    size: Size,
-    words: &[Vec<u8>],
-    parent: usize,
-) -> Descriptor {
-    let mut d = Descriptor::below(parent);
+fn descriptor(rng: &mut Rng, of: (u8, usize), size: Size, words: &[Vec<u8>]) -> Descriptor {
+    let mut d = Descriptor::default();
     // What each accessor name is used for: GETTER, SETTER or both as a pair.
     let mut used: HashMap<Vec<u8>, u8> = HashMap::new();
     let mut constructor = rng.percent(30);
     let count = rng.range(0, size.methods);
     while d.methods.len() < count {
         let name = rng.pick(words).clone();
-        let mut flags = rng.byte() & rng.byte() & (NOT_XPCOM | HIDDEN);
+        let flags = rng.byte() & rng.byte() & (NOT_XPCOM | HIDDEN);
         let before = used.entry(name.clone()).or_default();
-        let (own, after) = match rng.below(6) {
+        let (mut own, after) = match rng.below(6) {
             0 if *before & SETTER == 0 => (GETTER, 0),
             1 if *before & GETTER == 0 => (SETTER, 0),
             2 if *before == 0 => (GETTER, SETTER),
             _ => (0, 0),
         };
         *before |= own | after;
-        flags |= own;
         if constructor && rng.percent(30) {
-            flags |= CONSTRUCTOR;
+            own |= CONSTRUCTOR;
             constructor = false;
         }
-        d.methods.push(method(rng, of, flags, &name, size.arguments));
+        d.methods.push(method(rng, of, flags | own, &name, size.arguments));
         if after != 0 {
             d.methods.push(method(rng, of, after, &name, 2));
         }
@@ -206,11 +192,7 @@ pub fn annotations(rng: &mut Rng) -> Vec<Annotation> {
         (0..length).map(|_| rng.byte() & 0x7f).collect()
     };
     let count = if rng.percent(60) { 1 } else { rng.range(1, 5) };
-    let one = |_| match rng.percent(60) {
-        true => Annotation::Empty,
-        false => Annotation::Texts(text(rng), text(rng)),
-    };
-    (0..count).map(one).collect()
+    (0..count).map(|_| (!rng.percent(60)).then(|| [text(rng), text(rng)])).collect()
 }
 
 /// A random layout without contents.
@@ -240,25 +222,19 @@ fn populate(
     [resolved, own]: [usize; 2],
     key: impl Fn(&mut Rng) -> KeyOf,
 ) -> usize {
-    let ids = iids(rng, n - zeros);
+    let mut ids = vec![[0; 16]; zeros];
+    ids.extend(iids(rng, n - zeros));
     let mut keys = HashSet::new();
     let mut descriptors = 0;
-    for i in 0..n {
-        let (namespace, name) = loop {
-            let key = key(rng);
-            if keys.insert(key.clone()) {
-                break key;
-            }
-        };
-        let iid = if i < zeros { [0; 16] } else { ids[i - zeros] };
+    for (i, iid) in ids.into_iter().enumerate() {
+        let new = repeat_with(|| key(rng)).find(|key| keys.insert(key.clone()));
+        let (namespace, name) = new.expect("there are keys enough");
         let descriptor = (i >= zeros && rng.percent(resolved)).then(|| {
-            let is_new = descriptors == 0 || rng.percent(own);
-            descriptors += usize::from(is_new);
-            if is_new {
-                descriptors - 1
-            } else {
-                rng.below(descriptors)
+            if descriptors > 0 && !rng.percent(own) {
+                return rng.below(descriptors);
             }
+            descriptors += 1;
+            descriptors - 1
         });
         lib.entries.push(Entry { iid, name, namespace, descriptor });
     }
@@ -287,7 +263,8 @@ pub fn random(rng: &mut Rng, size: Size) -> Typelib {
         let may_be = |i: &usize| lib.entries[i - 1].descriptor.is_none_or(|other| other < d);
         let parents: Vec<usize> = (1..=n).filter(may_be).collect();
         let parent = if parents.is_empty() || rng.percent(40) { 0 } else { *rng.pick(&parents) };
-        lib.descriptors.push(descriptor(rng, (minor, n), size, &words, parent));
+        let d = descriptor(rng, (minor, n), size, &words);
+        lib.descriptors.push(Descriptor { parent: parent as u16, ..d });
     }
     lib
 }
@@ -296,18 +273,12 @@ pub fn random(rng: &mut Rng, size: Size) -> Typelib {
 fn near_words(rng: &mut Rng) -> Vec<Vec<u8>> {
     let word = identifier(rng, 6);
     let mut words = vec![word.clone(), identifier(rng, 6), identifier(rng, 2), b"_".to_vec()];
-    words.push(word.iter().map(|b| b.to_ascii_uppercase()).collect());
-    if word.len() > 1 {
-        words.push(word[..word.len() - 1].to_vec());
-    }
-    if word.len() < MAX_IDENTIFIER {
-        words.push([&word[..], b"0"].concat());
-    }
+    words.push(word.to_ascii_uppercase());
+    words.extend((word.len() > 1).then(|| word[..word.len() - 1].to_vec()));
+    words.extend((word.len() < MAX_IDENTIFIER).then(|| [&word[..], b"0"].concat()));
     if rng.percent(20) {
-        let mut long = vec![b'x'; MAX_IDENTIFIER];
-        words.push(long.clone());
-        long[MAX_IDENTIFIER - 1] = b'y';
-        words.push(long);
+        let long = vec![b'x'; MAX_IDENTIFIER];
+        words.extend([long.clone(), [&long[1..], b"y"].concat()]);
     }
     words
 }
@@ -340,9 +311,20 @@ pub fn family(rng: &mut Rng) -> Typelib {
             _ => those(&|other| other.is_some_and(|other| other < d)),
         };
         let parent = if candidates.is_empty() { 0 } else { *rng.pick(&candidates) };
-        lib.descriptors.push(descriptor(rng, (minor, n), size, &words, parent));
+        let d = descriptor(rng, (minor, n), size, &words);
+        lib.descriptors.push(Descriptor { parent: parent as u16, ..d });
     }
     lib
+}
+
+/// Each with each, the second varying faster.
+pub fn both<A, B>(a: A, b: B) -> impl Iterator<Item = (A::Item, B::Item)> + Clone
+where
+    A: IntoIterator<Item: Clone, IntoIter: Clone>,
+    B: IntoIterator<IntoIter: Clone>,
+{
+    let b = b.into_iter();
+    a.into_iter().flat_map(move |a| b.clone().map(move |b| (a.clone(), b)))
 }
 
 /// P1, P2 and P3 of document 01.
@@ -359,11 +341,8 @@ pub fn rich(minor: u8, order: Order) -> Typelib {
     let (argument, simple) = (Parameter::new, Parameter::simple);
     let void = || simple(0, VOID);
     let mut lib = Typelib { minor, order, ..Typelib::plain(7) };
-    lib.annotations = vec![
-        Annotation::Empty,
-        Annotation::Texts(b"by hand".to_vec(), b"1.0".to_vec()),
-        Annotation::Texts(Vec::new(), b"x".to_vec()),
-    ];
+    let texts = [["by hand", "1.0"], ["", "x"]].map(|texts| Some(texts.map(Vec::from)));
+    lib.annotations = [&[None][..], &texts].concat();
     for (entry, number) in lib.entries.iter_mut().zip([0, 0, 5, 6, 0x1_0000, 0x1_0001, u64::MAX]) {
         entry.iid = iid(number);
     }
@@ -417,9 +396,9 @@ pub fn wide(rng: &mut Rng, count: usize) -> Typelib {
     let words: Vec<_> = (0..30).map(|_| identifier(rng, 8)).collect();
     let mut lib = Typelib::plain(count);
     for i in 0..count {
-        let parent = rng.below(i + 1);
+        let parent = rng.below(i + 1) as u16;
         if rng.percent(80) {
-            lib.resolve(i, descriptor(rng, (1, count), size, &words, parent));
+            lib.resolve(i, Descriptor { parent, ..descriptor(rng, (1, count), size, &words) });
         }
         if rng.percent(50) {
             lib.entries[i].namespace = Some(rng.pick(&words).clone());
@@ -438,9 +417,9 @@ pub fn overlapping_heads(rng: &mut Rng, count: usize) -> Vec<u8> {
     assert!((1..=16).contains(&count));
     let mut methods = Vec::new();
     for i in 0..count {
-        let mut arguments = Vec::new();
         let before = 0..rng.below(3);
-        arguments.extend(before.map(|_| Parameter::simple(argument_flags(rng, 1), UINT32)));
+        let mut arguments: Vec<_> =
+            before.map(|_| Parameter::simple(argument_flags(rng, 1), UINT32)).collect();
         arguments.push(Parameter::simple(0, 0));
         let result = Parameter::simple(0, (count - 1 - i) as u8);
         let flags = NOT_XPCOM | (rng.byte() & HIDDEN);
@@ -489,29 +468,24 @@ pub fn chain(count: usize, upward: bool) -> Typelib {
 /// Good typelibs at the edges of what is allowed.
 pub fn special() -> Vec<Typelib> {
     let empty = Typelib::default();
-    let with = |methods: Vec<Method>| Typelib::single(Descriptor::of(methods));
     // 33 bytes, and no entries with gaps, annotations and an unused pool.
     let mut all = vec![empty.clone()];
-    for (tail, pool_gap) in
-        [0, 1, 2, 3, 100].into_iter().flat_map(|t| [0, 1, 5, 1000].map(|g| (t, g)))
-    {
+    for (tail, pool_gap) in both([0, 1, 2, 3, 100], [0, 1, 5, 1000]) {
         all.push(Typelib { tail, pool_gap, junk: 5, ..empty.clone() });
     }
-    let text = |length: usize| vec![b'x'; length];
-    for (first, second) in [(0, 0), (0, 1), (1, 0), (127, 128), (65_535, 0), (300, 65_535)] {
-        let annotations = vec![Annotation::Texts(text(first), text(second)), Annotation::Empty];
+    for lengths in [[0, 0], [0, 1], [1, 0], [127, 128], [65_535, 0], [300, 65_535]] {
+        let annotations = vec![Some(lengths.map(|length| vec![b'x'; length])), None];
         all.push(Typelib { annotations: annotations.clone(), ..empty.clone() });
         all.push(Typelib { annotations, ..Typelib::plain(2) });
     }
-    all.push(Typelib { annotations: vec![Annotation::Empty; 1000], ..empty.clone() });
+    all.push(Typelib { annotations: vec![None; 1000], ..empty.clone() });
     // The directory farther on.
     let farther = |directory_gap| Typelib { directory_gap, junk: 9, ..Typelib::plain(3) };
     all.extend([1, 2, 7, 63, 64, 1000].map(farther));
     // Identifiers of 1 and 255 bytes, also as namespaces; keys that join to the same text.
     let mut names = Typelib::plain(6);
-    let longest = "x".repeat(MAX_IDENTIFIER);
-    let keys =
-        [("", &*longest), (&longest, "x"), ("ab", "c"), ("a", "bc"), ("", "abc"), ("c", "ab")];
+    let long = &*"x".repeat(MAX_IDENTIFIER);
+    let keys = [("", long), (long, "x"), ("ab", "c"), ("a", "bc"), ("", "abc"), ("c", "ab")];
     for (entry, (namespace, name)) in names.entries.iter_mut().zip(keys) {
         entry.set_key(namespace, name);
     }
@@ -529,27 +503,26 @@ pub fn special() -> Vec<Typelib> {
         many.resolve(i, Descriptor::below(if i == 500 { 7 } else { i }));
     }
     all.extend([many.clone(), Typelib { sharing: Sharing::Equal, ..many }]);
-    let methods = with(vec![Method::plain(0, b"m"); MAX_METHODS]);
+    let methods = Typelib::of(vec![Method::plain(0, b"m"); MAX_METHODS]);
     let constants = vec![Constant::new(b"k", 2, 7); MAX_CONSTANTS];
     let constants = Typelib::single(Descriptor { constants, ..Descriptor::default() });
     for sharing in [Sharing::None, Sharing::Equal] {
         all.push(Typelib { sharing, ..methods.clone() });
         all.push(Typelib { sharing, ..constants.clone() });
     }
-    let mut both = methods;
-    both.descriptors[0].constants = constants.descriptors[0].constants.clone();
-    all.push(both.filled_to(MAX_FILE));
+    let mut full = methods;
+    full.descriptors[0].constants = constants.descriptors[0].constants.clone();
+    all.push(full.filled_to(MAX_FILE));
     all.extend([MAX_FILE, MAX_FILE - 1].map(|length| empty.filled_to(length)));
     all.push(Typelib { pool_gap: MAX_FILE - 33, ..empty });
 
     // Many accessors: pairs one after another, then getters and setters without partner.
-    let mut accessors = Vec::new();
-    for name in (0..300).map(|i| format!("attribute{i}")) {
-        accessors.extend([GETTER, SETTER].map(|flags| Method::plain(flags, name.as_bytes())));
-    }
+    let pairs = both((0..300).map(|i| format!("attribute{i}")), [GETTER, SETTER]);
+    let mut accessors: Vec<_> =
+        pairs.map(|(name, flags)| Method::plain(flags, name.as_bytes())).collect();
     accessors.extend(vec![Method::plain(GETTER, b"read"); 200]);
     accessors.extend(vec![Method::plain(SETTER, b"write"); 200]);
-    all.push(with(accessors));
+    all.push(Typelib::of(accessors));
 
     // 255 arguments, eight arrays, numbers that name the last argument.
     let of_number = |i: usize| match i % 4 {
@@ -561,13 +534,11 @@ pub fn special() -> Vec<Typelib> {
     };
     let arguments = (0..255).map(|i| Parameter::new(IN, of_number(i))).collect();
     let result = Parameter::new(RETVAL, Type::nested(8, 254, ASTRING, [0; 3]));
-    all.push(with(vec![Method::new(0, b"wide", arguments, result); 3]));
+    all.push(Typelib::of(vec![Method::new(0, b"wide", arguments, result); 3]));
 
     // Every tag, plain and in arrays, as argument and as result.
-    for (minor, tag) in (0..=MAX_MINOR).flat_map(|m| (0..=LAST_TAG).map(move |tag| (m, tag))) {
-        if is_reserved(tag, minor) {
-            continue;
-        }
+    let tags = both(0..=MAX_MINOR, 0..=LAST_TAG);
+    for (minor, tag) in tags.filter(|(minor, tag)| !is_reserved(*tag, *minor)) {
         let prefix = if needs_pointer(tag) { POINTER | tag } else { tag };
         let method = |depth: usize| {
             let of = Type::nested(depth, 2, prefix, fitting(tag, 1, 2));
@@ -576,7 +547,7 @@ pub fn special() -> Vec<Typelib> {
             Method::new(NOT_XPCOM, b"f", arguments, Parameter::new(0, of))
         };
         let depths = if tag == ARRAY { 0..=7 } else { 0..=8 };
-        all.push(Typelib { minor, ..with(depths.map(method).collect()) });
+        all.push(Typelib { minor, ..Typelib::of(depths.map(method).collect()) });
     }
 
     // A long chain of parents in both directions.

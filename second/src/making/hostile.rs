@@ -71,8 +71,7 @@ fn deep_arguments() -> Vec<u8> {
     let method = deep_method(0, b"m", Parameter::simple(0, VOID));
     let size = Descriptor::of(vec![method.clone()]).size() - Descriptor::default().size();
     let count = (MAX_FILE - 100) / size;
-    let lib = Typelib::single(Descriptor::of(vec![method; count]));
-    Typelib { sharing: Sharing::Equal, ..lib }.bytes()
+    Typelib { sharing: Sharing::Equal, ..Typelib::of(vec![method; count]) }.bytes()
 }
 
 /// (c) 512 getters of one long name and 512 setters of another in each descriptor, which differ
@@ -104,19 +103,14 @@ const ROOT: usize = (POINTER | INTERFACE) as usize;
 /// Long: only the last methods have arguments, very many, so that nearly every descriptor has
 /// nearly the whole file. Otherwise: the methods have none, but are getters of long names.
 fn overlapping(long: bool) -> Vec<u8> {
-    let result =
-        |index: usize| Parameter::new(0, Type::with(POINTER | INTERFACE, index_tail(index.max(1))));
-    let long_methods = if long { 141 } else { 0 };
     let mut methods = Vec::new();
     for following in (0..MAX_METHODS).rev() {
-        methods.push(match (long, following < long_methods) {
-            (true, true) => deep_method(NOT_XPCOM, b"m", result(following)),
-            (true, false) => Method::new(NOT_XPCOM, b"m", Vec::new(), result(following)),
-            (false, _) => {
-                let kind = if following % 2 == 0 { GETTER } else { SETTER };
-                let flags = NOT_XPCOM | kind;
-                Method::new(flags, &long_name(following), Vec::new(), result(following))
-            }
+        let of = Type::with(POINTER | INTERFACE, index_tail(following.max(1)));
+        let (result, kind) = (Parameter::new(0, of), [GETTER, SETTER][following % 2]);
+        methods.push(match (long, following) {
+            (true, 0..141) => deep_method(NOT_XPCOM, b"m", result),
+            (true, _) => Method::new(NOT_XPCOM, b"m", Vec::new(), result),
+            _ => Method::new(NOT_XPCOM | kind, &long_name(following), Vec::new(), result),
         });
     }
     let mut lib = sharing(MAX_INTERFACES, Descriptor { methods, ..Descriptor::below(ROOT) });

@@ -14,13 +14,10 @@ pub fn read(file: &[u8]) -> Typelib {
     let mut lib = Typelib { minor: file[17], ..Typelib::default() };
     for i in 0..number(18, 2) {
         let at = number(24, 4) + ENTRY * i;
-        let pointers = [number(at + 16, 4), number(at + 20, 4), number(at + 24, 4)];
-        lib.entries.push(Entry {
-            iid: file[at..at + 16].try_into().unwrap(),
-            name: name(pointers[0]),
-            namespace: (pointers[1] != 0).then(|| name(pointers[1])),
-            descriptor: None,
-        });
+        let iid = file[at..at + 16].try_into().unwrap();
+        let pointers = [16, 20, 24].map(|field| number(at + field, 4));
+        let namespace = (pointers[1] != 0).then(|| name(pointers[1]));
+        lib.entries.push(Entry { iid, name: name(pointers[0]), namespace, descriptor: None });
         if pointers[2] == 0 {
             continue;
         }
@@ -97,17 +94,12 @@ pub fn renumbered(d: &Descriptor, new: &dyn Fn(usize) -> usize) -> Descriptor {
     if d.parent != 0 {
         d.parent = new(d.parent.into()) as u16;
     }
-    for parameter in parameters(&mut d) {
-        let of = &mut parameter.of;
-        if of.leaf & TAG == INTERFACE {
-            of.tail = index_tail(new(index_of(of)));
-        }
+    let parameters =
+        d.methods.iter_mut().flat_map(|m| m.arguments.iter_mut().chain([&mut m.result]));
+    for of in parameters.map(|p| &mut p.of).filter(|of| of.leaf & TAG == INTERFACE) {
+        of.tail = index_tail(new(index_of(of)));
     }
     d
-}
-
-fn parameters(d: &mut Descriptor) -> impl Iterator<Item = &mut Parameter> {
-    d.methods.iter_mut().flat_map(|method| method.arguments.iter_mut().chain([&mut method.result]))
 }
 
 /// The index in the type of an interface.

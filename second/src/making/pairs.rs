@@ -50,40 +50,38 @@ pub fn view(world: &Typelib, rng: &mut Rng) -> Typelib {
 }
 
 /// Two files whose chains end, which together have a chain that does not, for the most part.
-pub fn endless(rng: &mut Rng) -> (Typelib, Typelib) {
+pub fn endless(rng: &mut Rng) -> Two {
     loop {
         let mut world = world(rng);
+        let mut cycle = Vec::new();
         for i in 0..world.entries.len() {
             if let Some(d) = world.entries[i].descriptor {
                 world.resolve(i, world.descriptors[d].clone());
+                cycle.push(i);
             }
         }
-        let mut cycle: Vec<usize> = (0..world.entries.len()).collect();
-        cycle.retain(|i| world.entries[*i].descriptor.is_some());
         rng.shuffle(&mut cycle);
         cycle.truncate(rng.range(2, 5));
         if cycle.len() < 2 {
             continue;
         }
         for (k, i) in cycle.iter().enumerate() {
-            let parent = cycle[(k + 1) % cycle.len()] + 1;
             let d = world.entries[*i].descriptor.unwrap();
-            world.descriptors[d].parent = parent as u16;
+            world.descriptors[d].parent = cycle[(k + 1) % cycle.len()] as u16 + 1;
         }
         // Each is resolved in one file or in both, but neither file has all of them.
-        let cut = rng.range(1, cycle.len() - 1);
-        let (mut in_first, mut in_second) = (cycle[..cut].to_vec(), cycle[cut..].to_vec());
+        let (first, second) = cycle.split_at(rng.range(1, cycle.len() - 1));
+        let (mut first, mut second) = (first.to_vec(), second.to_vec());
         if cycle.len() > 2 && rng.percent(30) {
-            match in_first.len() < in_second.len() {
-                true => in_first.push(in_second[0]),
-                false => in_second.push(in_first[0]),
+            match first.len() < second.len() {
+                true => first.push(second[0]),
+                false => second.push(first[0]),
             }
         }
         if rng.percent(20) {
-            in_first.pop();
+            first.pop();
         }
-        let first = view_with(&world, rng, &in_first, &cycle);
-        return (first, view_with(&world, rng, &in_second, &cycle));
+        return [first, second].map(|full| view_with(&world, rng, &full, &cycle));
     }
 }
 
@@ -102,10 +100,7 @@ fn view_with(world: &Typelib, rng: &mut Rng, full: &[usize], some: &[usize]) -> 
         let references = references(descriptor(world, i + 1));
         references.into_iter().for_each(|index| included[index - 1] = true);
     }
-    let minor = if world.minor == 0 { rng.below(2) as u8 } else { 1 };
-    let mut lib = generate::layout(rng, minor);
-    lib.entries = world.entries.clone();
-    lib.descriptors = world.descriptors.clone();
+    let mut lib = laid_out(world, rng);
     let sharing = rng.percent(70);
     for (entry, resolved) in lib.entries.iter_mut().zip(&resolved) {
         if !resolved {
@@ -118,10 +113,26 @@ fn view_with(world: &Typelib, rng: &mut Rng, full: &[usize], some: &[usize]) -> 
             entry.descriptor = Some(lib.descriptors.len() - 1);
         }
     }
-    let mut order: Vec<usize> = (0..n).filter(|i| included[*i]).collect();
+    shuffled(&lib, (0..n).filter(|i| included[*i]).collect(), rng)
+}
+
+/// The same contents in another layout.
+fn laid_out(lib: &Typelib, rng: &mut Rng) -> Typelib {
+    let minor = if lib.minor == 0 { rng.below(2) as u8 } else { 1 };
+    let (entries, descriptors) = (lib.entries.clone(), lib.descriptors.clone());
+    Typelib { entries, descriptors, ..generate::layout(rng, minor) }
+}
+
+/// These entries, by IID; those of zero IID in any order.
+fn shuffled(lib: &Typelib, mut order: Vec<usize>, rng: &mut Rng) -> Typelib {
     rng.shuffle(&mut order);
     order.sort_by_key(|i| lib.entries[*i].iid);
-    reordered(&lib, &order)
+    reordered(lib, &order)
+}
+
+/// The same meaning in another layout: entries of zero IID in another order, records elsewhere.
+pub fn relaid(lib: &Typelib, rng: &mut Rng) -> Typelib {
+    shuffled(&laid_out(lib, rng), (0..lib.entries.len()).collect(), rng)
 }
 
 /// An empty typelib, not only P1.
@@ -152,9 +163,9 @@ pub fn conflict(first: &Typelib, second: &mut Typelib, rng: &mut Rng) -> Made {
 
 /// Puts a conflict of this number, 21 to 24, between two files that have entries in common. Both
 /// stay good.
-fn forced(number: u32, first: &Typelib, second: &Typelib) -> Option<(Typelib, Typelib)> {
-    let (mut first, mut second) = (first.clone(), second.clone());
-    let mut both = common(&first, &second);
+fn forced(number: u32, mut files: Two) -> Option<Two> {
+    let [first, second] = &mut files;
+    let mut both = common(first, second);
     both.retain(|(i, j)| first.entries[*i].iid == second.entries[*j].iid);
     both.retain(|(i, _)| first.entries[*i].iid != [0; 16]);
     let middle = both.len() / 2;
@@ -167,26 +178,20 @@ fn forced(number: u32, first: &Typelib, second: &Typelib) -> Option<(Typelib, Ty
             let theirs = (0..second.entries.len()).find(|j| both.iter().all(|b| b.1 != *j))?;
             second.entries[theirs].iid = first.entries[mine].iid;
         }
-        _ => conflict_of_descriptors(number, [x, y], &mut first, &mut second),
+        _ => conflict_of_descriptors(number, [x, y], &mut files),
     }
-    both_good(first, second)
+    both_good(files)
 }
 
 /// The two with their entries by IID, if both are good.
-fn both_good(first: Typelib, second: Typelib) -> Option<(Typelib, Typelib)> {
-    let (first, second) = (sorted(&first), sorted(&second));
-    let good = check(&first.bytes()).is_ok() && check(&second.bytes()).is_ok();
-    good.then_some((first, second))
+fn both_good(files: Two) -> Option<Two> {
+    let files = files.map(|lib| sorted(&lib));
+    files.iter().all(|lib| check(&lib.bytes()).is_ok()).then_some(files)
 }
 
 /// Puts a conflict of this number, 23 or 24, at the first of two entries that both files have, by
 /// their positions in both.
-fn conflict_of_descriptors(
-    number: u32,
-    [x, y]: [(usize, usize); 2],
-    first: &mut Typelib,
-    second: &mut Typelib,
-) {
+fn conflict_of_descriptors(number: u32, [x, y]: [(usize, usize); 2], [first, second]: &mut Two) {
     if number == refusal::TWO_DESCRIPTORS {
         first.resolve(x.0, Descriptor { flags: SCRIPTABLE, ..Descriptor::default() });
         return second.resolve(x.1, Descriptor::default());
@@ -214,26 +219,20 @@ pub fn spread(rng: &mut Rng) -> Vec<Pair> {
     for position in 0..COUNT - 1 {
         let world = generate::wide(rng, COUNT);
         for number in CONFLICTS {
-            let (mut first, mut second) = (relaid(&world, rng), relaid(&world, rng));
+            let mut files = [0; 2].map(|_| relaid(&world, rng));
             let places = [position, position + 1].map(|i| (i, i));
             match number {
-                refusal::TWO_IIDS => second.entries[position].iid[0] ^= 1,
+                refusal::TWO_IIDS => files[1].entries[position].iid[0] ^= 1,
                 // The second has the IID under another key.
-                refusal::TWO_KEYS => second.entries[position].name = b"another_key".to_vec(),
-                _ => conflict_of_descriptors(number, places, &mut first, &mut second),
+                refusal::TWO_KEYS => files[1].entries[position].name = b"another_key".to_vec(),
+                _ => conflict_of_descriptors(number, places, &mut files),
             }
-            if position % 2 == 1 {
-                std::mem::swap(&mut first, &mut second);
-            }
-            let made = both_good(first, second).map(|(a, b)| (SPREAD[number as usize], a, b));
-            pairs.extend(made);
+            files.rotate_left(position % 2);
+            pairs.extend(both_good(files).map(|files| (SPREAD[number as usize], files)));
         }
     }
     pairs
 }
-
-/// Three files and how they were made.
-pub type Triple = (&'static str, [Typelib; 3]);
 
 /// Some of the plain entries.
 fn part(from: usize, to: usize) -> Typelib {
@@ -243,7 +242,7 @@ fn part(from: usize, to: usize) -> Typelib {
 }
 
 /// Triples whose union is about the greatest sizes.
-pub fn edge_triples() -> Vec<Triple> {
+pub fn edge_triples() -> Vec<(&'static str, [Typelib; 3])> {
     let mut triples = vec![
         ("1,024 entries in the end", [part(0, 600), part(300, 1_000), part(900, 1_024)]),
         ("1,025 entries in the end", [part(0, 600), part(300, 1_000), part(900, 1_025)]),
@@ -269,17 +268,6 @@ fn of_own_length(length: usize, letter: char) -> Typelib {
         entry.iid[0] = letter as u8;
     }
     sorted(&lib)
-}
-
-/// The same meaning in another layout: entries of zero IID in another order, records elsewhere.
-pub fn relaid(lib: &Typelib, rng: &mut Rng) -> Typelib {
-    let minor = if lib.minor == 0 { rng.below(2) as u8 } else { 1 };
-    let layout = generate::layout(rng, minor);
-    let (entries, descriptors) = (lib.entries.clone(), lib.descriptors.clone());
-    let mut order: Vec<usize> = (0..entries.len()).collect();
-    rng.shuffle(&mut order);
-    order.sort_by_key(|i| entries[*i].iid);
-    reordered(&Typelib { entries, descriptors, ..layout }, &order)
 }
 
 /// Entries of the second file whose key the first has too, by position.
@@ -328,8 +316,7 @@ fn taken_iid(first: &Typelib, second: &mut Typelib, rng: &mut Rng) -> Made {
     if may_be.is_empty() {
         // A new entry then.
         let name = generate::identifier(rng, 9);
-        let entry = Entry { iid: taken.iid, name, namespace: None, descriptor: None };
-        second.entries.push(entry);
+        second.entries.push(Entry { iid: taken.iid, name, namespace: None, descriptor: None });
         return Some("an IID taken by a new key");
     }
     second.entries[*rng.pick(&may_be)].iid = taken.iid;
@@ -461,8 +448,16 @@ pub fn of_normal_length(length: usize, letter: char) -> Typelib {
     lib
 }
 
+type Two = [Typelib; 2];
+
 /// A pair and how it was made.
-pub type Pair = (&'static str, Typelib, Typelib);
+pub type Pair = (&'static str, Two);
+
+/// The pair with a conflict of each number.
+fn conflicts(made: &'static [&'static str], files: Two) -> impl Iterator<Item = Pair> {
+    let with = move |number| Some((made[number as usize], forced(number, files.clone())?));
+    CONFLICTS.filter_map(with)
+}
 
 /// Pairs whose union has about 1,024 entries, some with a conflict beside.
 pub fn wide(rng: &mut Rng) -> Vec<Pair> {
@@ -480,23 +475,19 @@ pub fn wide(rng: &mut Rng) -> Vec<Pair> {
     ] {
         // Below `middle` in the first, from `from` on in the second.
         let (first, mut second) = (part(0, middle), part(from, to));
-        pairs.push((made, first.clone(), second.clone()));
+        pairs.push((made, [first.clone(), second.clone()]));
         // With references: the second resolves what the first only names.
         let n = second.entries.len();
         for i in 0..n / 2 {
-            let parent = rng.range(n / 2 + 1, n);
-            second.resolve(i, Descriptor::below(parent));
+            second.resolve(i, Descriptor::below(rng.range(n / 2 + 1, n)));
         }
-        pairs.push((made, first.clone(), second.clone()));
+        pairs.push((made, [first.clone(), second.clone()]));
         // IIDs only in one of them.
         let mut bare = first.clone();
         bare.entries.iter_mut().for_each(|entry| entry.iid = [0; 16]);
         rng.shuffle(&mut bare.entries);
-        pairs.push((made, bare, second.clone()));
-        for number in CONFLICTS {
-            let forced = forced(number, &first, &second);
-            pairs.extend(forced.map(|(a, b)| (WIDE[number as usize], a, b)));
-        }
+        pairs.push((made, [bare, second.clone()]));
+        pairs.extend(conflicts(WIDE, [first, second]));
     }
     pairs
 }
@@ -509,36 +500,30 @@ pub fn long() -> Vec<Pair> {
     let shared: usize = 36
         + first.entries[..12].iter().map(|e| 29 + e.name.len()).sum::<usize>()
         + 12 * (first.descriptors[0].size() + 256 * 300);
-    for (over, made) in [
-        (-1_000, "normal form well below the limit"),
-        (-1, "normal form of 1,048,575"),
-        (0, "normal form of 1,048,576"),
-        (1, "normal form of 1,048,577"),
-        (2, "normal form over the limit"),
-        (3, "normal form over the limit"),
-        (284, "normal form over the limit"),
-        (900, "normal form over the limit"),
-        (40_000, "normal form over the limit"),
-    ] {
+    for over in [-1_000, -1, 0, 1, 2, 3, 284, 900, 40_000] {
+        let made = match over {
+            ..-1 => "normal form well below the limit",
+            -1 => "normal form of 1,048,575",
+            0 => "normal form of 1,048,576",
+            1 => "normal form of 1,048,577",
+            2.. => "normal form over the limit",
+        };
         let length = (70_000 + shared as isize + over) as usize;
         let second = of_normal_length(length, 'b');
-        pairs.push((made, first.clone(), second.clone()));
+        pairs.push((made, [first.clone(), second.clone()]));
         if over == 2 || over == 900 {
             let second = Typelib { order: Order::Shuffled, ..second };
-            for number in CONFLICTS {
-                let forced = forced(number, &first, &second);
-                pairs.extend(forced.map(|(a, b)| (LONG[number as usize], a, b)));
-            }
+            pairs.extend(conflicts(LONG, [first.clone(), second]));
         }
     }
     // One file that is too long by itself.
     for more in [1, 2, 500, 90_000] {
         let over = of_normal_length(MAX_FILE + more, 'c');
-        pairs.push(("a file over the limit", over.clone(), Typelib::default()));
-        pairs.push(("a file over the limit", over.clone(), over));
+        let others = [Typelib::default(), over.clone()];
+        pairs.extend(others.map(|other| ("a file over the limit", [over.clone(), other])));
     }
     let most = of_normal_length(MAX_FILE, 'd');
-    pairs.push(("normal form of 1,048,576", most.clone(), Typelib::default()));
-    pairs.push(("normal form of 1,048,576", most.clone(), most));
+    let others = [Typelib::default(), most.clone()];
+    pairs.extend(others.map(|other| ("normal form of 1,048,576", [most.clone(), other])));
     pairs
 }

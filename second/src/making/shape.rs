@@ -209,9 +209,7 @@ pub fn values(lib: &Typelib, mut take: impl FnMut(&'static str, u64)) {
         for method in &d.methods {
             take("method flags", method.flags.into());
             take("numbers of arguments", method.arguments.len() as u64);
-            for argument in &method.arguments {
-                take("argument flags", argument.flags.into());
-            }
+            method.arguments.iter().for_each(|a| take("argument flags", a.flags.into()));
             take("result flags", method.result.flags.into());
             for parameter in method.arguments.iter().chain([&method.result]) {
                 let of = &parameter.of;
@@ -220,8 +218,6 @@ pub fn values(lib: &Typelib, mut take: impl FnMut(&'static str, u64)) {
                 }
             }
         }
-        for constant in &d.constants {
-            take("constant types", constant.kind.into());
-        }
+        d.constants.iter().for_each(|constant| take("constant types", constant.kind.into()));
     }
 }

@@ -198,21 +198,15 @@ impl<'a> Typelib<'a> {
     }
 }
 
-/// A getter or a setter of the interface being read.
-#[derive(Clone, Copy, PartialEq, Eq, PartialOrd, Ord)]
-struct Accessor<'a> {
-    name: &'a [u8],
-    setter: bool,
-    position: u16,
-}
+/// A getter or a setter of the interface being read: name, whether it is a setter, position.
+type Accessor<'a> = (&'a [u8], bool, u16);
 
 /// Whether every getter and setter of one name stand next to each other, the getter first.
 fn pairs_stand(accessors: &mut [Accessor]) -> bool {
     accessors.sort_unstable();
-    accessors.chunk_by(|a, b| a.name == b.name).all(|same| {
-        let (first, last) = (same[0], same[same.len() - 1]);
-        let paired = !first.setter && last.setter;
-        !paired || same.len() == 2 && last.position == first.position + 1
+    accessors.chunk_by(|a, b| a.0 == b.0).all(|same| {
+        let ((_, a, first), (_, b, last)) = (same[0], same[same.len() - 1]);
+        a == b || same.len() == 2 && last == first + 1
     })
 }
 
@@ -280,7 +274,6 @@ impl<'a> Reader<'_, 'a> {
         Ok(count)
     }
 
-    /// Interface descriptor.
     fn descriptor(mut self, accessors: &mut Vec<Accessor<'a>>) -> Result<(), Refusal> {
         let start = self.at;
         let parent = self.pair()?;
@@ -289,13 +282,8 @@ impl<'a> Reader<'_, 'a> {
         accessors.clear();
         for position in 0..self.count(MAX_METHODS)? {
             let (flags, name) = self.method()?;
-            for (kind, setter) in [(GETTER, false), (SETTER, true)] {
-                accessors.extend((flags & kind != 0).then_some(Accessor {
-                    name,
-                    setter,
-                    position,
-                }));
-            }
+            accessors.extend((flags & GETTER != 0).then_some((name, false, position)));
+            accessors.extend((flags & SETTER != 0).then_some((name, true, position)));
             constructors += usize::from(flags & CONSTRUCTOR != 0);
         }
         for _ in 0..self.count(MAX_CONSTANTS)? {
@@ -339,16 +327,12 @@ impl<'a> Reader<'_, 'a> {
 
     /// A parameter's flags, of which those that break the rule of its kind are refused, and its
     /// outermost prefix.
-    fn parameter(
-        &mut self,
-        named: &mut Named,
-        breaks_rule: fn(u8) -> bool,
-    ) -> Result<(u8, u8), Refusal> {
+    fn parameter(&mut self, named: &mut Named, bad: fn(u8) -> bool) -> Result<(u8, u8), Refusal> {
         let place = self.at;
         let flags = self.byte()?;
         let reserved = flags & reserved_in_parameter(self.lib.minor) != 0;
         refuse_if(reserved, refusal::RESERVED, place)?;
-        refuse_if(breaks_rule(flags), refusal::RULE, place)?;
+        refuse_if(bad(flags), refusal::RULE, place)?;
         Ok((flags, self.type_(named)?))
     }
 
@@ -390,7 +374,6 @@ impl<'a> Reader<'_, 'a> {
         }
     }
 
-    /// Constant.
     fn constant(&mut self) -> Result<(), Refusal> {
         self.name()?;
         let place = self.at;

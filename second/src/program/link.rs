@@ -4,6 +4,7 @@ use super::accepted::{pair, Accepted, Walk};
 use super::check::accept;
 use super::format::{refusal, refuse_if, refused, Refusal, MAX_INTERFACES};
 use super::normal::{write, Item, Source};
+use super::Answer;
 use std::collections::{HashMap, HashSet};
 
 /// A refusal, with the file whose own it is: 1 or 2; 0 for those of the link.
@@ -18,11 +19,7 @@ pub fn link(first: &[u8], second: &[u8], out: &mut [u8]) -> Result<usize, LinkRe
 }
 
 /// Links files that were checked before.
-pub fn link_accepted(
-    first: &Accepted,
-    second: &Accepted,
-    out: &mut [u8],
-) -> Result<usize, Refusal> {
+fn link_accepted(first: &Accepted, second: &Accepted, out: &mut [u8]) -> Answer {
     let union = Union::new(first, second)?;
     union.iids_stand()?;
     union.descriptors_agree()?;
@@ -208,6 +205,6 @@ impl<'l, 'a> Union<'l, 'a> {
             Source { lib: first, renumbered: rank },
             Source { lib: second, renumbered: of_second },
         ];
-        write(&sources, order.iter().map(|&number| *item(number)), out)
+        write(&sources, &order.iter().map(|&number| *item(number)).collect::<Vec<_>>(), out)
     }
 }

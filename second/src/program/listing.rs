@@ -26,73 +26,54 @@ pub fn list(file: &[u8], out: &mut impl Write) -> io::Result<()> {
 }
 
 impl Accepted<'_> {
-    /// Prints the listing.
     pub fn list(&self, out: &mut impl Write) -> io::Result<()> {
         let mut page = Page { out, bytes: Vec::with_capacity(PAGE) };
-        page.text(b"accepted ");
-        page.number(self.n as u64);
-        page.end_line()?;
+        page.text(b"accepted ").number(self.n as u64).end_line()?;
         let totals = self.method_totals();
         for index in 1..=self.n {
             self.list_entry(index, &totals, &mut page)?;
         }
-        page.finish()
+        page.out.write_all(&page.bytes)
     }
 
-    fn list_entry(
+    fn list_entry<W: Write>(
         &self,
         index: usize,
-        totals: &[Option<u64>],
-        page: &mut Page<impl Write>,
+        totals: &[Total],
+        page: &mut Page<W>,
     ) -> io::Result<()> {
         let (namespace, name) = self.key(index);
-        page.text(b"I ");
-        page.number(index as u64);
-        page.text(b" ");
-        page.hex(self.iid(index));
-        page.text(b" ");
-        page.text(if namespace.is_empty() { b"-" } else { namespace });
-        page.text(b" ");
-        page.text(name);
+        let namespace = if namespace.is_empty() { b"-" } else { namespace };
+        page.text(b"I ").number(index as u64).text(b" ").hex(self.iid(index));
+        page.text(b" ").text(namespace).text(b" ").text(name);
         let Some(descriptor) = self.descriptor(index) else {
-            page.text(b" unresolved");
-            return page.end_line();
+            return page.text(b" unresolved").end_line();
         };
         let parent = self.parent(index);
-        page.text(b" parent ");
-        page.number(parent as u64);
-        page.end_line()?;
+        page.text(b" parent ").number(parent as u64).end_line()?;
 
-        let above = totals[parent];
         let mut walk = self.walk(descriptor);
         for position in 0..walk.pair() {
             let (_, name, arguments) = walk.method();
-            page.text(b"M ");
-            match above {
-                Some(above) => page.number(above + u64::from(position)),
-                None => page.text(b"?"),
-            }
-            page.text(b" ");
-            page.text(walk.identifier(name));
-            page.text(b" ");
-            page.number(u64::from(arguments));
-            page.end_line()?;
+            match totals[parent] {
+                Some(above) => page.text(b"M ").number(above + u64::from(position)),
+                None => page.text(b"M ?"),
+            };
+            let name = walk.identifier(name);
+            page.text(b" ").text(name).text(b" ").number(arguments.into()).end_line()?;
         }
         for _ in 0..walk.pair() {
             let (name, kind, bits) = walk.constant();
             let value = Constant::new(kind, bits).value();
-            page.text(b"C ");
-            page.text(walk.identifier(name));
-            page.text(if value < 0 { b" -" } else { b" " });
-            page.number(value.unsigned_abs());
+            page.text(b"C ").text(walk.identifier(name));
+            page.text(if value < 0 { b" -" } else { b" " }).number(value.unsigned_abs());
             page.end_line()?;
         }
         Ok(())
     }
 
-    /// By index, with 0 for no parent: the methods of an entry and all its ancestors, where its
-    /// chain is complete.
-    fn method_totals(&self) -> Vec<Option<u64>> {
+    /// By index, with 0 for no parent.
+    fn method_totals(&self) -> Vec<Total> {
         let mut totals = vec![None; self.n + 1];
         let mut known = vec![false; self.n + 1];
         (totals[0], known[0]) = (Some(0), true);
@@ -117,6 +98,9 @@ impl Accepted<'_> {
     }
 }
 
+/// The methods of an entry and all its ancestors, where its chain is complete.
+type Total = Option<u64>;
+
 const PAGE: usize = 65_536;
 
 /// Gathers lines and hands them on in large pieces.
@@ -126,11 +110,12 @@ struct Page<'w, W> {
 }
 
 impl<W: Write> Page<'_, W> {
-    fn text(&mut self, text: &[u8]) {
+    fn text(&mut self, text: &[u8]) -> &mut Self {
         self.bytes.extend_from_slice(text);
+        self
     }
 
-    fn number(&mut self, mut number: u64) {
+    fn number(&mut self, mut number: u64) -> &mut Self {
         let mut digits = [0; 20];
         let mut first = digits.len();
         loop {
@@ -141,7 +126,7 @@ impl<W: Write> Page<'_, W> {
                 break;
             }
         }
-        self.text(&digits[first..]);
+        self.text(&digits[first..])
     }
 
     fn hex(&mut self, iid: u128) {
@@ -159,9 +144,5 @@ impl<W: Write> Page<'_, W> {
             self.bytes.clear();
         }
         Ok(())
-    }
-
-    fn finish(self) -> io::Result<()> {
-        self.out.write_all(&self.bytes)
     }
 }

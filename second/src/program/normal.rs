@@ -3,6 +3,7 @@
 use super::accepted::{pair, Accepted, Key};
 use super::check::accept;
 use super::format::{refusal, refused, Refusal, ENTRY, MAGIC, MAX_FILE};
+use super::Answer;
 
 /// Writes the normal form and gives its length; the rest of the buffer keeps its bytes, on a
 /// refusal all of it.
@@ -27,7 +28,7 @@ impl<'a> Accepted<'a> {
             let descriptor = self.descriptor(index).map(|place| (0, place));
             Item { iid: self.iid(index), key: self.key(index), descriptor }
         };
-        write(&sources, order.iter().map(item), out)
+        write(&sources, &order.iter().map(item).collect::<Vec<_>>(), out)
     }
 }
 
@@ -50,14 +51,10 @@ pub(crate) struct Item<'a> {
 const DIRECTORY: usize = 36;
 
 /// Writes the normal form of these entries, which come in order: 26, then 27.
-pub(crate) fn write<'a>(
-    sources: &[Source<'_, 'a>],
-    items: impl ExactSizeIterator<Item = Item<'a>> + Clone,
-    out: &mut [u8],
-) -> Result<usize, Refusal> {
+pub(crate) fn write(sources: &[Source], items: &[Item], out: &mut [u8]) -> Answer {
     let n = items.len();
     let pool = DIRECTORY + ENTRY * n;
-    let Some((length, sizes)) = lengths(sources, items.clone(), pool) else {
+    let Some((length, sizes)) = lengths(sources, items, pool) else {
         return refused(refusal::FORM_SIZE, 0);
     };
     let Some(out) = out.get_mut(..length) else {
@@ -65,10 +62,14 @@ pub(crate) fn write<'a>(
     };
     let (head, pool_bytes) = out.split_at_mut(pool);
     let (header, directory) = head.split_at_mut(DIRECTORY);
-    write_header(header, n, length, pool);
+    let words = [length, if n == 0 { 0 } else { DIRECTORY }, pool].map(|word| word as u32);
+    header[..18].copy_from_slice(&[&MAGIC[..], &[1, 1]].concat());
+    header[18..20].copy_from_slice(&(n as u16).to_be_bytes());
+    header[20..32].copy_from_slice(words.map(u32::to_be_bytes).as_flattened());
+    header[32..].copy_from_slice(&[0x80, 0, 0, 0]);
     let mut writer = Writer { bytes: pool_bytes, at: 0 };
     let mut sizes = sizes.into_iter();
-    for (item, entry) in items.zip(directory.chunks_exact_mut(ENTRY)) {
+    for (item, entry) in items.iter().zip(directory.chunks_exact_mut(ENTRY)) {
         let (namespace, name) = item.key;
         let name = writer.name(name);
         let namespace = if namespace.is_empty() { 0 } else { writer.name(namespace) };
@@ -83,25 +84,10 @@ pub(crate) fn write<'a>(
     Ok(length)
 }
 
-fn write_header(header: &mut [u8], n: usize, length: usize, pool: usize) {
-    let directory = if n == 0 { 0 } else { DIRECTORY as u32 };
-    header[..16].copy_from_slice(&MAGIC);
-    header[16..18].copy_from_slice(&[1, 1]);
-    header[18..20].copy_from_slice(&(n as u16).to_be_bytes());
-    header[20..24].copy_from_slice(&(length as u32).to_be_bytes());
-    header[24..28].copy_from_slice(&directory.to_be_bytes());
-    header[28..32].copy_from_slice(&(pool as u32).to_be_bytes());
-    header[32..].copy_from_slice(&[0x80, 0, 0, 0]);
-}
-
 /// The length of the whole, and the bytes of each entry's descriptor without its names (0 where
 /// there is none); nothing if it is over the limit. As nothing is shared in a normal form, what
 /// is read up to there is little, however much the sources share.
-fn lengths<'a>(
-    sources: &[Source<'_, 'a>],
-    items: impl ExactSizeIterator<Item = Item<'a>>,
-    pool: usize,
-) -> Option<(usize, Vec<u32>)> {
+fn lengths(sources: &[Source], items: &[Item], pool: usize) -> Option<(usize, Vec<u32>)> {
     let mut length = pool;
     let mut sizes = Vec::with_capacity(items.len());
     for item in items {

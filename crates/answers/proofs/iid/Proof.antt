@@ -1,54 +1,29 @@
--- `answers::iid` meets its contract. Digits of another length are asked as no bytes, which is answered alike.
+-- `answers::iid` meets its contract.
 -- Assumes nothing.
-use Rattle.number.proofs.Tools.{sym, ap, _∙_, needs}
-use Rattle.reader.specs.Reader.{decode}
-use Rattle.lookup.specs.Question.{askIid}
-use Rattle.answers.specs.Commands.{withHex, iidSaying}
-use Rattle.sayings.specs.Sayings.{sayInterface}
-use Rattle.sayings.proofs.SayingLaws.{says-as}
-use Rattle.answers.proofs.CommandLaws.{bytes-whole, bytes-sixteen, asked-other}
+use Rattle.number.proofs.Tools.{needs}
+use Rattle.guids.proofs.FormLaws.{plain-told, plain-other, plain-length}
+use Rattle.answers.specs.Commands.{iidSaying}
 use Rattle.answers.proofs.iid.Statement.{statement}
 use Rattle.answers.proofs.iid.Tie as tie
 
-slice-aggregate-interface-by-iid : tie.Need-slice-aggregate-interface-by-iid
-slice-aggregate-interface-by-iid c = bytes-sixteen (c .before .before .before .before .before .before .before .args .hex .now) _ _ (sym (c .before .before .before .iid-bytes .ensures .0) ∙ c .before .enum-told .given .1) (c .before .before .before .iid-bytes .ensures .1)
+slice-aggregate-of-digits : tie.Need-slice-aggregate-of-digits
+slice-aggregate-of-digits c = plain-length _ (c .before .before .plain .ensures) (c .before .if1 .taken)
 
 returns : tie.Need-returns
-unfolding iidSaying withHex
-returns c =
-    let a = c .before .before .before .before .before .before .before .before .before .before .args in
-    let whole = sym (c .before .before .before .before .before .before .iid-bytes .ensures .0) ∙ c .before .before .before .before .enum-told .given .1 in
-    rw whole (says-as (ap sayInterface (c .before .before .interface-by-iid .ensures ∙ ap (askIid (decode (a .file .now))) (bytes-whole (a .hex .now) _ _ whole (c .before .before .before .before .before .before .iid-bytes .ensures .1)))) (c .interface .ensures))
+unfolding iidSaying
+returns c = rw (← plain-told _ (c .before .before .before .before .plain .ensures) (c .before .before .before .if1 .taken)) (c .of-digits .ensures)
 
 returns-2 : tie.Need-returns-2
-unfolding iidSaying withHex
-returns-2 c =
-    let a = c .before .before .before .before .before .before .before .before .before .before .args in
-    let other = sym (c .before .before .before .before .before .before .iid-bytes .ensures .0) ∙ c .before .before .before .before .enum-told2 .given .1 in
-    rw other (says-as (ap sayInterface (c .before .before .interface-by-iid2 .ensures ∙ asked-other (a .hex .now) (decode (a .file .now)) other)) (c .interface2 .ensures))
-
-returns-3 : tie.Need-returns-3
-unfolding iidSaying withHex
-returns-3 c = rw (sym (c .before .before .before .before .before .iid-bytes .ensures .0) ∙ c .before .before .before .enum-told3 .given .1) (c .mistake .ensures)
+unfolding iidSaying
+returns-2 c = rw (← plain-other _ (c .before .before .before .plain .ensures) (c .before .before .if1 .left)) (c .of-digits2 .ensures)
 
 pub iid-spec : {M : Type 1} → statement M
 iid-spec =
     tie.close
     (tie.spec
     (λ c κs. search needs)
-    (λ c. search needs)
-    slice-aggregate-interface-by-iid
-    (λ c κs. search needs)
-    (λ c κs. search needs)
-    (λ c. search needs)
-    (λ c. search needs)
-    (λ c. search needs)
-    (λ c. search needs)
-    (λ c κs. search needs)
-    (λ c κs. search needs)
-    (λ c. search needs)
-    (λ c. search needs)
+    slice-aggregate-of-digits
     (λ c κs. search needs)
     returns
-    returns-2
-    returns-3)
+    (λ c κs. search needs)
+    returns-2)
