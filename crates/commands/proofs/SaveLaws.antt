@@ -1,7 +1,7 @@
 -- What is to be saved lies within the output.
 -- Assumes nothing.
 use mathlib.Core.List.{List}
-use mathlib.Core.Path.{_≡_, sym, subst}
+use mathlib.Core.Path.{_≡_}
 use mathlib.Core.Bool.{Bool}
 use Prim.Native.Nat.{ℕ, _≤_}
 use lib.ListN.{length}
@@ -18,13 +18,7 @@ use Rattle.tasks.specs.Tasks.{inBatch, taskOf}
 use Rattle.link.specs.declared.Which.the-variants.{Union}
 use Rattle.link.specs.Outcome.{normaliseIn, normalOf, normaliseAnswer, linkIn, linkOf, linkedAs, linkAnswer, refusalOf}
 use Rattle.commands.specs.declared.Save.{Save}
-use Rattle.commands.specs.declared.Save.the-variants.{Nothing, FirstBytes}
-use Rattle.commands.specs.Answer.{normalisedSave, linkedSave, verbAnswer, taskAnswer, answerOf}
-
--- at most `room` bytes are saved
-abbrev pub SavedIn : ℕ → Save → Type 0
-SavedIn room Nothing = Unit {0}
-SavedIn room (FirstBytes n) = n ≤ room
+use Rattle.commands.specs.Answer.{normalisedSave, linkedSave, verbAnswer, taskAnswer, answerOf, SavedIn}
 
 -- an outcome of at most `room` bytes
 abbrev Fits : {X : Type 0} → ℕ → Outcome X → Type 0
@@ -61,9 +55,9 @@ verb-saves b verb.Normal ws first second out = normal-saves first out
 verb-saves b verb.Link ws first second out = link-saves first second out
 verb-saves b verb.Unknown ws first second out = tt
 
-pub answer-saves : (separator : ℕ) (line first second out : List ℕ) {s : Save} → s ≡ answerOf separator line first second out .save → (n : ℕ) → s ≡ FirstBytes n → n ≤ length out
+pub answer-saves : (separator : ℕ) (line first second out : List ℕ) (n : ℕ) {s : Save} → length out ≡ n → s ≡ answerOf separator line first second out .save → SavedIn n s
 unfolding answerOf taskAnswer
-answer-saves separator line first second out {s} e n h = subst (SavedIn (length out)) h (subst (SavedIn (length out)) (sym e) (task (taskOf separator line)))
+answer-saves separator line first second out n {s} k e = rw (← k, e) (task (taskOf separator line))
   where
     task : (t : Task) → SavedIn (length out) (taskAnswer (inBatch separator) t (wordsOf separator line) first second out .save)
     task (Mistaken m) = tt

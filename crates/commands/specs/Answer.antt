@@ -3,7 +3,7 @@
 use mathlib.Core.Path.{_≡_}
 use mathlib.Core.Bool.{Bool}
 use mathlib.Core.List.{List}
-use Prim.Native.Nat.{ℕ}
+use Prim.Native.Nat.{ℕ, _≤_}
 use Rattle.words.specs.Words.{wordsOf}
 use Rattle.verbs.specs.declared.Verb.{Verb}
 use Rattle.verbs.specs.declared.Verb.the-variants as verb
@@ -72,6 +72,11 @@ taskAnswer b (Run v) ws first second out = verbAnswer b v ws first second out
 -- the line, about the bytes of the file or files that it names
 unfoldable pub answerOf : ℕ → List ℕ → List ℕ → List ℕ → List ℕ → Answer
 answerOf separator line first second out = taskAnswer (inBatch separator) (taskOf separator line) (wordsOf separator line) first second out
+
+-- no more than so many bytes are saved
+abbrev pub SavedIn : ℕ → Save → Type 0
+SavedIn room Nothing = Unit {0}
+SavedIn room (FirstBytes n) = n ≤ room
 
 -- the reply of one line
 abbrev pub oneLine : Said → Reply

@@ -8,12 +8,13 @@ use words::Span;
 ghost use mathlib.Core.Path.{_≡_};
 ghost use mathlib.Core.Bool.{true};
 ghost use Prim.Native.Nat.{ℕ, _≤_};
+ghost use Rattle.number.specs.Limits.{fileLimit};
 ghost use Rattle.words.specs.Words.{wordsOf};
 ghost use Rattle.tasks.specs.Tasks.{inBatch, argument, taskOf, filesOf};
 ghost use Rattle.kept.specs.Table.{Tidy};
 ghost use Rattle.kept.specs.Files.{isFound, keptFile};
 ghost use Rattle.kept.specs.Room.{Roomy};
-ghost use Rattle.commands.specs.Answer.{answerOf, Replies};
+ghost use Rattle.commands.specs.Answer.{answerOf, SavedIn, Replies};
 ghost use Rattle.store.specs.declared.Loaded.the-variants as loaded;
 ghost use Rattle.store.specs.Loading.{isBarred, Loads};
 ghost use Rattle.held.specs.Held.{Held, WhereHad, FetchesAll, Lies};
@@ -182,7 +183,7 @@ pub fn answer(
     text: &mut [u8; 128],
 ) -> Reply
     requires { ⌜ Tidy (now rows) kept × Held (filesOf (taskOf separator (now line))) (wordsOf separator (now line)) kept (now rows) (now store) ⌝ }
-    ensures { λ r. ⌜ Replies (inBatch separator) (answerOf separator (now (line .entry)) (keptFile (argument 1 (wordsOf separator (now (line .entry)))) kept (now (rows .entry)) (now (store .entry))) (keptFile (argument 2 (wordsOf separator (now (line .entry)))) kept (now (rows .entry)) (now (store .entry))) (now (out .entry))) (keptFile (argument 1 (wordsOf separator (now (line .entry)))) kept (now (rows .entry)) (now (store .entry))) (now (text .entry)) r (now (out .exit)) (now (text .exit)) ⌝ }
+    ensures { λ r. ⌜ SavedIn fileLimit (r .save) × Replies (inBatch separator) (answerOf separator (now (line .entry)) (keptFile (argument 1 (wordsOf separator (now (line .entry)))) kept (now (rows .entry)) (now (store .entry))) (keptFile (argument 2 (wordsOf separator (now (line .entry)))) kept (now (rows .entry)) (now (store .entry))) (now (out .entry))) (keptFile (argument 1 (wordsOf separator (now (line .entry)))) kept (now (rows .entry)) (now (store .entry))) (now (text .entry)) r (now (out .exit)) (now (text .exit)) ⌝ }
 {
     let first = file_at(line, separator, 1, kept, rows, store);
     let second = file_at(line, separator, 2, kept, rows, store);

@@ -1,6 +1,6 @@
 // The command of a line, from its bytes to standard output, standard error and files. Its words are parted by a separator, which is a space in a batch
 // and a zero byte between arguments.
-mod told;
+pub mod streams;
 mod why;
 
 use commands::Reply;
@@ -8,21 +8,21 @@ use commands::Save;
 use failures::ROOM;
 use held::Wanting;
 use kept::Kept;
+use listed::Rest;
 use number::FILE_LIMIT;
 use saving::Saved;
 use sayings::Why;
-ghost use mathlib.Core.Path.{_≡_};
 ghost use mathlib.Core.List.{List};
 ghost use Prim.Native.Nat.{ℕ, _≤_};
 ghost use lib.ListN.{length};
 ghost use Rattle.number.specs.Limits.{fileLimit};
-ghost use Rattle.failures.specs.Room.{wordLimit};
+ghost use Rattle.failures.specs.Room.{room, wordLimit};
 ghost use Rattle.words.specs.Words.{wordsOf};
 ghost use Rattle.tasks.specs.Tasks.{inBatch, argument, taskOf, filesOf};
 ghost use Rattle.kept.specs.Table.{Tidy};
 ghost use Rattle.kept.specs.Files.{keptFile};
 ghost use Rattle.listed.specs.Rest.{LeftIn};
-ghost use Rattle.held.specs.Held.{Held};
+ghost use Rattle.held.specs.Held.{Held, WhereHad};
 ghost use Rattle.runs.specs.Settled.{Settled};
 
 // What standard output got: an answer, a line for a mistake, or nothing any more.
@@ -60,7 +60,7 @@ fn say_unread(line: &[u8], separator: u8, k: usize, error: i32, text: &mut [u8; 
     let from = name.from;
     let end = name.end;
     let n = failures::unread(&line[from..end], error, text);
-    mistaken(told::put_error(text, n))
+    mistaken(streams::put_error(text, n))
 }
 
 // What is left of the listing of the first file.
@@ -78,7 +78,7 @@ fn put_rest(
     let from = file.from;
     let end = file.end;
     let all: &[u8] = store;
-    told::put_rest(&all[from..end], rest, tasks::in_batch(separator))
+    streams::put_rest(&all[from..end], rest, tasks::in_batch(separator))
 }
 
 // What the mistake in the line says, which stands at the front of `head`, on standard error too.
@@ -98,7 +98,6 @@ fn say_why(
     separator: u8,
     reply: Reply,
     head: &[u8; 128],
-    is_open: bool,
     kept: Kept,
     rows: &[usize; 256],
     store: &[u8; 4210688],
@@ -108,16 +107,200 @@ fn say_why(
 {
     let said = reply.said;
     let whose = reply.whose;
+    let n = said.length;
     let reason = said.why;
     match reason {
-        Why::Answered => answered(is_open),
+        Why::Answered => Told::Answer,
         Why::Mistaken => {
-            say_mistake(line, separator, head, said.length, text);
-            mistaken(is_open)
+            say_mistake(line, separator, head, n, text);
+            Told::Mistake
         }
         Why::Refused(refusal) => {
             why::say(line, separator, whose, refusal, kept, rows, store, text);
-            answered(is_open)
+            Told::Answer
         }
     }
+}
+
+// An answer that writes no file.
+fn say_reply(
+    line: &[u8],
+    separator: u8,
+    reply: Reply,
+    head: &[u8; 128],
+    kept: Kept,
+    rows: &[usize; 256],
+    store: &[u8; 4210688],
+    text: &mut [u8; ROOM],
+) -> Told
+    requires { ⌜ ((length (now line) ≤ wordLimit) × (reply .said .length ≤ 128)) × (Tidy (now rows) kept × ((rest : List ℕ) × LeftIn (inBatch separator) (keptFile (argument 1 (wordsOf separator (now line))) kept (now rows) (now store)) (reply .rest) rest)) ⌝ }
+{
+    let said = reply.said;
+    let rest = reply.rest;
+    let n = said.length;
+    if !streams::put(head, n) {
+        return Told::Closed;
+    }
+    if !put_rest(line, separator, rest, kept, rows, store) {
+        return Told::Closed;
+    }
+    say_why(line, separator, reply, head, kept, rows, store, text)
+}
+
+// The first n bytes of the output to the file that the line names.
+fn save_output(line: &[u8], separator: u8, n: usize, out: &[u8; FILE_LIMIT]) -> Saved
+    requires { ⌜ n ≤ fileLimit ⌝ }
+{
+    let name = tasks::output(line, separator);
+    let from = name.from;
+    let end = name.end;
+    let is_forced = tasks::is_forced(line, separator);
+    let all: &[u8] = out;
+    saving::save(&line[from..end], &all[..n], is_forced)
+}
+
+// The line for a file that was not written.
+fn put_unsaved(saved: Saved, name: &[u8], text: &mut [u8; ROOM]) -> usize
+    requires { ⌜ length (now name) ≤ wordLimit ⌝ }
+    ensures { λ r. ⌜ r ≤ room ⌝ }
+{
+    match saved {
+        Saved::Done => 0,
+        Saved::Taken => failures::taken(name, text),
+        Saved::NoFile => failures::no_file(name, text),
+        Saved::Failed(error) => failures::unwritten(name, error, text),
+    }
+}
+
+fn say_unsaved(line: &[u8], separator: u8, saved: Saved, text: &mut [u8; ROOM]) -> Told
+    requires { ⌜ length (now line) ≤ wordLimit ⌝ }
+{
+    let name = tasks::output(line, separator);
+    let from = name.from;
+    let end = name.end;
+    let n = put_unsaved(saved, &line[from..end], text);
+    mistaken(streams::put_error(text, n))
+}
+
+// The line at the front of `head`, once its file was written.
+fn say_saved(
+    line: &[u8],
+    separator: u8,
+    saved: Saved,
+    n: usize,
+    head: &[u8; 128],
+    text: &mut [u8; ROOM],
+) -> Told
+    requires { ⌜ (length (now line) ≤ wordLimit) × (n ≤ 128) ⌝ }
+{
+    if let Saved::Done = saved {
+        return answered(streams::put(head, n));
+    }
+    say_unsaved(line, separator, saved, text)
+}
+
+// All files that the line names are in the store.
+fn reply_with(
+    line: &[u8],
+    separator: u8,
+    kept: Kept,
+    rows: &[usize; 256],
+    store: &[u8; 4210688],
+    out: &mut [u8; FILE_LIMIT],
+    head: &mut [u8; 128],
+    text: &mut [u8; ROOM],
+) -> Told
+    requires { ⌜ (length (now line) ≤ wordLimit) × (Tidy (now rows) kept × Held (filesOf (taskOf separator (now line))) (wordsOf separator (now line)) kept (now rows) (now store)) ⌝ }
+{
+    let reply = held::answer(line, separator, kept, rows, store, out, head);
+    let said = reply.said;
+    let save = reply.save;
+    let length = said.length;
+    match save {
+        Save::Nothing => say_reply(line, separator, reply, head, kept, rows, store, text),
+        Save::FirstBytes(n) => {
+            let saved = save_output(line, separator, n, out);
+            say_saved(line, separator, saved, length, head, text)
+        }
+    }
+}
+
+fn reply(
+    line: &[u8],
+    separator: u8,
+    kept: Kept,
+    rows: &[usize; 256],
+    store: &[u8; 4210688],
+    out: &mut [u8; FILE_LIMIT],
+    text: &mut [u8; ROOM],
+) -> Told
+    requires { ⌜ (length (now line) ≤ wordLimit) × (Tidy (now rows) kept × Held (filesOf (taskOf separator (now line))) (wordsOf separator (now line)) kept (now rows) (now store)) ⌝ }
+{
+    let mut head = [0u8; 128];
+    reply_with(line, separator, kept, rows, store, out, &mut head, text)
+}
+
+// The answer, or the line for a file that is wanting.
+fn answer(
+    line: &[u8],
+    separator: u8,
+    wanting: Wanting,
+    kept: Kept,
+    rows: &[usize; 256],
+    store: &[u8; 4210688],
+    out: &mut [u8; FILE_LIMIT],
+    text: &mut [u8; ROOM],
+) -> Told
+    requires { ⌜ (length (now line) ≤ wordLimit) × (Tidy (now rows) kept × WhereHad (Held (filesOf (taskOf separator (now line))) (wordsOf separator (now line)) kept (now rows) (now store)) wanting) ⌝ }
+{
+    match wanting {
+        Wanting::Nothing => reply(line, separator, kept, rows, store, out, text),
+        Wanting::Input => {
+            let n = failures::input_in_batch(text);
+            mistaken(streams::put_error(text, n))
+        }
+        Wanting::First(error) => say_unread(line, separator, 1, error, text),
+        Wanting::Second(error) => say_unread(line, separator, 2, error, text),
+    }
+}
+
+// What may be the file that the line wrote is read anew.
+fn settle(line: &[u8], separator: u8, kept: Kept, rows: &mut [usize; 256], store: &[u8; 4210688])
+    requires { ⌜ Tidy (now rows) kept ⌝ }
+    ensures { λ _. ⌜ Settled separator (now (line .entry)) kept (now (rows .exit)) (now (store .entry)) ⌝ }
+{
+    if tasks::is_writing(tasks::task_of(line, separator)) {
+        let name = tasks::output(line, separator);
+        let from = name.from;
+        let end = name.end;
+        kept::forget(&line[from..end], kept, rows, store);
+    }
+}
+
+// The command of a line.
+pub fn run(
+    line: &[u8],
+    separator: u8,
+    kept: Kept,
+    rows: &mut [usize; 256],
+    store: &mut [u8; 4210688],
+    out: &mut [u8; FILE_LIMIT],
+    text: &mut [u8; ROOM],
+) -> Ran
+    requires { ⌜ (length (now line) ≤ wordLimit) × Tidy (now rows) kept ⌝ }
+    ensures { λ r. ⌜ Settled separator (now (line .entry)) (r .kept) (now (rows .exit)) (now (store .exit)) ⌝ }
+{
+    let roomy = kept::with_room(kept, 2, rows);
+    let fetched = held::fetch_all(line, separator, roomy, rows, store);
+    let kept = fetched.kept;
+    let wanting = fetched.wanting;
+    let told = answer(line, separator, wanting, kept, rows, store, out, text);
+    settle(line, separator, kept, rows, store);
+    Ran { kept, told }
+}
+
+// The line of a batch that was too long.
+pub fn say_too_long(text: &mut [u8; ROOM]) -> Told {
+    let n = failures::line_too_long(text);
+    mistaken(streams::put_error(text, n))
 }

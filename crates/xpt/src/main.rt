@@ -1,30 +1,53 @@
-// The workbench's commands on files, one at a time or in a batch: what it is fed (crate `feed`) goes to the runs of commands (`runs`).
+// The workbench's commands on files: what the arguments ask for (crate `feed`) is run with its buffers (`sessions`), or told.
+use failures::ROOM;
 use feed::arguments::Gathered;
-use number::FILE_LIMIT;
+use feed::INPUT_ROOM;
+ghost use Prim.Native.Nat.{_≤_};
+ghost use Rattle.failures.specs.Room.{room};
 
-// The words of one command, parted by zero bytes; or what stands for none.
-fn start(
-    input: &mut [u8; 65536],
-    rows: &mut [usize; 256],
-    store: &mut [u8; 4210688],
-    out: &mut [u8; FILE_LIMIT],
-) {
+// The first n bytes on standard output.
+fn put(text: &[u8; ROOM], n: usize)
+    requires { ⌜ n ≤ room ⌝ }
+{
+    let all: &[u8] = text;
+    io::write_all(1, &all[..n]);
+}
+
+// What the arguments ask for.
+fn start(input: &mut [u8; INPUT_ROOM], text: &mut [u8; ROOM]) {
     match feed::arguments::gather(input) {
-        Gathered::Nothing => failures::help::say_no_command(),
-        Gathered::TooLong => failures::say_arguments_too_long(),
-        Gathered::Help => failures::help::say_help(),
-        Gathered::Batch => batch::run(input, rows, store, out),
+        Gathered::Nothing => {
+            let n = failures::no_command(text);
+            runs::streams::put_error(text, n);
+            remarks::hint(text);
+        }
+        Gathered::TooLong => {
+            let n = failures::arguments_too_long(text);
+            runs::streams::put_error(text, n);
+        }
+        Gathered::Help => {
+            let n = manual::help(text);
+            put(text, n);
+        }
+        Gathered::Version => {
+            let n = manual::version(text);
+            put(text, n);
+        }
+        Gathered::HelpOf(k) => {
+            let all: &[u8] = input;
+            let n = manual::help_of(verbs::verb_of(&all[..k]), text);
+            put(text, n);
+        }
+        Gathered::Batch => sessions::batch(input),
         Gathered::Words(n) => {
             let all: &[u8] = input;
-            runs::single(&all[..n], rows, store, out);
+            sessions::single(&all[..n]);
         }
     }
 }
 
 fn main() {
-    let mut input = [0u8; 65536];
-    let mut rows = [0usize; 256];
-    let mut store = [0u8; 4210688];
-    let mut out = [0u8; FILE_LIMIT];
-    start(&mut input, &mut rows, &mut store, &mut out);
+    let mut input = [0u8; INPUT_ROOM];
+    let mut text = [0u8; ROOM];
+    start(&mut input, &mut text);
 }

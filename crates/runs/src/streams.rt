@@ -19,7 +19,10 @@ fn put_each(file: &[u8], first: Rest, in_batch: bool, out: &mut [u8; 65536]) -> 
     requires { ⌜ ((text : List ℕ) × LeftIn «in_batch» (now file) first text) ⌝ }
 {
     let mut rest = first;
-    while !listed::is_over(rest) {
+    loop {
+        if listed::is_over(rest) {
+            return true;
+        }
         let more = listed::go_on(file, rest, in_batch, out);
         let n = more.length;
         let all: &[u8] = out;
@@ -28,7 +31,6 @@ fn put_each(file: &[u8], first: Rest, in_batch: bool, out: &mut [u8; 65536]) -> 
         }
         rest = more.rest;
     }
-    true
 }
 
 pub fn put_rest(file: &[u8], rest: Rest, in_batch: bool) -> bool

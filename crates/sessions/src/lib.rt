@@ -1,0 +1,164 @@
+// Runs of commands, with their buffers: one command, or a batch. They stand apart from the program, so that what needs no buffers runs without them.
+use failures::ROOM;
+use feed::Coming;
+use feed::Feed;
+use feed::INPUT_ROOM;
+use feed::Taken;
+use kept::Kept;
+use number::FILE_LIMIT;
+use runs::Told;
+ghost use mathlib.Core.Path.{_≡_};
+ghost use Prim.Native.Nat.{_≤_};
+ghost use lib.ListN.{length};
+ghost use Rattle.failures.specs.Room.{wordLimit};
+ghost use Rattle.feed.specs.Lines.{inputRoom};
+ghost use Rattle.feed.specs.Input.{Fed};
+ghost use Rattle.kept.specs.Table.{Tidy};
+
+// What goes from one turn of a batch to the next.
+struct Turn {
+    feed: Feed,
+    kept: Kept,
+    is_going: bool,
+}
+
+// Whether standard output still takes lines; it is said on standard error where it does not.
+fn is_open(told: Told, text: &mut [u8; ROOM]) -> bool {
+    match told {
+        Told::Answer => true,
+        Told::Mistake => true,
+        Told::Closed => {
+            remarks::output_gone(text);
+            false
+        }
+    }
+}
+
+// A line of a batch, answered.
+fn take_line(
+    taken: Taken,
+    kept: Kept,
+    input: &[u8; INPUT_ROOM],
+    rows: &mut [usize; 256],
+    store: &mut [u8; 4210688],
+    out: &mut [u8; FILE_LIMIT],
+    text: &mut [u8; ROOM],
+) -> Turn
+    requires { ⌜ ((taken .from ≤ taken .end) × (taken .end ≤ inputRoom)) × (Fed (now input) (taken .feed) × Tidy (now rows) kept) ⌝ }
+    ensures { λ r. ⌜ Fed (now (input .entry)) (r .feed) × Tidy (now (rows .exit)) (r .kept) ⌝ }
+{
+    let from = taken.from;
+    let end = taken.end;
+    let feed = taken.feed;
+    let all: &[u8] = input;
+    let ran = runs::run(&all[from..end], b' ', kept, rows, store, out, text);
+    let kept = ran.kept;
+    let told = ran.told;
+    Turn {
+        feed,
+        kept,
+        is_going: is_open(told, text),
+    }
+}
+
+// One item of the input, answered with one line, or more input.
+fn turn(
+    feed: Feed,
+    kept: Kept,
+    input: &mut [u8; INPUT_ROOM],
+    rows: &mut [usize; 256],
+    store: &mut [u8; 4210688],
+    out: &mut [u8; FILE_LIMIT],
+    text: &mut [u8; ROOM],
+) -> Turn
+    requires { ⌜ Fed (now input) feed × Tidy (now rows) kept ⌝ }
+    ensures { λ r. ⌜ Fed (now (input .exit)) (r .feed) × Tidy (now (rows .exit)) (r .kept) ⌝ }
+{
+    match feed::next(feed, input) {
+        Coming::Line(taken) => take_line(taken, kept, input, rows, store, out, text),
+        Coming::TooLong(after) => {
+            let told = runs::say_too_long(text);
+            Turn {
+                feed: after,
+                kept,
+                is_going: is_open(told, text),
+            }
+        }
+        Coming::More(after) => {
+            let came = feed::read_more(after, input);
+            let more = came.feed;
+            Turn {
+                feed: more,
+                kept,
+                is_going: true,
+            }
+        }
+        Coming::Over => Turn {
+            feed,
+            kept,
+            is_going: false,
+        },
+    }
+}
+
+// All lines of standard input. A loop that is proved has to end, and nothing says that the input does: the turns are counted down from a number that no run uses up.
+fn run_all(
+    input: &mut [u8; INPUT_ROOM],
+    rows: &mut [usize; 256],
+    store: &mut [u8; 4210688],
+    out: &mut [u8; FILE_LIMIT],
+    text: &mut [u8; ROOM],
+)
+    requires { ⌜ 256 ≡ length (now rows) ⌝ }
+{
+    let mut feed = feed::start();
+    let mut kept = Kept { rows: 0, used: 0 };
+    let mut turns = u64::MAX;
+    while 0 < turns {
+        turns -= 1;
+        let after = turn(feed, kept, input, rows, store, out, text);
+        if !after.is_going {
+            return;
+        }
+        feed = after.feed;
+        kept = after.kept;
+    }
+}
+
+// The commands on standard input, one a line.
+pub fn batch(input: &mut [u8; INPUT_ROOM]) {
+    let mut rows = [0usize; 256];
+    let mut store = [0u8; 4210688];
+    let mut out = [0u8; FILE_LIMIT];
+    let mut text = [0u8; ROOM];
+    run_all(input, &mut rows, &mut store, &mut out, &mut text);
+}
+
+// One command, whose words are parted by zero bytes.
+fn run_one(
+    line: &[u8],
+    rows: &mut [usize; 256],
+    store: &mut [u8; 4210688],
+    out: &mut [u8; FILE_LIMIT],
+    text: &mut [u8; ROOM],
+)
+    requires { ⌜ (length (now line) ≤ wordLimit) × (256 ≡ length (now rows)) ⌝ }
+{
+    let ran = runs::run(line, 0, Kept { rows: 0, used: 0 }, rows, store, out, text);
+    let told = ran.told;
+    match told {
+        Told::Answer => {}
+        Told::Mistake => remarks::hint(text),
+        Told::Closed => remarks::output_gone(text),
+    }
+}
+
+pub fn single(line: &[u8])
+    requires { ⌜ length (now line) ≤ wordLimit ⌝ }
+{
+    let mut rows = [0usize; 256];
+    let mut store = [0u8; 4210688];
+    let mut out = [0u8; FILE_LIMIT];
+    let mut text = [0u8; ROOM];
+    run_one(line, &mut rows, &mut store, &mut out, &mut text);
+}
