@@ -62,7 +62,7 @@ fn take_line(
 }
 
 // One item of the input, answered with one line, or more input.
-fn turn(
+fn go_on(
     feed: Feed,
     kept: Kept,
     input: &mut [u8; INPUT_ROOM],
@@ -116,7 +116,7 @@ fn run_all(
     let mut turns = u64::MAX;
     while 0 < turns {
         turns -= 1;
-        let after = turn(feed, kept, input, rows, store, out, text);
+        let after = go_on(feed, kept, input, rows, store, out, text);
         if !after.is_going {
             return;
         }

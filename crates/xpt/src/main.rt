@@ -1,7 +1,7 @@
 // The workbench's commands on files: what the arguments ask for (crate `feed`) is run with its buffers (`sessions`), or told.
 use failures::ROOM;
-use feed::arguments::Gathered;
 use feed::INPUT_ROOM;
+use feed::arguments::Gathered;
 ghost use Prim.Native.Nat.{_≤_};
 ghost use Rattle.failures.specs.Room.{room};
 
