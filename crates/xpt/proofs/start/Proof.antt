@@ -1,0 +1,61 @@
+-- `xpt::start` meets its contract: the words lie within the line.
+-- Assumes nothing.
+use lib.Seq.{length-take-le}
+use Rattle.number.proofs.Tools.{sym, subst, arith, needs}
+use Rattle.feed.specs.Arguments.{GatheredIn}
+use Rattle.xpt.proofs.start.Statement.{statement}
+use Rattle.xpt.proofs.start.Tie as tie
+
+slice-aggregate-verb-of : tie.Need-slice-aggregate-verb-of
+slice-aggregate-verb-of c =
+    let g = c .before .before .before .before .before .before .gather in
+    let h = subst (GatheredIn (g .last .0)) (c .before .before .before .before .k .given .1) (g .ensures) in
+    sym (length-take-le (c .before .before .before .before .k .given .0 .0) (g .last .0) (omega (arith, h .within)))
+
+slice-aggregate-single : tie.Need-slice-aggregate-single
+slice-aggregate-single c =
+    let g = c .before .before .before .before .before .before .gather in
+    let h = subst (GatheredIn (g .last .0)) (c .before .before .before .before .n .given .1) (g .ensures) in
+    sym (length-take-le (c .before .before .before .before .n .given .0 .0) (g .last .0) (omega (arith, h .within)))
+
+single-requires : tie.Need-single-requires
+single-requires c κs =
+    let g = c .before .before .before .before .before .before .gather in
+    let h = subst (GatheredIn (g .last .0)) (c .before .before .before .before .n .given .1) (g .ensures) in
+    rw (length-take-le (c .before .before .before .before .n .given .0 .0) (g .last .0) (omega (arith, h .within))) (omega (arith, h .within))
+
+pub start-spec : {M : Type 1} → statement M
+start-spec =
+    tie.close
+    (tie.spec
+    (λ c κs. search needs)
+    (λ c. search needs)
+    (λ c κs. search needs)
+    (λ c κs. search needs)
+    (λ c κs. search needs)
+    (λ c. search needs)
+    (λ c κs. search needs)
+    (λ c κs. search needs)
+    (λ c. search needs)
+    (λ c κs. search needs)
+    (λ c κs. search needs)
+    (λ c. search needs)
+    (λ c κs. search needs)
+    (λ c κs. search needs)
+    (λ c. search needs)
+    slice-aggregate-verb-of
+    (λ c κs. search needs)
+    (λ c κs. search needs)
+    (λ c κs. search needs)
+    (λ c. search needs)
+    (λ c κs. search needs)
+    (λ c. search needs)
+    slice-aggregate-single
+    single-requires
+    (λ c. search needs)
+    (λ c. search needs)
+    (λ c. search needs)
+    (λ c. search needs)
+    (λ c. search needs)
+    (λ c. search needs)
+    (λ c. search needs))
