@@ -25,7 +25,7 @@ ghost use Rattle.listed.specs.Rest.{LeftIn};
 ghost use Rattle.held.specs.Held.{Held, WhereHad};
 ghost use Rattle.runs.specs.Settled.{Settled};
 
-// What standard output got: an answer, a line for a mistake, or nothing any more.
+// What standard output got: an answer, a line for a mistake in the words, or nothing any more.
 pub enum Told {
     Answer,
     Mistake,
@@ -45,13 +45,6 @@ fn answered(is_open: bool) -> Told {
     Told::Closed
 }
 
-fn mistaken(is_open: bool) -> Told {
-    if is_open {
-        return Told::Mistake;
-    }
-    Told::Closed
-}
-
 // The k-th file could not be read.
 fn say_unread(line: &[u8], separator: u8, k: usize, error: i32, text: &mut [u8; ROOM]) -> Told
     requires { ⌜ (k ≤ 2) × (length (now line) ≤ wordLimit) ⌝ }
@@ -60,7 +53,7 @@ fn say_unread(line: &[u8], separator: u8, k: usize, error: i32, text: &mut [u8; 
     let from = name.from;
     let end = name.end;
     let n = failures::unread(&line[from..end], error, text);
-    mistaken(streams::put_error(text, n))
+    answered(streams::put_error(text, n))
 }
 
 // What is left of the listing of the first file.
@@ -81,15 +74,26 @@ fn put_rest(
     streams::put_rest(&all[from..end], rest, tasks::in_batch(separator))
 }
 
-// What the mistake in the line says, which stands at the front of `head`, on standard error too.
-fn say_mistake(line: &[u8], separator: u8, head: &[u8; 128], n: usize, text: &mut [u8; ROOM])
+// What a mistake says, which stands at the front of `head`, on standard error too: of the line, or of a question about a file.
+fn say_mistake(
+    line: &[u8],
+    separator: u8,
+    head: &[u8; 128],
+    n: usize,
+    text: &mut [u8; ROOM],
+) -> Told
     requires { ⌜ n ≤ 128 ⌝ }
 {
+    let all: &[u8] = head;
+    if tasks::files_of(tasks::task_of(line, separator)) == 0 {
+        remarks::error(&line[0..0], &all[..n], text);
+        return Told::Mistake;
+    }
     let name = tasks::argument(line, separator, 1);
     let from = name.from;
     let end = name.end;
-    let all: &[u8] = head;
     remarks::error(&line[from..end], &all[..n], text);
+    Told::Answer
 }
 
 // On standard error: nothing, the mistake, or why something was refused.
@@ -111,10 +115,7 @@ fn say_why(
     let reason = said.why;
     match reason {
         Why::Answered => Told::Answer,
-        Why::Mistaken => {
-            say_mistake(line, separator, head, n, text);
-            Told::Mistake
-        }
+        Why::Mistaken => say_mistake(line, separator, head, n, text),
         Why::Refused(refusal) => {
             why::say(line, separator, whose, refusal, kept, rows, store, text);
             Told::Answer
@@ -179,7 +180,7 @@ fn say_unsaved(line: &[u8], separator: u8, saved: Saved, text: &mut [u8; ROOM]) 
     let from = name.from;
     let end = name.end;
     let n = put_unsaved(saved, &line[from..end], text);
-    mistaken(streams::put_error(text, n))
+    answered(streams::put_error(text, n))
 }
 
 // The line at the front of `head`, once its file was written.
@@ -257,7 +258,7 @@ fn answer(
         Wanting::Nothing => reply(line, separator, kept, rows, store, out, text),
         Wanting::Input => {
             let n = failures::input_in_batch(text);
-            mistaken(streams::put_error(text, n))
+            answered(streams::put_error(text, n))
         }
         Wanting::First(error) => say_unread(line, separator, 1, error, text),
         Wanting::Second(error) => say_unread(line, separator, 2, error, text),
@@ -302,5 +303,5 @@ pub fn run(
 // The line of a batch that was too long.
 pub fn say_too_long(text: &mut [u8; ROOM]) -> Told {
     let n = failures::line_too_long(text);
-    mistaken(streams::put_error(text, n))
+    answered(streams::put_error(text, n))
 }

@@ -10,7 +10,6 @@ use runs::Told;
 ghost use mathlib.Core.Path.{_≡_};
 ghost use Prim.Native.Nat.{_≤_};
 ghost use lib.ListN.{length};
-ghost use Rattle.failures.specs.Room.{wordLimit};
 ghost use Rattle.feed.specs.Lines.{inputRoom};
 ghost use Rattle.feed.specs.Input.{Fed};
 ghost use Rattle.kept.specs.Table.{Tidy};
@@ -125,26 +124,27 @@ fn run_all(
     }
 }
 
-// The commands on standard input, one a line.
-pub fn batch(input: &mut [u8; INPUT_ROOM]) {
-    let mut rows = [0usize; 256];
-    let mut store = [0u8; 4210688];
-    let mut out = [0u8; FILE_LIMIT];
-    let mut text = [0u8; ROOM];
-    run_all(input, &mut rows, &mut store, &mut out, &mut text);
-}
-
-// One command, whose words are parted by zero bytes.
+// One command, whose words are the first n bytes, parted by zero bytes.
 fn run_one(
-    line: &[u8],
+    input: &[u8; INPUT_ROOM],
+    n: usize,
     rows: &mut [usize; 256],
     store: &mut [u8; 4210688],
     out: &mut [u8; FILE_LIMIT],
     text: &mut [u8; ROOM],
 )
-    requires { ⌜ (length (now line) ≤ wordLimit) × (256 ≡ length (now rows)) ⌝ }
+    requires { ⌜ (n ≤ inputRoom) × (256 ≡ length (now rows)) ⌝ }
 {
-    let ran = runs::run(line, 0, Kept { rows: 0, used: 0 }, rows, store, out, text);
+    let all: &[u8] = input;
+    let ran = runs::run(
+        &all[..n],
+        0,
+        Kept { rows: 0, used: 0 },
+        rows,
+        store,
+        out,
+        text,
+    );
     let told = ran.told;
     match told {
         Told::Answer => {}
@@ -153,12 +153,16 @@ fn run_one(
     }
 }
 
-pub fn single(line: &[u8])
-    requires { ⌜ length (now line) ≤ wordLimit ⌝ }
+// The commands on standard input, one a line, or the one whose words are the first n bytes.
+pub fn serve(input: &mut [u8; INPUT_ROOM], n: usize, in_batch: bool)
+    requires { ⌜ n ≤ inputRoom ⌝ }
 {
     let mut rows = [0usize; 256];
     let mut store = [0u8; 4210688];
     let mut out = [0u8; FILE_LIMIT];
     let mut text = [0u8; ROOM];
-    run_one(line, &mut rows, &mut store, &mut out, &mut text);
+    if in_batch {
+        return run_all(input, &mut rows, &mut store, &mut out, &mut text);
+    }
+    run_one(input, n, &mut rows, &mut store, &mut out, &mut text);
 }

@@ -38,11 +38,8 @@ fn start(input: &mut [u8; INPUT_ROOM], text: &mut [u8; ROOM]) {
             let n = manual::help_of(verbs::verb_of(&all[..k]), text);
             put(text, n);
         }
-        Gathered::Batch => sessions::batch(input),
-        Gathered::Words(n) => {
-            let all: &[u8] = input;
-            sessions::single(&all[..n]);
-        }
+        Gathered::Batch => sessions::serve(input, 0, true),
+        Gathered::Words(n) => sessions::serve(input, n, false),
     }
 }
 
