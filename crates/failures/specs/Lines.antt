@@ -35,27 +35,6 @@ verbWords verb.Normal = ascii "normal [-f] FILE OUT"
 verbWords verb.Link = ascii "link [-f] A B OUT"
 verbWords verb.Unknown = []
 
--- `the words are: WORDS`
-abbrev pub wordsAre : Verb → List ℕ
-wordsAre v = (ascii "error the words are: " ++ verbWords v) ++ newline
-
--- that, or the commands where none is known by its word
-unfoldable pub usageText : Verb → List ℕ
-usageText (verb.Ask question) = wordsAre (verb.Ask question)
-usageText verb.List = wordsAre verb.List
-usageText verb.Normal = wordsAre verb.Normal
-usageText verb.Link = wordsAre verb.Link
-usageText verb.Unknown = ascii "error unknown command; the commands are: check list iid key method slot const normal link" ++ newline
-
-unfoldable pub blankText : List ℕ
-blankText = ascii "error the line is blank" ++ newline
-
-unfoldable pub spacesText : List ℕ
-spacesText = ascii "error words are parted by single spaces, with none at the ends of a line" ++ newline
-
-unfoldable pub carriageReturnText : List ℕ
-carriageReturnText = ascii "error the line ends in a carriage return; a newline alone ends a line" ++ newline
-
 unfoldable pub lineTooLongText : List ℕ
 lineTooLongText = ascii "error the line has more than 65,535 bytes" ++ newline
 

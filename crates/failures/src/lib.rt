@@ -10,7 +10,7 @@ ghost use lib.ListN.{length};
 ghost use Rattle.printed.specs.Writing.{Wrote};
 ghost use Rattle.failures.specs.Room.{room, wordLimit, Made};
 ghost use Rattle.failures.specs.Shown.{shownByte, shownWord};
-ghost use Rattle.failures.specs.Lines.{questionWords, verbWords, wordsAre, usageText, blankText, spacesText, carriageReturnText, lineTooLongText, argumentsTooLongText, noCommandText, inputInBatchText, failedText, unreadText, unwrittenText, takenText, noFileText, withoutError, naming, nameBefore, asideText, hintText, outputGoneText};
+ghost use Rattle.failures.specs.Lines.{questionWords, verbWords, lineTooLongText, argumentsTooLongText, noCommandText, inputInBatchText, failedText, unreadText, unwrittenText, takenText, noFileText, withoutError, naming, nameBefore, asideText, hintText, outputGoneText};
 
 // Bytes of the buffer that a line is made in.
 pub const ROOM: usize = 66560;
@@ -23,30 +23,6 @@ pub fn say(line: &[u8], text: &mut [u8; ROOM]) -> usize
     ensures { λ r. ⌜ Made (now (line .entry)) (now (text .entry)) r (now (text .exit)) ⌝ }
 {
     text::put_bytes(text, 0, line)
-}
-
-pub fn blank(text: &mut [u8; ROOM]) -> usize
-    ensures { λ r. ⌜ Made blankText (now (text .entry)) r (now (text .exit)) ⌝ }
-{
-    say(b"error the line is blank\n", text)
-}
-
-pub fn spaces(text: &mut [u8; ROOM]) -> usize
-    ensures { λ r. ⌜ Made spacesText (now (text .entry)) r (now (text .exit)) ⌝ }
-{
-    say(
-        b"error words are parted by single spaces, with none at the ends of a line\n",
-        text,
-    )
-}
-
-pub fn carriage_return(text: &mut [u8; ROOM]) -> usize
-    ensures { λ r. ⌜ Made carriageReturnText (now (text .entry)) r (now (text .exit)) ⌝ }
-{
-    say(
-        b"error the line ends in a carriage return; a newline alone ends a line\n",
-        text,
-    )
 }
 
 pub fn line_too_long(text: &mut [u8; ROOM]) -> usize
@@ -106,31 +82,6 @@ pub fn put_words(verb: Verb, text: &mut [u8; ROOM], at: usize) -> usize
         Verb::Normal => text::put_bytes(text, at, b"normal [-f] FILE OUT"),
         Verb::Link => text::put_bytes(text, at, b"link [-f] A B OUT"),
         Verb::Unknown => at,
-    }
-}
-
-// A wrong number of words.
-fn words_are(verb: Verb, text: &mut [u8; ROOM]) -> usize
-    ensures { λ r. ⌜ Made (wordsAre verb) (now (text .entry)) r (now (text .exit)) ⌝ }
-{
-    let at = text::put_bytes(text, 0, b"error the words are: ");
-    let end = put_words(verb, text, at);
-    text::put_bytes(text, end, b"\n")
-}
-
-// A wrong number of words, or an unknown command.
-pub fn usage(verb: Verb, text: &mut [u8; ROOM]) -> usize
-    ensures { λ r. ⌜ Made (usageText verb) (now (text .entry)) r (now (text .exit)) ⌝ }
-{
-    match verb {
-        Verb::Ask(question) => words_are(Verb::Ask(question), text),
-        Verb::List => words_are(Verb::List, text),
-        Verb::Normal => words_are(Verb::Normal, text),
-        Verb::Link => words_are(Verb::Link, text),
-        Verb::Unknown => say(
-            b"error unknown command; the commands are: check list iid key method slot const normal link\n",
-            text,
-        ),
     }
 }
 

@@ -16,8 +16,8 @@ use reading::Context;
 use reading::Refusal;
 use reading::Step;
 
-mod params;
-mod walk;
+pub mod params;
+pub mod walk;
 
 // The flags of a method.
 pub const GETTER: u8 = 0x80;

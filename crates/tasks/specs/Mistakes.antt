@@ -1,25 +1,24 @@
 -- The line that tells a mistake.
 -- Assumes nothing.
-use mathlib.Core.List.{List}
+use mathlib.Core.List.{List, _++_}
 use Prim.Native.Nat.{ℕ}
 use Rattle.ascii.specs.Ascii.{ascii}
-use Rattle.verbs.specs.declared.Question.the-variants.{Check, Iid, Key, Method, Slot, Constant}
 use Rattle.verbs.specs.declared.Verb.{Verb}
 use Rattle.verbs.specs.declared.Verb.the-variants as verb
+use Rattle.text.specs.Line.{newline}
+use Rattle.failures.specs.Lines.{verbWords}
 use Rattle.tasks.specs.declared.Mistake.{Mistake}
 use Rattle.tasks.specs.declared.Mistake.the-variants.{Blank, CarriageReturn, Spaces, Words}
 
 -- the words that a command takes
+abbrev pub wordsAre : Verb → List ℕ
+wordsAre v = ascii "error the words are: " ++ (verbWords v ++ newline)
+
 unfoldable pub usageText : Verb → List ℕ
-usageText (verb.Ask Check) = ascii "error the words are: check FILE\n"
-usageText (verb.Ask Iid) = ascii "error the words are: iid FILE HEX\n"
-usageText (verb.Ask Key) = ascii "error the words are: key FILE NAMESPACE NAME\n"
-usageText (verb.Ask Method) = ascii "error the words are: method FILE INDEX NAME getter|setter|plain\n"
-usageText (verb.Ask Slot) = ascii "error the words are: slot FILE INDEX SLOT\n"
-usageText (verb.Ask Constant) = ascii "error the words are: const FILE INDEX NAME\n"
-usageText verb.List = ascii "error the words are: list FILE\n"
-usageText verb.Normal = ascii "error the words are: normal [-f] FILE OUT\n"
-usageText verb.Link = ascii "error the words are: link [-f] A B OUT\n"
+usageText (verb.Ask q) = wordsAre (verb.Ask q)
+usageText verb.List = wordsAre verb.List
+usageText verb.Normal = wordsAre verb.Normal
+usageText verb.Link = wordsAre verb.Link
 usageText verb.Unknown = ascii "error unknown command; the commands are: check list iid key method slot const normal link\n"
 
 unfoldable pub mistakeText : Mistake → List ℕ

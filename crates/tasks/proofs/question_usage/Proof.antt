@@ -1,12 +1,13 @@
 -- `tasks::question_usage` meets its contract.
 -- Assumes nothing.
 use Rattle.number.proofs.Tools.{needs}
+use Rattle.failures.specs.Lines.{questionWords, verbWords}
 use Rattle.tasks.specs.Mistakes.{usageText}
 use Rattle.tasks.proofs.question_usage.Statement.{statement}
 use Rattle.tasks.proofs.question_usage.Tie as tie
 
 pub question-usage-spec : {M : Type 1} → statement M
-unfolding usageText
+unfolding usageText verbWords questionWords
 question-usage-spec =
     tie.close
     (tie.spec

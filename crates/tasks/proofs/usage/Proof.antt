@@ -1,12 +1,13 @@
 -- `tasks::usage` meets its contract.
 -- Assumes nothing.
 use Rattle.number.proofs.Tools.{needs}
+use Rattle.failures.specs.Lines.{questionWords, verbWords}
 use Rattle.tasks.specs.Mistakes.{usageText}
 use Rattle.tasks.proofs.usage.Statement.{statement}
 use Rattle.tasks.proofs.usage.Tie as tie
 
 pub usage-spec : {M : Type 1} → statement M
-unfolding usageText
+unfolding usageText verbWords questionWords
 usage-spec =
     tie.close
     (tie.spec

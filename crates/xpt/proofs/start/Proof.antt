@@ -12,17 +12,8 @@ slice-aggregate-verb-of c =
     let h = subst (GatheredIn (g .last .0)) (c .before .before .before .before .k .given .1) (g .ensures) in
     sym (length-take-le (c .before .before .before .before .k .given .0 .0) (g .last .0) (omega (arith, h .within)))
 
-slice-aggregate-single : tie.Need-slice-aggregate-single
-slice-aggregate-single c =
-    let g = c .before .before .before .before .before .before .gather in
-    let h = subst (GatheredIn (g .last .0)) (c .before .before .before .before .n .given .1) (g .ensures) in
-    sym (length-take-le (c .before .before .before .before .n .given .0 .0) (g .last .0) (omega (arith, h .within)))
-
-single-requires : tie.Need-single-requires
-single-requires c κs =
-    let g = c .before .before .before .before .before .before .gather in
-    let h = subst (GatheredIn (g .last .0)) (c .before .before .before .before .n .given .1) (g .ensures) in
-    rw (length-take-le (c .before .before .before .before .n .given .0 .0) (g .last .0) (omega (arith, h .within))) (omega (arith, h .within))
+serve-requires : tie.Need-serve-requires-2
+serve-requires c κs = subst (GatheredIn (c .before .before .before .before .before .gather .last .0)) (c .before .before .n .given .1) (c .before .before .before .before .before .gather .ensures) .within
 
 pub start-spec : {M : Type 1} → statement M
 start-spec =
@@ -50,8 +41,7 @@ start-spec =
     (λ c. search needs)
     (λ c κs. search needs)
     (λ c. search needs)
-    slice-aggregate-single
-    single-requires
+    serve-requires
     (λ c. search needs)
     (λ c. search needs)
     (λ c. search needs)
