@@ -285,5 +285,5 @@ fn what_is_told_and_counted() {
     assert_eq!([[3, 3, 1, 1], [4, 3, 1, 1], [3, 4, 1, 1], [3, 3, 2, 1]].map(short), [0, 1, 1, 1]);
     let parts =
         ["compare", "checks", "questions", "lists", "links", "listings", "batches", "alone"];
-    assert_eq!(parts.map(|part| floors(part).len()).iter().sum::<usize>(), 859);
+    assert_eq!(parts.map(|part| floors(part).len()).iter().sum::<usize>(), 891);
 }

@@ -232,9 +232,9 @@ pub fn rewritten(script: &mut Script, bad: &Bytes) {
     let mut before = None;
     for file in [&a, &b, &bad, &c, &a] {
         match script.rng.below(3) {
-            0 => script.link(file, &a, &out),
-            1 => script.link(&b, file, &out),
-            _ => script.normal(file, &out),
+            0 => script.write(&[file, &a, &out], None, true),
+            1 => script.write(&[&b, file, &out], None, true),
+            _ => script.write(&[file, &out], None, true),
         }
         let now = script.content(&out).cloned();
         script.check(&out);
@@ -242,6 +242,9 @@ pub fn rewritten(script: &mut Script, bad: &Bytes) {
             script.count("output", "asked anew with other bytes");
         }
         before = now;
+        if script.rng.percent(50) {
+            script.write(&[&c, &b, &out], None, false);
+        }
         script.list(&out);
         questions(script, &out, 3);
         let copy = script.free();
