@@ -91,7 +91,7 @@ const HINT: &[u8] = b"xpt: `xpt help` shows the commands and their words\n";
 
 /// Whether standard error goes on with what belongs to this line of standard output: for an error
 /// its text, of a question after the file's name; for a refusal why.
-fn is_told<'t>(
+pub fn is_told<'t>(
     line: &[u8],
     refusal: Option<&Told>,
     alone: bool,
