@@ -4,7 +4,7 @@
 use second::library::cases::{bytes, shown, Asked, Case};
 use second::library::{checks, links, lists, lists::ROOM, questions, questions::Question};
 use second::library::{Program, Session, OWN};
-use second::line::{answers::asked, compare::tells, listing};
+use second::line::{answers::asked, compare::is_told, compare::tells, listing};
 use second::making::{builder::*, generate::marked, generate::rich};
 use second::program::{check::check, questions::Lookup};
 use second::tally::{floors, Came, Tally};
@@ -274,8 +274,23 @@ fn planted_differences() {
 fn what_is_told_and_counted() {
     let six = (Refusal { number: 6, place: 20 }, vec!["a 6.xpt".to_string()]);
     assert!(tells(b"xpt: a 6.xpt: refused 6 at byte 20: the length", &six));
+    assert!(tells(b"xpt: a 6.xpt: refused 6 at byte 20, in A: the length", &six));
     for line in ["a 6.xpt: refused 5 at byte 20", "a 6.xpt: refused 6 at byte 2", "b: 6 (20)"] {
         assert!(!tells(line.as_bytes(), &six), "{line}");
+    }
+    let hint = "xpt: `xpt help` shows the commands and their words\n";
+    for (line, alone, told, is_so) in [
+        ("error no command", true, format!("xpt: no command\n{hint}"), true),
+        ("error no command", true, "xpt: no command\n".to_string(), false),
+        ("error unknown command", false, "xpt: unknown command\n".to_string(), true),
+        ("error unknown command", false, "xpt: f: unknown command\n".to_string(), false),
+        ("error the slot", true, "xpt: f: the slot\n".to_string(), true),
+        ("error the slot", true, "xpt: f: the index\n".to_string(), false),
+        ("error o is there", false, String::new(), false),
+        ("accepted 1", false, String::new(), true),
+    ] {
+        let lines = &mut told.as_bytes().split_inclusive(|byte| *byte == b'\n');
+        assert_eq!(is_told(line.as_bytes(), None, alone, lines), is_so, "{line}: {told}");
     }
     let mut tally = Tally::new("checks");
     for place in 1..=3 {
@@ -285,5 +300,5 @@ fn what_is_told_and_counted() {
     assert_eq!([[3, 3, 1, 1], [4, 3, 1, 1], [3, 4, 1, 1], [3, 3, 2, 1]].map(short), [0, 1, 1, 1]);
     let parts =
         ["compare", "checks", "questions", "lists", "links", "listings", "batches", "alone"];
-    assert_eq!(parts.map(|part| floors(part).len()).iter().sum::<usize>(), 859);
+    assert_eq!(parts.map(|part| floors(part).len()).iter().sum::<usize>(), 891);
 }

@@ -14,7 +14,7 @@ pub type Words = Vec<Vec<u8>>;
 /// A command's answer and what else comes of it.
 #[derive(Default)]
 pub struct Outcome {
-    /// What stands on standard output before a newline. Nothing where only an error will do. Lines
+    /// What stands on standard output before a newline. Nothing where any error will do. Lines
     /// of a listing have their newlines; in a batch they are bars.
     pub text: Option<Vec<u8>>,
     /// Whether one line that starts with `error ` will do: where it cannot be asked, and where the
@@ -31,6 +31,11 @@ pub struct Outcome {
 impl Outcome {
     fn line(what: &'static str, text: impl Into<Vec<u8>>) -> Outcome {
         Outcome { text: Some(text.into()), what, ..Outcome::default() }
+    }
+
+    /// An error whose words are known.
+    pub fn mistake(what: &'static str, text: String) -> Outcome {
+        Outcome::line(what, format!("error {text}"))
     }
 
     pub fn error(what: &'static str) -> Outcome {
@@ -55,6 +60,22 @@ impl Outcome {
         };
         (printed.get(end) == Some(&b'\n')).then(|| (&printed[..end], &printed[end + 1..]))
     }
+}
+
+/// For an output that is there and is not to be written over.
+pub fn there(name: &str) -> Outcome {
+    let why = "is there already; with -f before the files it is written over";
+    Outcome::mistake("there already", format!("{name} {why}"))
+}
+
+/// For an output that is never written over.
+pub fn no_ordinary_file(name: &str) -> Outcome {
+    Outcome::mistake("no ordinary file", format!("cannot write {name}: it is no ordinary file"))
+}
+
+pub fn input_in_batch() -> Outcome {
+    let text = "- is standard input, which has the commands here";
+    Outcome::mistake("standard input in a batch", text.to_string())
 }
 
 pub fn checked(file: &[u8]) -> Outcome {

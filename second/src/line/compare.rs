@@ -83,12 +83,37 @@ pub fn tells(line: &[u8], (refusal, files): &Told) -> bool {
     has(refusal.number as usize) && (!is_of_file(refusal.number) || has(refusal.place))
 }
 
+/// How the errors begin that are about a command's words as a whole.
+const OF_WORDS: [&[u8]; 3] = [b"the words are: ", b"unknown command", b"no command"];
+
+/// What follows such an error of a command alone.
+const HINT: &[u8] = b"xpt: `xpt help` shows the commands and their words\n";
+
+/// Whether standard error goes on with what belongs to this line of standard output: for an error
+/// its text, of a question after the file's name; for a refusal why.
+pub fn is_told<'t>(
+    line: &[u8],
+    refusal: Option<&Told>,
+    alone: bool,
+    told: &mut impl Iterator<Item = &'t [u8]>,
+) -> bool {
+    let Some(error) = line.strip_prefix(b"error ") else {
+        let is_why =
+            |refusal| told.next().is_some_and(|line| line.ends_with(b"\n") && tells(line, refusal));
+        return refusal.is_none_or(is_why);
+    };
+    let is_of_words = OF_WORDS.iter().any(|start| error.starts_with(start));
+    let own = told.next().and_then(|line| line.strip_prefix(b"xpt: ")?.strip_suffix(b"\n"));
+    let before = own.and_then(|own| own.strip_suffix(error));
+    before.is_some_and(|before| before.is_empty() || !is_of_words && before.ends_with(b": "))
+        && (!is_of_words || !alone || told.next() == Some(HINT))
+}
+
 /// That every step is answered as it must be, in order, and no more is printed: on standard error
-/// a line for every refusal, and at most one for every error beside.
+/// what belongs to every refusal and every error.
 fn answers_stand(steps: &[&Step], ran: &Ran, alone: bool, tally: &mut Tally) -> io::Result<()> {
     let mut printed = &ran.stdout[..];
-    let mut told = ran.stderr.split_inclusive(|byte| *byte == b'\n');
-    let mut others_allowed = 0;
+    let mut told = ran.stderr.split_inclusive(|byte| *byte == b'\n').peekable();
     for step in steps {
         let Some((line, rest)) = step.outcome.eat(printed, alone) else {
             let line = printed.split(|byte| *byte == b'\n').next();
@@ -98,25 +123,25 @@ fn answers_stand(steps: &[&Step], ran: &Ran, alone: bool, tally: &mut Tally) -> 
             return Err(difference("answered otherwise", Some(step), &shown));
         };
         printed = rest;
+        let next = told.peek().copied();
+        if !is_told(line, step.told.as_ref(), alone, &mut told) {
+            let shown = [("answered", Some(line)), ("stderr", next), ("then", told.next())];
+            return Err(difference("standard error tells otherwise", Some(step), &shown));
+        }
         if line.starts_with(b"error ") {
-            others_allowed += 1;
-        } else if let Some(refusal) = &step.told {
-            let passed = told.position(|line| line.ends_with(b"\n") && tells(line, refusal));
+            tally.add("all", "errors on standard error");
+        } else if step.told.is_some() {
             tally.add("all", "refusals on standard error");
-            if passed.is_none_or(|passed| passed > others_allowed) {
-                let shown = [("stderr", Some(&ran.stderr[..]))];
-                return Err(difference("a refusal is not told", Some(step), &shown));
-            }
-            others_allowed -= passed.unwrap_or(0);
         }
     }
+    let more = told.next();
     let what = match &ran.broken {
         Some(how) => how,
         None if !printed.is_empty() => "more answers than commands",
-        None if told.count() > others_allowed => "standard error has more lines",
+        None if more.is_some() => "standard error has more lines",
         None => return Ok(()),
     };
-    let shown = [("stderr", Some(&ran.stderr[..])), ("more", Some(printed))];
+    let shown = [("stderr", more), ("more", Some(printed))];
     Err(difference(what, steps.last().copied(), &shown))
 }
 
@@ -146,7 +171,7 @@ pub fn run(program: &Path, script: &Script, tally: &mut Tally) -> io::Result<()>
     let at_once = if script.alone { 1 } else { steps.len() };
     for steps in steps.chunks(at_once) {
         let (words, input) = match script.alone {
-            true => (steps[0].words.clone(), Vec::new()),
+            true => (steps[0].words.clone(), steps[0].input.to_vec()),
             false => (vec![b"batch".to_vec()], input(steps, tally)),
         };
         let ran = process::run(program, &script.folder, &words, &input)?;

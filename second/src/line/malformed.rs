@@ -19,18 +19,50 @@ pub fn every_kind(script: &mut Script, file: &Name, good: &Name, out: &Name) {
             [b'O', 0] => [out.word.as_bytes(), b"\0"].concat(),
             word => word.to_vec(),
         };
-        let words = line.split(|byte| *byte == b' ').map(word).collect();
+        let words: Vec<_> = line.split(|byte| *byte == b' ').map(word).collect();
+        let text = told(kind, &words);
         script.story();
-        script.error(words, kind);
+        script.error(words, kind, text);
+    }
+}
+
+/// The words that each command takes.
+const USAGES: [&str; 9] = [
+    "check FILE",
+    "list FILE",
+    "iid FILE HEX",
+    "key FILE NAMESPACE NAME",
+    "method FILE INDEX NAME getter|setter|plain",
+    "slot FILE INDEX SLOT",
+    "const FILE INDEX NAME",
+    "normal [-f] FILE OUT",
+    "link [-f] A B OUT",
+];
+
+const COMMANDS: &str = "check list iid key method slot const normal link";
+
+/// What the error says, of the kinds where that is fixed.
+fn told(kind: &str, words: &[Vec<u8>]) -> Option<String> {
+    match kind {
+        "output is a folder" => Some(format!("cannot write {SUBFOLDER}: it is no ordinary file")),
+        "unknown command" => Some(format!("unknown command; the commands are: {COMMANDS}")),
+        "too few words" | "too many words" | "-f for a command that only reads" | "-f too late" => {
+            let is_own =
+                |usage: &&&str| usage.split(' ').next().map(str::as_bytes) == Some(&words[0]);
+            USAGES.iter().find(is_own).map(|usage| format!("the words are: {usage}"))
+        }
+        _ => None,
     }
 }
 
 /// Every command, with good words.
-const GOOD: [&str; 9] = [
+const GOOD: [&str; 11] = [
     "check F",
     "list F",
     "normal F O",
     "link F G O",
+    "normal -f F O",
+    "link -f F G O",
     "iid F 00000000000000000000000000000001",
     "key F - A",
     "method F 1 m plain",
@@ -42,7 +74,7 @@ type Line = fn(&mut Rng, bool, &str) -> Vec<u8>;
 
 /// The kinds of such lines, each a row of the table: how one is made from a good line, for a command
 /// that may run alone.
-const KINDS: [(&str, Line); 21] = [
+const KINDS: [(&str, Line); 23] = [
     ("blank", |_, _, _| Vec::new()),
     ("spaces alone", |rng, _, _| vec![b' '; rng.range(1, 5)]),
     ("unknown command", unknown_command),
@@ -53,8 +85,16 @@ const KINDS: [(&str, Line); 21] = [
     ("too many words", |rng, _, some| {
         format!("{some} {}", rng.pick(&["more", "0", "-", "F"])).into()
     }),
+    ("-f for a command that only reads", |rng, _, _| {
+        let readers: Vec<_> = GOOD.iter().filter(|some| !some.ends_with('O')).collect();
+        rng.pick(&readers).replacen('F', "-f F", 1).into()
+    }),
+    ("-f too late", |rng, _, _| {
+        let lines = ["normal F -f O", "normal F O -f", "link F -f G O", "link F G -f O"];
+        (*rng.pick(&lines)).into()
+    }),
     ("a space too many", |rng, _, _| {
-        let some = *rng.pick(&GOOD[..4]);
+        let some = *rng.pick(&GOOD[..6]);
         let mut places: Vec<usize> = some.match_indices(' ').map(|(at, _)| at).collect();
         places.extend([0, some.len()]);
         let at = *rng.pick(&places);
@@ -77,15 +117,18 @@ const KINDS: [(&str, Line); 21] = [
     ("file name with a zero byte", |rng, _, _| {
         (*rng.pick(&["check G\0", "list G\0", "slot G\0 1 0", "normal G O\0"])).into()
     }),
-    ("second file absent", |_, _, _| b"link G O O".to_vec()),
+    ("second file absent", |rng, _, _| (*rng.pick(&["link G O O", "link -f G O O"])).into()),
     ("output in no folder", |rng, _, _| {
-        (*rng.pick(&["normal G none/o", "link G G none/o"])).into()
+        let outputs = ["normal G none/o", "link G G none/o", "normal -f G none/o"];
+        (*rng.pick(&outputs)).into()
     }),
     ("output is a folder", |rng, _, _| {
-        format!("{} {SUBFOLDER}", rng.pick(&["normal G", "link G G"])).into()
+        let starts = ["normal G", "link G G", "normal -f G", "link -f G G"];
+        format!("{} {SUBFOLDER}", rng.pick(&starts)).into()
     }),
     ("output name too long", |rng, _, _| {
-        format!("normal G {}", "o".repeat(*rng.pick(&[256, 5_000]))).into()
+        let start = rng.pick(&["normal", "normal -f"]);
+        format!("{start} G {}", "o".repeat(*rng.pick(&[256, 5_000]))).into()
     }),
 ];
 

@@ -14,6 +14,7 @@ mod supply;
 use crate::in_parallel;
 use crate::making::rng::Rng;
 use crate::tally::Tally;
+use answers::Bytes;
 use script::Script;
 use std::path::{Path, PathBuf};
 use std::{env, fs, io, time::Instant};
@@ -50,7 +51,11 @@ fn batch(s: &mut Script, supply: &Supply, k: usize) {
         stories::rewritten(s, bad[i % bad.len()]);
         stories::in_place(s);
         stories::by_other_names(s);
+        stories::over_links(s);
+        stories::no_ordinary_file(s, bad[i % bad.len()]);
+        stories::standard_input(s, bad[i % bad.len()]);
     }
+    stories::named_so(s);
     stories::among_others(s);
     stories::malformed(s, bad[0]);
     stories::malformed(s, bad[1 % bad.len()]);
@@ -85,6 +90,11 @@ fn alone(s: &mut Script, supply: &Supply, k: usize) {
         2 => stories::by_other_names(s),
         _ => stories::among_others(s),
     }
+    stories::over_links(s);
+    stories::no_ordinary_file(s, bad[0]);
+    stories::named_so(s);
+    let input = Bytes::from(stories::good(&mut s.rng));
+    [&input, bad[0]].into_iter().for_each(|bytes| stories::standard_input(s, bytes));
     stories::malformed(s, bad[0]);
 }
 

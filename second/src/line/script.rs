@@ -36,6 +36,8 @@ pub struct Step {
     pub told: Option<Told>,
     pub out: Option<String>,
     pub counts: Vec<Count>,
+    /// What a command alone gets as standard input.
+    pub input: Bytes,
 }
 
 impl Step {
@@ -49,6 +51,19 @@ type Law = ([What; 2], [Name; 2]);
 
 /// A folder that stands in every folder beside the files.
 pub const SUBFOLDER: &str = "sub";
+
+/// The word before the files that has an output written over.
+pub const FORCED: &str = "-f";
+
+/// The name of standard input.
+pub const INPUT: &str = "-";
+
+/// What stands at an output's path: a symbolic link to a file or to nothing is as a file.
+enum Stands {
+    Nothing,
+    File,
+    Folder,
+}
 
 /// Longer lines may be refused.
 pub const LONGEST_LINE: usize = 65_535;
@@ -133,14 +148,36 @@ impl Script {
     pub fn alias(&mut self, file: &Name) -> Name {
         let path = file.path.clone();
         if self.rng.percent(30) {
-            self.names += 1;
-            let word = format!("l{}", self.names);
-            self.links.push((word.clone(), self.folder.join(&path)));
+            let Name { word, .. } = self.symbolic(&path);
             return Name { path, word };
         }
         let mut words = std::iter::repeat_with(|| self.word(&path));
         let word = words.find(|word| *word != file.word).expect("there are other ways");
         Name { path, word }
+    }
+
+    /// A symbolic link to this path, under its own.
+    pub fn symbolic(&mut self, target: &str) -> Name {
+        self.names += 1;
+        let path = format!("l{}", self.names);
+        self.links.push((path.clone(), self.folder.join(target)));
+        Name { word: path.clone(), path }
+    }
+
+    /// One of the ways to name the folder that stands beside the files.
+    pub fn subfolder(&mut self) -> Name {
+        Name { path: SUBFOLDER.to_string(), word: self.word(SUBFOLDER) }
+    }
+
+    fn stands(&self, out: &Name) -> Stands {
+        let target = self.links.iter().find(|(path, _)| *path == out.path).map(|(_, to)| to);
+        match self.content(out) {
+            Some(_) => Stands::File,
+            None if out.path == SUBFOLDER => Stands::Folder,
+            None if target == Some(&self.folder.join(SUBFOLDER)) => Stands::Folder,
+            None if target.is_some() => Stands::File,
+            None => Stands::Nothing,
+        }
     }
 
     /// What follows is a story of its own.
@@ -157,9 +194,11 @@ impl Script {
         story.last_mut().expect("it was just added")
     }
 
-    /// Words that cannot be asked. None of them names an output.
-    pub fn error(&mut self, words: Words, kind: &'static str) {
-        let (outcome, counts) = (Outcome::error(kind), vec![("error", kind, None)]);
+    /// Words that cannot be asked, and the error where it is known to the letter. None of them names
+    /// an output.
+    pub fn error(&mut self, words: Words, kind: &'static str, text: Option<String>) {
+        let outcome = text.map_or(Outcome::error(kind), |text| Outcome::mistake(kind, text));
+        let counts = vec![("error", kind, None)];
         self.add(Step { words, outcome, counts, ..Step::default() });
     }
 
@@ -173,19 +212,31 @@ impl Script {
         last.expect("there is a step").counts.push((about, what, None));
     }
 
-    /// A command with these names, the last of which is the output where it writes, and more words
-    /// after them.
-    fn command(&mut self, command: What, names: &[&Name], more: Words, answer: To) -> &mut Step {
+    /// A command, by its first words, with these names, the last of which is the output where it
+    /// writes, and more words after them.
+    fn command(&mut self, start: &[What], names: &[&Name], more: Words, answer: To) -> &mut Step {
+        let command = start[0];
         let writes = matches!(command, "normal" | "link");
         let (files, out) = names.split_at(names.len() - usize::from(writes));
-        let words = names.iter().map(|name| name.word.clone().into_bytes());
-        let words = [command.into()].into_iter().chain(words).chain(more).collect();
+        let names = names.iter().map(|name| name.word.clone().into_bytes());
+        let words = start.iter().map(|word| word.as_bytes().to_vec());
+        let words = words.chain(names).chain(more).collect();
         let content = |name: &&Name| self.content(name).cloned();
         let reads: Vec<Bytes> = files.iter().filter_map(content).collect();
-        let outcome = match reads.len() == files.len() {
+        let input = files.iter().find(|file| file.word == INPUT).and_then(content);
+        let mut outcome = match reads.len() == files.len() {
+            true if input.is_some() && !self.alone => answers::input_in_batch(),
             true => answer(&reads.iter().map(|bytes| &bytes[..]).collect::<Vec<_>>()),
             false => Outcome::error("file absent"),
         };
+        // What the files themselves give comes first.
+        if let (Some(_), Some(out)) = (&outcome.written, out.first()) {
+            match self.stands(out) {
+                Stands::Folder => outcome = answers::no_ordinary_file(&out.word),
+                Stands::File if !start.contains(&FORCED) => outcome = answers::there(&out.word),
+                _ => {}
+            }
+        }
         let mut counts = vec![(command, outcome.what, None)];
         let told = outcome.refusal.map(|(which, refusal)| {
             let number = NUMBER[refusal.number as usize];
@@ -194,15 +245,16 @@ impl Script {
             (refusal, whose.iter().map(|file| file.word.clone()).collect())
         });
         let out = out.first().map(|out| out.path.clone());
-        self.add(Step { words, outcome, told, out, counts })
+        let input = input.unwrap_or_default();
+        self.add(Step { words, outcome, told, out, counts, input })
     }
 
     pub fn check(&mut self, file: &Name) {
-        self.command("check", &[file], Vec::new(), &|files| answers::checked(files[0]));
+        self.command(&["check"], &[file], Vec::new(), &|files| answers::checked(files[0]));
     }
 
     pub fn list(&mut self, file: &Name) {
-        self.command("list", &[file], Vec::new(), &|files| answers::listed(files[0]));
+        self.command(&["list"], &[file], Vec::new(), &|files| answers::listed(files[0]));
     }
 
     /// One question, if it can be put so: a line has no spaces inside words, and the words of a
@@ -224,7 +276,7 @@ impl Script {
                 Some(iid) => Question::Iid(iid),
                 None => {
                     let words = [command.into(), file.word.clone().into_bytes(), words.concat()];
-                    return self.error(words.into(), "IID with a sign amiss");
+                    return self.error(words.into(), "IID with a sign amiss", None);
                 }
             },
             question => question,
@@ -242,36 +294,48 @@ impl Script {
 
     /// One question in these words after the file's.
     pub fn ask_so(&mut self, file: &Name, command: What, words: Words, q: &Question) -> &mut Step {
-        self.command(command, &[file], words, &|files| answers::asked(files[0], q))
+        self.command(&[command], &[file], words, &|files| answers::asked(files[0], q))
     }
 
     /// Normalises one file or links two, and names the output last; `order` counts where a pair is
     /// linked both ways. The papers leave open what a refused file with one that can't be read
     /// gives.
-    pub fn write(&mut self, names: &[&Name], order: Option<What>) {
-        let existed = self.content(names[names.len() - 1]).is_some();
+    pub fn write(&mut self, names: &[&Name], order: Option<What>, forced: bool) {
+        let stood = self.stands(names[names.len() - 1]);
         let command = if names.len() == 2 { "normal" } else { "link" };
-        let step = self.command(command, names, Vec::new(), &answers::written);
+        let start = &[command, FORCED][..1 + usize::from(forced)];
+        let step = self.command(start, names, Vec::new(), &answers::written);
         if let (Some(order), Some((why, _))) = (order, &step.told) {
             if !refusal::is_of_file(why.number) {
                 step.counts.push((LINK[why.number as usize], order, Some(why.place as u64)));
             }
         }
-        let what = match (step.outcome.written.is_some(), existed) {
-            (true, true) => "output replaced",
-            (true, false) => "output made",
-            (false, true) => "output kept",
-            (false, false) => "output still absent",
+        let what = match (step.outcome.written.is_some(), stood) {
+            (true, Stands::Nothing) => "output made",
+            (true, _) => "output replaced",
+            (false, Stands::Nothing) => "output still absent",
+            (false, _) => "output kept",
         };
         step.counts.push((command, what, None));
+        if what == "output made" && !forced {
+            step.counts.push((command, "output made without -f", None));
+        }
     }
 
+    /// With `-f` or now and then without.
     pub fn normal(&mut self, file: &Name, out: &Name) {
-        self.write(&[file, out], None);
+        let forced = self.forced();
+        self.write(&[file, out], None, forced);
     }
 
     pub fn link(&mut self, first: &Name, second: &Name, out: &Name) {
-        self.write(&[first, second, out], None);
+        let forced = self.forced();
+        self.write(&[first, second, out], None, forced);
+    }
+
+    /// Whether an output is forced.
+    pub fn forced(&mut self) -> bool {
+        self.rng.percent(75)
     }
 
     /// All steps. Few or many stories are mixed at a time, so that what a program keeps of a file

@@ -1,6 +1,7 @@
 //! Stories: commands that belong together, about generated files.
 
-use super::{answers::Bytes, malformed, script::Name, script::Script};
+use super::script::{Name, Script, FORCED, INPUT, SUBFOLDER};
+use super::{answers::Bytes, malformed};
 use crate::library::{links::ORDERS, questions::question, questions::Question};
 use crate::making::{builder::*, generate, hostile, model, pairs, rng::Rng};
 use crate::program::{check::check, listing::MAX_INPUT};
@@ -142,7 +143,7 @@ pub fn normalised(script: &mut Script) {
     let file = placed(script);
     let (out, again) = (output(script), script.free());
     script.story();
-    script.normal(&file, &out);
+    script.write(&[&file, &out], None, true);
     questions(script, &out, 4);
     script.normal(&out, &again);
     if script.content(&again).is_some() {
@@ -155,13 +156,14 @@ pub fn pair(script: &mut Script, files: &[Bytes; 2]) {
     let [a, b] = files.each_ref().map(|bytes| script.place(bytes.clone()));
     let [ab, ba] = [0; 2].map(|_| script.free());
     script.story();
-    script.write(&[&a, &b, &ab], Some(ORDERS[0]));
+    let forced = [0; 2].map(|_| script.forced());
+    script.write(&[&a, &b, &ab], Some(ORDERS[0]), forced[0]);
     match script.content(&ab).is_some() {
         true => questions(script, &ab, 4),
         false if script.rng.percent(20) => script.check(&ab),
         false => {}
     }
-    script.write(&[&b, &a, &ba], Some(ORDERS[1]));
+    script.write(&[&b, &a, &ba], Some(ORDERS[1]), forced[1]);
     script.law(["swapping: same bytes", "swapping: neither"], &ab, &ba);
 }
 
@@ -230,9 +232,9 @@ pub fn rewritten(script: &mut Script, bad: &Bytes) {
     let mut before = None;
     for file in [&a, &b, &bad, &c, &a] {
         match script.rng.below(3) {
-            0 => script.link(file, &a, &out),
-            1 => script.link(&b, file, &out),
-            _ => script.normal(file, &out),
+            0 => script.write(&[file, &a, &out], None, true),
+            1 => script.write(&[&b, file, &out], None, true),
+            _ => script.write(&[file, &out], None, true),
         }
         let now = script.content(&out).cloned();
         script.check(&out);
@@ -240,6 +242,9 @@ pub fn rewritten(script: &mut Script, bad: &Bytes) {
             script.count("output", "asked anew with other bytes");
         }
         before = now;
+        if script.rng.percent(50) {
+            script.write(&[&c, &b, &out], None, false);
+        }
         script.list(&out);
         questions(script, &out, 3);
         let copy = script.free();
@@ -253,7 +258,10 @@ pub fn in_place(script: &mut Script) {
     let [a, b] = files.map(|bytes| script.place(bytes));
     script.story();
     script.check(&a);
-    script.normal(&a, &a);
+    script.write(&[&a, &a], None, false);
+    script.count("output", "also the input, left");
+    script.list(&a);
+    script.write(&[&a, &a], None, true);
     script.count("output", "also the input");
     questions(script, &a, 2);
     script.link(&a, &b, &a);
@@ -279,6 +287,78 @@ pub fn by_other_names(script: &mut Script) {
             script.count("output", "asked by another name");
         }
     }
+}
+
+/// Outputs that are symbolic links, to a file and to nothing. With `-f` a file takes the link's
+/// place, and what it led to is as it was.
+pub fn over_links(script: &mut Script) {
+    let files = [0; 3].map(|_| good(&mut script.rng));
+    let [a, b, target] = files.map(|bytes| script.place(bytes));
+    let nothing = script.free();
+    script.story();
+    for (file, target) in [(&a, &target), (&b, &nothing)] {
+        let link = script.symbolic(&target.path);
+        let through = Name { path: target.path.clone(), word: link.word.clone() };
+        script.list(&through);
+        script.write(&[file, &link], None, false);
+        script.count("output", "a symbolic link, left");
+        script.list(&through);
+        script.write(&[file, file, &link], None, true);
+        script.count("output", "a symbolic link, replaced");
+        script.list(&link);
+        script.list(target);
+        script.normal(target, &link);
+        script.list(&link);
+    }
+}
+
+/// Outputs that are a folder, by its own name and by a symbolic link; `bad` is refused, which comes
+/// first.
+pub fn no_ordinary_file(script: &mut Script, bad: &Bytes) {
+    let (a, bad) = (placed(script), script.place(bad.clone()));
+    let outs = [script.subfolder(), script.symbolic(SUBFOLDER)];
+    script.story();
+    for out in &outs {
+        script.write(&[&a, out], None, true);
+        script.write(&[&a, out], None, false);
+        script.link(&a, &a, out);
+        script.normal(&bad, out);
+        script.link(&a, &bad, out);
+    }
+}
+
+/// A file that is named as the word before the files is.
+pub fn named_so(script: &mut Script) {
+    let (a, out) = (placed(script), script.free());
+    let named = Name { path: FORCED.to_string(), word: FORCED.to_string() };
+    script.story();
+    script.check(&named);
+    script.write(&[&a, &named], None, false);
+    script.count("output", "named -f");
+    script.check(&named);
+    script.write(&[&a, &a, &named], None, false);
+    script.write(&[&named, &named], None, true);
+    script.write(&[&named, &named, &out], None, true);
+    questions(script, &named, 2);
+}
+
+/// Standard input as the file, or as one of two.
+pub fn standard_input(script: &mut Script, bytes: &Bytes) {
+    let (file, other, out) = (script.place(bytes.clone()), placed(script), output(script));
+    let input = Name { path: file.path, word: INPUT.to_string() };
+    script.story();
+    for turn in 0..6 {
+        match turn {
+            0 => script.check(&input),
+            1 => script.list(&input),
+            2 => script.normal(&input, &out),
+            3 => script.link(&input, &other, &out),
+            4 => script.link(&other, &input, &out),
+            _ => questions(script, &input, 2),
+        }
+        script.count("file", "standard input");
+    }
+    script.check(&out);
 }
 
 /// An output beside files with the names that a temporary one may have.
