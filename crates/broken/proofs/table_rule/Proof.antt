@@ -8,13 +8,13 @@ use Rattle.broken.proofs.table_rule.Tie as tie
 
 returns : tie.Need-returns
 unfolding tableRule
-returns c = rule-stop _ _ (c .enum-told .given .1) (c .before .before .read-methods .ensures .step)
+returns c = rule-stop _ _ (c .enum-told .given .1) (c .before .before .read-methods .ensures .0 .step)
 
 returns-2 : tie.Need-returns-2
-returns-2 c = rule-many _ _ _ _ _ _ (c .before .before .before .before .before .before .read-methods .ensures) (c .before .before .before .before .r .given .1) (c .before .many-constructors .ensures) (c .if1 .taken)
+returns-2 c = rule-many _ _ _ _ _ _ (c .before .before .before .before .before .before .read-methods .ensures .0) (c .before .before .before .before .r .given .1) (c .before .many-constructors .ensures) (c .if1 .taken)
 
 returns-3 : tie.Need-returns-3
-returns-3 c = rule-pair _ _ _ _ _ _ (c .before .before .before .before .before .before .read-methods .ensures) (c .before .before .before .before .r .given .1) (c .before .many-constructors .ensures) (c .if1 .left)
+returns-3 c = rule-pair _ _ _ _ _ _ (c .before .before .before .before .before .before .read-methods .ensures .0) (c .before .before .before .before .r .given .1) (c .before .many-constructors .ensures) (c .if1 .left)
 
 pub table-rule-spec : {M : Type 1} → statement M
 table-rule-spec =
