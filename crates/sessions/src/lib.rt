@@ -1,4 +1,4 @@
-// Runs of commands, with their buffers: one command, or a batch. They stand apart from the program, so that what needs no buffers runs without them.
+// Runs of commands, with their buffers: one command, or the lines of a batch.
 use failures::ROOM;
 use feed::Coming;
 use feed::Feed;

@@ -3,6 +3,7 @@ use failures::ROOM;
 use feed::INPUT_ROOM;
 use feed::arguments::Gathered;
 ghost use Prim.Native.Nat.{_≤_};
+ghost use Rattle.feed.specs.Lines.{inputRoom};
 ghost use Rattle.failures.specs.Room.{room};
 
 // The first n bytes on standard output.
@@ -13,33 +14,79 @@ fn put(text: &[u8; ROOM], n: usize)
     io::write_all(1, &all[..n]);
 }
 
-// What the arguments ask for.
-fn start(input: &mut [u8; INPUT_ROOM], text: &mut [u8; ROOM]) {
+// Whether there is a command to run or a batch of them, and the length of the command's words.
+struct Work {
+    is_asked: bool,
+    length: usize,
+    in_batch: bool,
+}
+
+// Nothing is to be run.
+fn nothing() -> Work
+    ensures { λ r. ⌜ r .length ≤ inputRoom ⌝ }
+{
+    Work {
+        is_asked: false,
+        length: 0,
+        in_batch: false,
+    }
+}
+
+// The first n bytes on standard output, and nothing to run.
+fn told(text: &[u8; ROOM], n: usize) -> Work
+    requires { ⌜ n ≤ room ⌝ }
+    ensures { λ r. ⌜ r .length ≤ inputRoom ⌝ }
+{
+    put(text, n);
+    nothing()
+}
+
+// What the arguments ask for; what needs no file is answered here.
+fn find_work(input: &mut [u8; INPUT_ROOM], text: &mut [u8; ROOM]) -> Work
+    ensures { λ r. ⌜ r .length ≤ inputRoom ⌝ }
+{
     match feed::arguments::gather(input) {
         Gathered::Nothing => {
             let n = failures::no_command(text);
             runs::streams::put_error(text, n);
             remarks::hint(text);
+            nothing()
         }
         Gathered::TooLong => {
             let n = failures::arguments_too_long(text);
             runs::streams::put_error(text, n);
+            nothing()
         }
         Gathered::Help => {
             let n = manual::help(text);
-            put(text, n);
+            told(text, n)
         }
         Gathered::Version => {
             let n = manual::version(text);
-            put(text, n);
+            told(text, n)
         }
         Gathered::HelpOf(k) => {
             let all: &[u8] = input;
             let n = manual::help_of(verbs::verb_of(&all[..k]), text);
-            put(text, n);
+            told(text, n)
         }
-        Gathered::Batch => sessions::serve(input, 0, true),
-        Gathered::Words(n) => sessions::serve(input, n, false),
+        Gathered::Batch => Work {
+            is_asked: true,
+            length: 0,
+            in_batch: true,
+        },
+        Gathered::Words(n) => Work {
+            is_asked: true,
+            length: n,
+            in_batch: false,
+        },
+    }
+}
+
+fn start(input: &mut [u8; INPUT_ROOM], text: &mut [u8; ROOM]) {
+    let work = find_work(input, text);
+    if work.is_asked {
+        sessions::serve(input, work.length, work.in_batch);
     }
 }
 
