@@ -7,7 +7,7 @@ use Rattle.ascii.specs.Ascii.{ascii}
 use Rattle.decimal.specs.Digits.{digitsOf, digitsWithin}
 use Rattle.text.specs.Line.{newline}
 use Rattle.failures.specs.Shown.{shownByte, shownWord}
-use Rattle.reasons.specs.Sentences.{betweenText, wordText, ownText, linkText, sentenceText}
+use Rattle.sentences.specs.Sentences.{betweenText, wordText, ownText, linkText, sentenceText}
 use Rattle.reasons.specs.Refusals.{placeText, keyText, whereText, whyText, refusedText, askedText, unitedText}
 
 file : refusedText (ascii "a.xpt") (record { no = 16; place = 76 }) 8 (ascii "org.A") ≡ ascii "xpt: a.xpt: refused 16 at byte 76, in org.A: the type of a constant is not 1, 2, 5 or 6" ++ newline

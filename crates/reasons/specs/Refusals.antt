@@ -9,7 +9,7 @@ use Rattle.decimal.specs.Digits.{digitsOf}
 use Rattle.text.specs.Line.{newline}
 use Rattle.reading.specs.declared.Refusal.{Refusal}
 use Rattle.failures.specs.Shown.{shownWord}
-use Rattle.reasons.specs.Sentences.{sentenceText}
+use Rattle.sentences.specs.Sentences.{sentenceText}
 
 -- bytes of a key: two identifiers and the dot between them
 abbrev pub keyLimit : ℕ
@@ -22,7 +22,8 @@ placeText n place =
     if n =? 20 then [] else
     if n <? 25 then (ascii " at interface " ++ digitsOf place) ++ ascii " of the first file" else
     if n =? 27 then ascii " at the needed length " ++ digitsOf place else
-    []
+    if n <? 29 then [] else
+    ascii " at byte " ++ digitsOf place
 
 -- the key of the interface, after the words before it; left out where it is not known
 unfoldable pub keyText : List ℕ → List ℕ → List ℕ

@@ -1,17 +1,19 @@
 // The reason of a refusal in plain words: one line for standard error, made whole at the front of a lent buffer.
-mod sentence;
+mod length;
 
 use failures::ROOM;
 use reading::Refusal;
 ghost use mathlib.Core.Path.{_≡_};
-ghost use mathlib.Core.List.{_++_};
+ghost use mathlib.Core.List.{[], _++_};
 ghost use Prim.Native.Nat.{_+_, _≤_};
 ghost use lib.ListN.{length};
 ghost use Rattle.printed.specs.Writing.{Wrote};
 ghost use Rattle.failures.specs.Room.{room, wordLimit, Made};
 ghost use Rattle.ascii.specs.Ascii.{ascii};
 ghost use Rattle.decimal.specs.Digits.{digitsOf};
+ghost use Rattle.text.specs.Line.{newline};
 ghost use Rattle.reasons.specs.Refusals.{keyLimit, placeText, keyText, whereText, whyText, refusedText, askedText, unitedText};
+ghost use Rattle.reasons.specs.Lengths.{saidLength, lengthText, wrongLengthText};
 
 // An index in the first of two files, from `at` on.
 fn put_index(place: u64, text: &mut [u8; ROOM], at: usize) -> usize
@@ -32,7 +34,8 @@ fn put_place(no: u8, place: u64, text: &mut [u8; ROOM], at: usize) -> usize
         27 => text::put_labelled(text, at, b" at the needed length ", place),
         0..=19 => text::put_labelled(text, at, b" at byte ", place),
         21..=24 => put_index(place, text, at),
-        _ => at,
+        25..=28 => at,
+        _ => text::put_labelled(text, at, b" at byte ", place),
     }
 }
 
@@ -60,6 +63,18 @@ fn put_where(why: Refusal, before: &[u8], key: &[u8], text: &mut [u8; ROOM], at:
     put_key(before, key, text, keyed)
 }
 
+// Number and place, and how the file's length differs, from `at` on to the line's end.
+fn put_wrong(why: Refusal, file: &[u8], text: &mut [u8; ROOM], at: usize) -> usize
+    requires { ⌜ at ≤ 65600 ⌝ }
+    ensures { λ r. ⌜ Wrote (now (text .entry)) at (((whereText why [] [] ++ ascii ": ") ++ lengthText (now (file .entry)) (saidLength (now (file .entry)))) ++ newline) r (now (text .exit)) × (r ≤ room) ⌝ }
+{
+    let said = length::said_length(file);
+    let colon = put_where(why, b"", b"", text, at);
+    let rest = text::put_bytes(text, colon, b": ");
+    let end = length::put_length(file, said, text, rest);
+    text::put_bytes(text, end, b"\n")
+}
+
 // Those and the rule, from `at` on to the line's end.
 fn put_why(
     why: Refusal,
@@ -74,7 +89,7 @@ fn put_why(
 {
     let colon = put_where(why, before, key, text, at);
     let rest = text::put_bytes(text, colon, b": ");
-    let end = sentence::put_sentence(why.no, rule, text, rest);
+    let end = sentences::put_sentence(why.no, rule, text, rest);
     text::put_bytes(text, end, b"\n")
 }
 
@@ -85,6 +100,15 @@ pub fn refused(name: &[u8], why: Refusal, rule: u8, key: &[u8], text: &mut [u8; 
 {
     let at = failures::put_named(b"xpt: ", name, text);
     put_why(why, rule, b", in ", key, text, at)
+}
+
+// The refusal of a file whose length is not the one in its header, 29 or 30.
+pub fn wrong_length(name: &[u8], file: &[u8], why: Refusal, text: &mut [u8; ROOM]) -> usize
+    requires { ⌜ length (now name) ≤ wordLimit ⌝ }
+    ensures { λ r. ⌜ Made (wrongLengthText (now (name .entry)) why (now (file .entry))) (now (text .entry)) r (now (text .exit)) ⌝ }
+{
+    let at = failures::put_named(b"xpt: ", name, text);
+    put_wrong(why, file, text, at)
 }
 
 // The refusal of a question, 20: by the word that is at fault, 0 for none.

@@ -16,6 +16,9 @@ put-labelled-requires c κs = omega (arith, length-u64 (c .before .before .befor
 put-labelled-requires-2 : tie.Need-put-labelled-requires-2
 put-labelled-requires-2 c κs = omega (arith, length-u64 (c .before .before .before .before .args .place) (omega arith))
 
+put-labelled-requires-3 : tie.Need-put-labelled-requires-3
+put-labelled-requires-3 c κs = omega (arith, length-u64 (c .before .before .before .before .before .args .place) (omega arith))
+
 returns : tie.Need-returns
 unfolding placeText
 returns c = (wrote-as (no-lt _ _ _ _ (omega arith) (is-eq _ _ _ _ (omega arith) refl)) (none-written _ _), omega arith)
@@ -38,7 +41,13 @@ returns-4 c = (wrote-as (no-lt _ _ _ _ (omega arith) (no-eq _ _ _ _ (λ e. omega
 
 returns-5 : tie.Need-returns-5
 unfolding placeText
-returns-5 c = (wrote-as (no-lt _ _ _ _ (omega arith) (no-eq _ _ _ _ (λ e. omega arith) (no-lt _ _ _ _ (omega arith) (no-eq _ _ _ _ (λ e. omega arith) refl)))) (none-written _ _), omega arith)
+returns-5 c = (wrote-as (no-lt _ _ _ _ (omega arith) (no-eq _ _ _ _ (λ e. omega arith) (no-lt _ _ _ _ (omega arith) (no-eq _ _ _ _ (λ e. omega arith) (is-lt _ _ _ _ (omega arith) refl))))) (none-written _ _), omega arith)
+
+returns-6 : tie.Need-returns-6
+unfolding placeText
+returns-6 c =
+    let place = c .before .before .before .before .before .before .before .args .place in
+    (wrote-as (no-lt _ _ _ _ (omega arith) (no-eq _ _ _ _ (λ e. omega arith) (no-lt _ _ _ _ (omega arith) (no-eq _ _ _ _ (λ e. omega arith) (no-lt _ _ _ _ (omega arith) refl))))) (wrote-label _ (ascii " at byte ") (digitsOf place) _ (c .put-labelled3 .ensures)), omega (arith, length-u64 place (omega arith)))
 
 pub put-place-spec : {M : Type 1} → statement M
 put-place-spec =
@@ -49,8 +58,11 @@ put-place-spec =
     (λ c. search needs)
     put-labelled-requires-2
     (λ c κs. omega arith)
+    (λ c. search needs)
+    put-labelled-requires-3
     returns
     returns-2
     returns-3
     returns-4
-    returns-5)
+    returns-5
+    returns-6)

@@ -5,7 +5,7 @@ use Rattle.number.proofs.Tools.{arith, needs}
 use Rattle.ascii.specs.Ascii.{ascii}
 use Rattle.text.specs.Line.{newline}
 use Rattle.printed.proofs.WritingLaws.{wrote, wrote-then}
-use Rattle.reasons.specs.Sentences.{sentenceText}
+use Rattle.sentences.specs.Sentences.{sentenceText}
 use Rattle.reasons.specs.Refusals.{whereText, whyText}
 use Rattle.reasons.proofs.put_why.Statement.{statement}
 use Rattle.reasons.proofs.put_why.Tie as tie

@@ -1,10 +1,10 @@
--- `reasons::sentence::put_word` meets its contract.
+-- `sentences::put_word` meets its contract.
 -- Assumes nothing.
 use Rattle.number.proofs.Tools.{refl, arith, needs, if_then_else_, _=?_, no-eq}
 use Rattle.printed.proofs.WritingLaws.{wrote, wrote-as}
-use Rattle.reasons.specs.Sentences.{wordText}
-use Rattle.reasons.proofs.sentence.put_word.Statement.{statement}
-use Rattle.reasons.proofs.sentence.put_word.Tie as tie
+use Rattle.sentences.specs.Sentences.{wordText}
+use Rattle.sentences.proofs.put_word.Statement.{statement}
+use Rattle.sentences.proofs.put_word.Tie as tie
 
 returns : tie.Need-returns
 unfolding wordText if_then_else_ _=?_

@@ -1,47 +1,43 @@
--- `reasons::sentence::put_header` meets its contract.
+-- `sentences::put_link` meets its contract.
 -- Assumes nothing.
 use Rattle.number.proofs.Tools.{refl, arith, needs, if_then_else_, _=?_, no-eq}
 use Rattle.printed.proofs.WritingLaws.{wrote, wrote-as}
-use Rattle.reasons.specs.Sentences.{headerText}
-use Rattle.reasons.proofs.sentence.put_header.Statement.{statement}
-use Rattle.reasons.proofs.sentence.put_header.Tie as tie
+use Rattle.sentences.specs.Sentences.{linkText}
+use Rattle.sentences.proofs.put_link.Statement.{statement}
+use Rattle.sentences.proofs.put_link.Tie as tie
 
 returns : tie.Need-returns
-unfolding headerText if_then_else_ _=?_
+unfolding linkText if_then_else_ _=?_
 returns c = (rw (c .before .before .before .match .keys1) (wrote _ _ _ (c .put-bytes .ensures)), omega arith)
 
 returns-2 : tie.Need-returns-2
-unfolding headerText if_then_else_ _=?_
+unfolding linkText if_then_else_ _=?_
 returns-2 c = (rw (c .before .before .before .match .keys2) (wrote _ _ _ (c .put-bytes2 .ensures)), omega arith)
 
 returns-3 : tie.Need-returns-3
-unfolding headerText if_then_else_ _=?_
+unfolding linkText if_then_else_ _=?_
 returns-3 c = (rw (c .before .before .before .match .keys3) (wrote _ _ _ (c .put-bytes3 .ensures)), omega arith)
 
 returns-4 : tie.Need-returns-4
-unfolding headerText if_then_else_ _=?_
+unfolding linkText if_then_else_ _=?_
 returns-4 c = (rw (c .before .before .before .match .keys4) (wrote _ _ _ (c .put-bytes4 .ensures)), omega arith)
 
 returns-5 : tie.Need-returns-5
-unfolding headerText if_then_else_ _=?_
+unfolding linkText if_then_else_ _=?_
 returns-5 c = (rw (c .before .before .before .match .keys5) (wrote _ _ _ (c .put-bytes5 .ensures)), omega arith)
 
 returns-6 : tie.Need-returns-6
-unfolding headerText if_then_else_ _=?_
+unfolding linkText if_then_else_ _=?_
 returns-6 c = (rw (c .before .before .before .match .keys6) (wrote _ _ _ (c .put-bytes6 .ensures)), omega arith)
 
 returns-7 : tie.Need-returns-7
-unfolding headerText if_then_else_ _=?_
-returns-7 c = (rw (c .before .before .before .match .keys7) (wrote _ _ _ (c .put-bytes7 .ensures)), omega arith)
+unfolding linkText
+returns-7 c =
+    let r = c .before .before .before .match .rest in
+    (wrote-as (no-eq _ _ _ _ (r .0 .0 .0 .0 .0 .1) (no-eq _ _ _ _ (r .0 .0 .0 .0 .1) (no-eq _ _ _ _ (r .0 .0 .0 .1) (no-eq _ _ _ _ (r .0 .0 .1) (no-eq _ _ _ _ (r .0 .1) (no-eq _ _ _ _ (r .1) refl)))))) (wrote _ _ _ (c .put-bytes7 .ensures)), omega arith)
 
-returns-8 : tie.Need-returns-8
-unfolding headerText
-returns-8 c =
-    let r = c .before .before .match .rest in
-    (wrote-as (no-eq _ _ _ _ (r .0 .0 .0 .0 .0 .0 .1) (no-eq _ _ _ _ (r .0 .0 .0 .0 .0 .1) (no-eq _ _ _ _ (r .0 .0 .0 .0 .1) (no-eq _ _ _ _ (r .0 .0 .0 .1) (no-eq _ _ _ _ (r .0 .0 .1) (no-eq _ _ _ _ (r .0 .1) (no-eq _ _ _ _ (r .1) refl))))))) (c .put-position .ensures .0), c .put-position .ensures .1)
-
-pub put-header-spec : {M : Type 1} → statement M
-put-header-spec =
+pub put-link-spec : {M : Type 1} → statement M
+put-link-spec =
     tie.close
     (tie.spec
     (λ c. search needs)
@@ -58,12 +54,10 @@ put-header-spec =
     (λ c κs. omega arith)
     (λ c. search needs)
     (λ c κs. omega arith)
-    (λ c κs. omega arith)
     returns
     returns-2
     returns-3
     returns-4
     returns-5
     returns-6
-    returns-7
-    returns-8)
+    returns-7)

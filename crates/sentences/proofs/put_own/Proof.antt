@@ -1,10 +1,10 @@
--- `reasons::sentence::put_own` meets its contract.
+-- `sentences::put_own` meets its contract.
 -- Assumes nothing.
 use Rattle.number.proofs.Tools.{refl, arith, needs, if_then_else_, _=?_, no-eq}
 use Rattle.printed.proofs.WritingLaws.{wrote, wrote-as}
-use Rattle.reasons.specs.Sentences.{ownText}
-use Rattle.reasons.proofs.sentence.put_own.Statement.{statement}
-use Rattle.reasons.proofs.sentence.put_own.Tie as tie
+use Rattle.sentences.specs.Sentences.{ownText}
+use Rattle.sentences.proofs.put_own.Statement.{statement}
+use Rattle.sentences.proofs.put_own.Tie as tie
 
 returns : tie.Need-returns
 unfolding ownText if_then_else_ _=?_

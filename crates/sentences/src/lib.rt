@@ -1,9 +1,9 @@
-// The rule that a refusal is of, in plain words, from `at` on.
+// The rule that a refusal is of, in plain words, written from a place of a lent buffer on.
 use failures::ROOM;
 ghost use Prim.Native.Nat.{_+_, _≤_};
 ghost use Rattle.printed.specs.Writing.{Wrote};
 ghost use Rattle.failures.specs.Room.{room};
-ghost use Rattle.reasons.specs.Sentences.{positionText, betweenText, wordText, headerText, directoryText, ownText, linkText, sentenceText};
+ghost use Rattle.sentences.specs.Sentences.{positionText, betweenText, wordText, headerText, directoryText, ownText, linkText, sentenceText};
 
 // 8, by the rule.
 fn put_position(rule: u8, text: &mut [u8; ROOM], at: usize) -> usize
@@ -107,7 +107,7 @@ fn put_word(rule: u8, text: &mut [u8; ROOM], at: usize) -> usize
     }
 }
 
-// 1 to 8: the header.
+// 1 to 5, 7 and 8: the header.
 fn put_header(no: u8, rule: u8, text: &mut [u8; ROOM], at: usize) -> usize
     requires { ⌜ at + 192 ≤ room ⌝ }
     ensures { λ r. ⌜ Wrote (now (text .entry)) at (headerText no rule) r (now (text .exit)) × (r ≤ at + 192) ⌝ }
@@ -126,11 +126,6 @@ fn put_header(no: u8, rule: u8, text: &mut [u8; ROOM], at: usize) -> usize
         ),
         4 => text::put_bytes(text, at, b"the major version is not 1"),
         5 => text::put_bytes(text, at, b"the minor version is not 0 or 1"),
-        6 => text::put_bytes(
-            text,
-            at,
-            b"the length in the header is not the number of bytes in the file",
-        ),
         7 => text::put_bytes(text, at, b"there are more than 1,024 interfaces"),
         _ => put_position(rule, text, at),
     }

@@ -36,7 +36,7 @@ wordText rule =
     if rule =? 4 then ascii "an index runs from 1 to the number of interfaces" else
     ascii "the question is malformed: an IID has 32 digits and is not zero, a name is an identifier, an index runs from 1 to the number of interfaces"
 
--- 1 to 8: the header
+-- 1 to 5, 7 and 8: the header
 unfoldable pub headerText : ℕ → ℕ → List ℕ
 headerText n rule =
     if n =? 1 then ascii "the file has fewer bytes than the 32 of a header" else
@@ -44,7 +44,6 @@ headerText n rule =
     if n =? 3 then ascii "the file does not begin with the magic of a typelib" else
     if n =? 4 then ascii "the major version is not 1" else
     if n =? 5 then ascii "the minor version is not 0 or 1" else
-    if n =? 6 then ascii "the length in the header is not the number of bytes in the file" else
     if n =? 7 then ascii "there are more than 1,024 interfaces" else
     positionText rule
 

@@ -1,10 +1,10 @@
--- `reasons::sentence::put_sentence` meets its contract.
+-- `sentences::put_sentence` meets its contract.
 -- Assumes nothing.
 use Rattle.number.proofs.Tools.{refl, arith, is-lt, no-lt}
 use Rattle.printed.proofs.WritingLaws.{wrote-as}
-use Rattle.reasons.specs.Sentences.{sentenceText}
-use Rattle.reasons.proofs.sentence.put_sentence.Statement.{statement}
-use Rattle.reasons.proofs.sentence.put_sentence.Tie as tie
+use Rattle.sentences.specs.Sentences.{sentenceText}
+use Rattle.sentences.proofs.put_sentence.Statement.{statement}
+use Rattle.sentences.proofs.put_sentence.Tie as tie
 
 returns : tie.Need-returns
 unfolding sentenceText

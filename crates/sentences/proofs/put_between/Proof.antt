@@ -1,10 +1,10 @@
--- `reasons::sentence::put_between` meets its contract.
+-- `sentences::put_between` meets its contract.
 -- Assumes nothing.
 use Rattle.number.proofs.Tools.{refl, arith, needs, if_then_else_, _=?_, no-eq}
 use Rattle.printed.proofs.WritingLaws.{wrote, wrote-as}
-use Rattle.reasons.specs.Sentences.{betweenText}
-use Rattle.reasons.proofs.sentence.put_between.Statement.{statement}
-use Rattle.reasons.proofs.sentence.put_between.Tie as tie
+use Rattle.sentences.specs.Sentences.{betweenText}
+use Rattle.sentences.proofs.put_between.Statement.{statement}
+use Rattle.sentences.proofs.put_between.Tie as tie
 
 returns : tie.Need-returns
 unfolding betweenText if_then_else_ _=?_

@@ -1,37 +1,43 @@
--- `reasons::sentence::put_position` meets its contract.
+-- `sentences::put_directory` meets its contract.
 -- Assumes nothing.
 use Rattle.number.proofs.Tools.{refl, arith, needs, if_then_else_, _=?_, no-eq}
 use Rattle.printed.proofs.WritingLaws.{wrote, wrote-as}
-use Rattle.reasons.specs.Sentences.{positionText}
-use Rattle.reasons.proofs.sentence.put_position.Statement.{statement}
-use Rattle.reasons.proofs.sentence.put_position.Tie as tie
+use Rattle.sentences.specs.Sentences.{directoryText}
+use Rattle.sentences.proofs.put_directory.Statement.{statement}
+use Rattle.sentences.proofs.put_directory.Tie as tie
 
 returns : tie.Need-returns
-unfolding positionText if_then_else_ _=?_
+unfolding directoryText if_then_else_ _=?_
 returns c = (rw (c .before .before .before .match .keys1) (wrote _ _ _ (c .put-bytes .ensures)), omega arith)
 
 returns-2 : tie.Need-returns-2
-unfolding positionText if_then_else_ _=?_
+unfolding directoryText if_then_else_ _=?_
 returns-2 c = (rw (c .before .before .before .match .keys2) (wrote _ _ _ (c .put-bytes2 .ensures)), omega arith)
 
 returns-3 : tie.Need-returns-3
-unfolding positionText if_then_else_ _=?_
+unfolding directoryText if_then_else_ _=?_
 returns-3 c = (rw (c .before .before .before .match .keys3) (wrote _ _ _ (c .put-bytes3 .ensures)), omega arith)
 
 returns-4 : tie.Need-returns-4
-unfolding positionText if_then_else_ _=?_
+unfolding directoryText if_then_else_ _=?_
 returns-4 c = (rw (c .before .before .before .match .keys4) (wrote _ _ _ (c .put-bytes4 .ensures)), omega arith)
 
 returns-5 : tie.Need-returns-5
-unfolding positionText
-returns-5 c =
-    let r = c .before .before .before .match .rest in
-    (wrote-as (no-eq _ _ _ _ (r .0 .0 .0 .1) (no-eq _ _ _ _ (r .0 .0 .1) (no-eq _ _ _ _ (r .0 .1) (no-eq _ _ _ _ (r .1) refl)))) (wrote _ _ _ (c .put-bytes5 .ensures)), omega arith)
+unfolding directoryText if_then_else_ _=?_
+returns-5 c = (rw (c .before .before .before .match .keys5) (wrote _ _ _ (c .put-bytes5 .ensures)), omega arith)
 
-pub put-position-spec : {M : Type 1} → statement M
-put-position-spec =
+returns-6 : tie.Need-returns-6
+unfolding directoryText
+returns-6 c =
+    let r = c .before .before .before .match .rest in
+    (wrote-as (no-eq _ _ _ _ (r .0 .0 .0 .0 .1) (no-eq _ _ _ _ (r .0 .0 .0 .1) (no-eq _ _ _ _ (r .0 .0 .1) (no-eq _ _ _ _ (r .0 .1) (no-eq _ _ _ _ (r .1) refl))))) (wrote _ _ _ (c .put-bytes6 .ensures)), omega arith)
+
+pub put-directory-spec : {M : Type 1} → statement M
+put-directory-spec =
     tie.close
     (tie.spec
+    (λ c. search needs)
+    (λ c κs. omega arith)
     (λ c. search needs)
     (λ c κs. omega arith)
     (λ c. search needs)
@@ -46,4 +52,5 @@ put-position-spec =
     returns-2
     returns-3
     returns-4
-    returns-5)
+    returns-5
+    returns-6)
