@@ -9,7 +9,7 @@ use native.Mathlib.Omega.{arith}
 use lib.ListN.{length, getD}
 use Rattle.number.specs.Choice.{if_then_else_, _<?_, _=?_}
 use Rattle.number.specs.Number.{be}
-use Rattle.number.proofs.Choice.{both, not-ne, from-not-lt, from-yes-eq, from-not-eq, from-not-ne}
+use Rattle.number.proofs.Choice.{both, yes-lt, not-lt, not-ne, from-yes-lt, from-not-lt, from-yes-eq, from-not-eq, from-not-ne}
 use Rattle.number.proofs.Scans.{clash, scan-before, scan-is}
 use Rattle.reading.specs.Got.{got, bad}
 use Rattle.reading.proofs.Steps.{passed}
@@ -24,16 +24,30 @@ use Rattle.head.proofs.HeadSteps.{told}
 
 -- ---- each test, as a fact
 
--- the length field is right when there is no fault
-pub fault-none : (given said : ℕ) → said ≡ given → lengthFault given said ≡ 0
-unfolding lengthFault if_then_else_
-fault-none given said h = rw (not-ne said given h)
+-- the three cases of the length field
+module _ (given said : ℕ) where
+  pub fault-cut : given < said → lengthFault given said ≡ 29
+  unfolding lengthFault if_then_else_
+  fault-cut h = rw (yes-lt given said h) refl
 
-pub none-fault : (given said : ℕ) → lengthFault given said ≡ 0 → said ≡ given
-unfolding lengthFault
-none-fault given said =
-    both (λ (n : ℕ). n ≡ 0 → said ≡ given) _ _ _
-    (λ _ h. absurd (omega arith)) (λ t _. from-not-ne said given t)
+  pub fault-padded : said < given → lengthFault given said ≡ 30
+  unfolding lengthFault if_then_else_
+  fault-padded h = rw (not-lt given said (omega arith), yes-lt said given h) refl
+
+  pub fault-none : said ≡ given → lengthFault given said ≡ 0
+  unfolding lengthFault if_then_else_
+  fault-none h = rw (not-lt given said (omega arith), not-lt said given (omega arith)) refl
+
+  -- and no others
+  pub fault-cases : (P : ℕ → Type 0) → (given < said → P 29) → (said < given → P 30) → (said ≡ given → P 0) → P (lengthFault given said)
+  unfolding lengthFault
+  fault-cases P cut padded right =
+      both P _ _ _ (λ t. cut (from-yes-lt given said t)) (λ t.
+      both P _ _ _ (λ u. padded (from-yes-lt said given u)) (λ u.
+      right (let a = from-not-lt given said t in let b = from-not-lt said given u in omega arith)))
+
+  pub none-fault : lengthFault given said ≡ 0 → said ≡ given
+  none-fault = fault-cases (λ n. n ≡ 0 → said ≡ given) (λ _ h. absurd (omega arith)) (λ _ h. absurd (omega arith)) (λ e _. e)
 
 pub magic-bytes : (s : List ℕ) → 16 ≤ magicEnd s → (i : ℕ) → i < 16 → getD s i 0 ≡ getD magic i 0
 unfolding magicEnd offMagic

@@ -1,4 +1,4 @@
--- Document 01, "Header" and "Positions": refusals 1 to 8, in number order.
+-- Document 01, "Header" and "Positions": refusals 1 to 8, in number order; 29 and 30 stand where 6 stood.
 -- Assumes nothing.
 use mathlib.Core.Bool.{Bool, true}
 use mathlib.Core.List.{List, [], _∷_}
@@ -32,9 +32,12 @@ newest = 1
 unfoldable pub unknownMinor : ℕ → Bool
 unknownMinor m = newest <? m
 
--- the refusal of a file of `given` bytes whose length field says `said`, or 0: it must equal the bytes given
+-- the refusal of a file of `given` bytes whose length field says `said`, or 0: 29 where fewer are given, 30 where more (document 02, #102)
 unfoldable pub lengthFault : ℕ → ℕ → ℕ
-lengthFault given said = if said ≠? given then 6 else 0
+lengthFault given said =
+    if given <? said then 29 else
+    if said <? given then 30 else
+    0
 
 -- the pool offset is at least 33 and at most the file length
 unfoldable pub misplacedPool : ℕ → ℕ → Bool
@@ -55,7 +58,7 @@ readPositions s =
     if misplacedDirectory (be 2 s 18) (be 4 s 24) (be 4 s 28) then bad 8 24 else
     got (record { minor = getD s 17 0; count = be 2 s 18; directory = be 4 s 24; pool = be 4 s 28 }) 32
 
--- 4 to 8
+-- 4 and 5, 29 or 30, 7 and 8
 unfoldable pub readFields : List ℕ → Got Header
 readFields s =
     if getD s 16 0 ≠? 1 then bad 4 16 else
@@ -64,7 +67,7 @@ readFields s =
     if entryLimit <? be 2 s 18 then bad 7 18 else
     readPositions s
 
--- 1 to 8
+-- 1 to 3, and those
 unfoldable pub readHeader : List ℕ → Got Header
 readHeader s =
     if length s <? 32 then bad 1 (length s) else

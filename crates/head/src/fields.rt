@@ -1,4 +1,4 @@
-// The fields of the header: refusals 1 to 8.
+// The fields of the header: refusals 1 to 8, with 29 and 30 for 6.
 ghost use mathlib.Core.Path.{_≡_};
 ghost use Prim.Native.Nat.{_≤_};
 ghost use lib.ListN.{length};
@@ -56,8 +56,11 @@ fn unknown_minor(m: u8) -> bool
 fn length_fault(given: usize, said: usize) -> u8
     ensures { λ r. ⌜ r ≡ lengthFault given said ⌝ }
 {
-    if said != given {
-        return 6;
+    if given < said {
+        return 29;
+    }
+    if said < given {
+        return 30;
     }
     0
 }

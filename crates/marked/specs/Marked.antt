@@ -62,7 +62,7 @@ table out =
     ∷ record { task = normalise P1; result = normalised (normal.Written 36) (sets out 0 P1) }
     ∷ record { task = normalise P2; result = normalised (normal.Written 69) (sets out 0 P2) }
     ∷ record { task = normalise P3; result = normalised (normal.Written 82) (sets out 0 P3) }
-    ∷ record { task = check P4; result = at 6 20 }
+    ∷ record { task = check P4; result = at 29 20 }
     ∷ record { task = check P5; result = at 5 17 }
     ∷ record { task = check P6; result = at 1 31 }
     ∷ record { task = check P7; result = at 19 36 }

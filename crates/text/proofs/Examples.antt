@@ -12,7 +12,7 @@ accepts : lineOf (Accepted 1) ≡ 97 ∷ 99 ∷ 99 ∷ 101 ∷ 112 ∷ 116 ∷ 1
 unfolding lineOf digitsOf digitsWithin if_then_else_ _<?_
 accepts = refl
 
--- `refused 6 20`
-refuses : lineOf (Refused (record { no = 6; place = 20 })) ≡ 114 ∷ 101 ∷ 102 ∷ 117 ∷ 115 ∷ 101 ∷ 100 ∷ 32 ∷ 54 ∷ 32 ∷ 50 ∷ 48 ∷ 10 ∷ []
+-- `refused 29 20`
+refuses : lineOf (Refused (record { no = 29; place = 20 })) ≡ 114 ∷ 101 ∷ 102 ∷ 117 ∷ 115 ∷ 101 ∷ 100 ∷ 32 ∷ 50 ∷ 57 ∷ 32 ∷ 50 ∷ 48 ∷ 10 ∷ []
 unfolding lineOf digitsOf digitsWithin if_then_else_ _<?_
 refuses = refl

@@ -126,7 +126,7 @@ table =
     record { file = P1; decoded = got says1 36 }
     ∷ record { file = P2; decoded = got says2 69 }
     ∷ record { file = P3; decoded = got says3 82 }
-    ∷ record { file = P4; decoded = bad 6 20 }
+    ∷ record { file = P4; decoded = bad 29 20 }
     ∷ record { file = P5; decoded = bad 5 17 }
     ∷ record { file = P6; decoded = bad 1 31 }
     ∷ record { file = P7; decoded = bad 19 36 }
@@ -166,7 +166,7 @@ abbrev refused : ℕ → ℕ → Verdict
 refused n q = Refused (record { no = n; place = q })
 
 unfoldable pub verdicts : List Verdict
-verdicts = Accepted 0 ∷ Accepted 1 ∷ Accepted 1 ∷ refused 6 20 ∷ refused 5 17 ∷ refused 1 31 ∷ refused 19 36 ∷ refused 15 66 ∷ refused 16 76 ∷ refused 14 79 ∷ refused 12 60 ∷ Accepted 1 ∷ []
+verdicts = Accepted 0 ∷ Accepted 1 ∷ Accepted 1 ∷ refused 29 20 ∷ refused 5 17 ∷ refused 1 31 ∷ refused 19 36 ∷ refused 15 66 ∷ refused 16 76 ∷ refused 14 79 ∷ refused 12 60 ∷ Accepted 1 ∷ []
 
 pub answers : map (λ (c : Case). checkOf (c .file)) table ≡ verdicts
 unfolding table verdicts says1 says2 says3 says13 checkOf verdictOf headerOf
