@@ -2,11 +2,16 @@
 -- Assumes nothing.
 use mathlib.Core.Path.{refl}
 use mathlib.Core.List.{List, [], _++_}
-use Prim.Native.Nat.{ℕ}
+use Prim.Native.Nat.{ℕ, _-_}
+use lib.ListN.{length, take}
+use Rattle.number.specs.Choice.{_<?_}
 use Rattle.number.proofs.Choice.{both}
 use Rattle.ascii.specs.Ascii.{ascii}
 use Rattle.decimal.specs.Digits.{digitsOf}
 use Rattle.reading.specs.declared.Refusal.{Refusal}
+use Rattle.reading.specs.declared.Verdict.{Verdict}
+use Rattle.reading.specs.declared.Verdict.the-variants.{Accepted, Refused}
+use Rattle.reader.specs.Reader.{checkOf}
 use Rattle.failures.specs.Shown.{shownWord}
 use Rattle.failures.specs.OneLine.{Plain, OneLine}
 use Rattle.failures.proofs.PlainLaws.{plain-text, plain-append, plain-digits}
@@ -14,6 +19,7 @@ use Rattle.failures.proofs.LineLaws.{line-after, plain-named}
 use Rattle.sentences.specs.Sentences.{sentenceText}
 use Rattle.sentences.proofs.SentenceLaws.{sentence-plain}
 use Rattle.reasons.specs.Refusals.{placeText, keyText, whereText, whyText, refusedText, askedText, unitedText}
+use Rattle.reasons.specs.Lengths.{cutText, withoutText, paddedText, saidLength, lengthText, wrongLengthText}
 
 place-plain : (n place : ℕ) → Plain (placeText n place)
 unfolding placeText
@@ -22,7 +28,8 @@ place-plain n place =
     both Plain _ _ _ (λ t. numbered (ascii " at byte ") (plain-text _ refl)) (λ t.
     both Plain _ _ _ (λ t. plain-text _ refl) (λ t.
     both Plain _ _ _ (λ t. plain-append (ascii " at interface " ++ digitsOf place) (ascii " of the first file") (numbered (ascii " at interface ") (plain-text _ refl)) (plain-text _ refl)) (λ t.
-    both Plain _ _ _ (λ t. numbered (ascii " at the needed length ") (plain-text _ refl)) (λ t. plain-text _ refl))))
+    both Plain _ _ _ (λ t. numbered (ascii " at the needed length ") (plain-text _ refl)) (λ t.
+    both Plain _ _ _ (λ t. plain-text _ refl) (λ t. numbered (ascii " at byte ") (plain-text _ refl))))))
 
 key-plain : (before key : List ℕ) → Plain before → Plain (keyText before key)
 unfolding keyText
@@ -46,6 +53,32 @@ why-line front why rule before key h k =
 pub refused-line : (name : List ℕ) (why : Refusal) (rule : ℕ) (key : List ℕ) → OneLine (refusedText name why rule key)
 unfolding refusedText
 refused-line name why rule key = why-line (ascii "xpt: " ++ shownWord name) why rule (ascii ", in ") key (plain-named (ascii "xpt: ") name (plain-text _ refl)) (plain-text _ refl)
+
+cut-plain : (n : ℕ) → Plain (cutText n)
+unfolding cutText
+cut-plain n = plain-append (ascii "the file ends " ++ digitsOf n) (ascii " bytes before the length in its header: it was cut on its way") (plain-append (ascii "the file ends ") (digitsOf n) (plain-text _ refl) (plain-digits n)) (plain-text _ refl)
+
+without-plain : (v : Verdict) → Plain (withoutText v)
+unfolding withoutText
+without-plain (Accepted n) = plain-text _ refl
+without-plain (Refused x) =
+    plain-append (ascii "; without them it is refused " ++ digitsOf (x .no)) (ascii " at " ++ digitsOf (x .place))
+    (plain-append (ascii "; without them it is refused ") (digitsOf (x .no)) (plain-text _ refl) (plain-digits (x .no))) (plain-append (ascii " at ") (digitsOf (x .place)) (plain-text _ refl) (plain-digits (x .place)))
+
+length-plain : (s : List ℕ) (said : ℕ) → Plain (lengthText s said)
+unfolding lengthText paddedText
+length-plain s said =
+    let follow = ascii " bytes follow the end that the header gives: something was added, often by mail" in
+    let n = digitsOf (length s - said) in
+    both Plain (length s <? said) _ _ (λ t. cut-plain (said - length s)) (λ t.
+    plain-append (n ++ follow) (withoutText (checkOf (take said s))) (plain-append n follow (plain-digits (length s - said)) (plain-text _ refl)) (without-plain (checkOf (take said s))))
+
+pub wrong-length-line : (name : List ℕ) (why : Refusal) (s : List ℕ) → OneLine (wrongLengthText name why s)
+unfolding wrongLengthText
+wrong-length-line name why s =
+    let at = whereText why [] [] ++ ascii ": " in
+    let how = lengthText s (saidLength s) in
+    line-after (ascii "xpt: " ++ shownWord name) (at ++ how) (plain-named (ascii "xpt: ") name (plain-text _ refl)) (plain-append at how (plain-append (whereText why [] []) (ascii ": ") (where-plain why [] [] (plain-text _ refl)) (plain-text _ refl)) (length-plain s (saidLength s)))
 
 pub asked-line : (name : List ℕ) (word : ℕ) → OneLine (askedText name word)
 unfolding askedText

@@ -22,7 +22,7 @@ cutText n = (ascii "the file ends " ++ digitsOf n) ++ ascii " bytes before the l
 -- the verdict on the bytes before those that follow
 unfoldable pub withoutText : Verdict → List ℕ
 withoutText (Accepted n) = ascii "; without them the file is accepted"
-withoutText (Refused x) = ((ascii "; without them it is refused " ++ digitsOf (x .no)) ++ ascii " at ") ++ digitsOf (x .place)
+withoutText (Refused x) = (ascii "; without them it is refused " ++ digitsOf (x .no)) ++ (ascii " at " ++ digitsOf (x .place))
 
 -- of 30, with the number of bytes that follow, and that verdict
 unfoldable pub paddedText : ℕ → Verdict → List ℕ

@@ -38,7 +38,7 @@ fn put_cut(n: u64, text: &mut [u8; ROOM], at: usize) -> usize
 // The refusal of the bytes before those that follow.
 fn put_refused(why: Refusal, text: &mut [u8; ROOM], at: usize) -> usize
     requires { ⌜ at + 80 ≤ room ⌝ }
-    ensures { λ r. ⌜ Wrote (now (text .entry)) at (((ascii "; without them it is refused " ++ digitsOf (why .no)) ++ ascii " at ") ++ digitsOf (why .place)) r (now (text .exit)) × (r ≤ at + 80) ⌝ }
+    ensures { λ r. ⌜ Wrote (now (text .entry)) at ((ascii "; without them it is refused " ++ digitsOf (why .no)) ++ (ascii " at " ++ digitsOf (why .place))) r (now (text .exit)) × (r ≤ at + 80) ⌝ }
 {
     let no = why.no;
     let place = why.place;

@@ -52,11 +52,28 @@ fn refused_by(name: &[u8], file: &[u8], why: Refusal, key: &mut [u8; 512], text:
     put(text, end);
 }
 
-pub fn refused(name: &[u8], file: &[u8], why: Refusal, text: &mut [u8; ROOM])
+fn refused_inside(name: &[u8], file: &[u8], why: Refusal, text: &mut [u8; ROOM])
     requires { ⌜ length (now name) ≤ wordLimit ⌝ }
 {
     let mut key = [0u8; 512];
     refused_by(name, file, why, &mut key, text);
+}
+
+// The same of a file that was cut or added to.
+fn refused_length(name: &[u8], file: &[u8], why: Refusal, text: &mut [u8; ROOM])
+    requires { ⌜ length (now name) ≤ wordLimit ⌝ }
+{
+    let end = reasons::wrong_length(name, file, why, text);
+    put(text, end);
+}
+
+pub fn refused(name: &[u8], file: &[u8], why: Refusal, text: &mut [u8; ROOM])
+    requires { ⌜ length (now name) ≤ wordLimit ⌝ }
+{
+    match why.no {
+        29..=30 => refused_length(name, file, why, text),
+        _ => refused_inside(name, file, why, text),
+    }
 }
 
 // Why a question about a file was refused, where the file is accepted; its own words come after the file's.

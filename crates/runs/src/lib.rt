@@ -1,7 +1,6 @@
 // The command of a line, from its bytes to standard output, standard error and files. Its words are parted by a separator, which is a space in a batch
 // and a zero byte between arguments.
 pub mod streams;
-mod why;
 
 use commands::Reply;
 use commands::Save;
@@ -117,7 +116,7 @@ fn say_why(
         Why::Answered => Told::Answer,
         Why::Mistaken => say_mistake(line, separator, head, n, text),
         Why::Refused(refusal) => {
-            why::say(line, separator, whose, refusal, kept, rows, store, text);
+            refusals::say(line, separator, whose, refusal, kept, rows, store, text);
             Told::Answer
         }
     }

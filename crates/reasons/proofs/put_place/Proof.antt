@@ -17,7 +17,7 @@ put-labelled-requires-2 : tie.Need-put-labelled-requires-2
 put-labelled-requires-2 c κs = omega (arith, length-u64 (c .before .before .before .before .args .place) (omega arith))
 
 put-labelled-requires-3 : tie.Need-put-labelled-requires-3
-put-labelled-requires-3 c κs = omega (arith, length-u64 (c .before .before .before .before .before .args .place) (omega arith))
+put-labelled-requires-3 c κs = omega (arith, length-u64 (c .before .before .before .before .before .before .args .place) (omega arith))
 
 returns : tie.Need-returns
 unfolding placeText
@@ -41,13 +41,17 @@ returns-4 c = (wrote-as (no-lt _ _ _ _ (omega arith) (no-eq _ _ _ _ (λ e. omega
 
 returns-5 : tie.Need-returns-5
 unfolding placeText
-returns-5 c = (wrote-as (no-lt _ _ _ _ (omega arith) (no-eq _ _ _ _ (λ e. omega arith) (no-lt _ _ _ _ (omega arith) (no-eq _ _ _ _ (λ e. omega arith) (is-lt _ _ _ _ (omega arith) refl))))) (none-written _ _), omega arith)
+returns-5 c =
+    let place = c .before .before .before .before .before .before .before .args .place in
+    (wrote-as (no-lt _ _ _ _ (omega arith) (no-eq _ _ _ _ (λ e. omega arith) (no-lt _ _ _ _ (omega arith) (no-eq _ _ _ _ (λ e. omega arith) (no-lt _ _ _ _ (omega arith) refl))))) (wrote-label _ (ascii " at byte ") (digitsOf place) _ (c .put-labelled3 .ensures)), omega (arith, length-u64 place (omega arith)))
 
 returns-6 : tie.Need-returns-6
 unfolding placeText
-returns-6 c =
-    let place = c .before .before .before .before .before .before .before .args .place in
-    (wrote-as (no-lt _ _ _ _ (omega arith) (no-eq _ _ _ _ (λ e. omega arith) (no-lt _ _ _ _ (omega arith) (no-eq _ _ _ _ (λ e. omega arith) (no-lt _ _ _ _ (omega arith) refl))))) (wrote-label _ (ascii " at byte ") (digitsOf place) _ (c .put-labelled3 .ensures)), omega (arith, length-u64 place (omega arith)))
+returns-6 c = (wrote-as (no-lt _ _ _ _ (omega arith) (no-eq _ _ _ _ (λ e. omega arith) (no-lt _ _ _ _ (omega arith) (no-eq _ _ _ _ (λ e. omega arith) (is-lt _ _ _ _ (omega arith) refl))))) (none-written _ _), omega arith)
+
+returns-7 : tie.Need-returns-7
+unfolding placeText
+returns-7 c = (wrote-as (no-lt _ _ _ _ (omega arith) (no-eq _ _ _ _ (λ e. omega arith) (no-lt _ _ _ _ (omega arith) (no-eq _ _ _ _ (λ e. omega arith) (is-lt _ _ _ _ (omega arith) refl))))) (none-written _ _), omega arith)
 
 pub put-place-spec : {M : Type 1} → statement M
 put-place-spec =
@@ -65,4 +69,5 @@ put-place-spec =
     returns-3
     returns-4
     returns-5
-    returns-6)
+    returns-6
+    returns-7)

@@ -1,4 +1,4 @@
-// Why something was refused, in words on standard error.
+// Why a line was refused, in words on standard error: its words, one of its files, or the union of them.
 use failures::ROOM;
 use kept::Kept;
 use link::Which;
