@@ -6,7 +6,9 @@ use mathlib.Core.List.{List}
 use mathlib.Core.Logic.{_⊎_, inl, inr}
 use Prim.Native.Nat.{ℕ, zero, suc, _+_, _-_, _*_, _/_, _≤_, _<_}
 use native.Mathlib.Omega.{arith}
+use lib.ListN.{length}
 use Rattle.number.specs.Choice.{if_then_else_, _<?_, _=?_, _≠?_}
+use Rattle.number.specs.Number.{be}
 use Rattle.number.proofs.Choice.{both, from-yes-lt, from-not-lt, not-eq, not-lt, yes-lt, not-le, no-lt}
 use Rattle.number.proofs.Scans.{scan-is}
 use Rattle.reading.specs.Got.{Got, got, bad, Accepted}
@@ -16,9 +18,9 @@ use Rattle.reading.specs.declared.Verdict.the-variants.{Refused}
 use Rattle.reading.proofs.Steps.{parts}
 use Rattle.key.specs.Key.{Key}
 use Rattle.head.specs.declared.Header.{Header}
-use Rattle.head.specs.Header.{lengthFault, readPositions, readFields, readHeader}
+use Rattle.head.specs.Header.{readPositions, readFields, readHeader}
 use Rattle.head.specs.Annotation.{Annotation, readText, readBody, readAnnotation, annotationsWithin, readAnnotations, annotationLimit}
-use Rattle.head.proofs.HeaderLaws.{header-at}
+use Rattle.head.proofs.HeaderLaws.{fault-cases, header-at}
 use Rattle.directory.specs.Directory.{Row, readRow, readDirectory}
 use Rattle.directory.proofs.DirectoryLaws.{row-size}
 use Rattle.typelib.specs.Entry.{readOwn, entriesOf, keysIn}
@@ -33,10 +35,14 @@ use Rattle.faults.specs.Fault.{noFault, refusedOwn, firstRefused, ownFau
 use Rattle.faults.proofs.Refusals.{Refusals, refusal, r-got, r-bad, r-if, r-unless, r-next, r-more, follow-refusals, space-refusals, next-bad, First, many-bad}
 use Rattle.faults.proofs.Places.{Pooled, descriptor-places}
 
+-- numbers of the header and the annotations
+abbrev pub OfFront : ℕ → Type 0
+OfFront n = (n < 10) ⊎ (19 < n)
+
 -- what the refusal n at q of the file s is of, where the interface e was found
 pub data Of (s : List ℕ) (n q e : ℕ) : Type 0 where
   -- the header or the annotations
-  ofFront : n < 10 → e ≡ 0 → Of s n q e
+  ofFront : OfFront n → e ≡ 0 → Of s n q e
   -- entry k of the directory itself
   ofEntry : (h : Header) (b k : ℕ) → readHeader s ≡ got h b → k < h .count → readRow s (poolOf h s) (h .directory) (h .directory + 28 * k) ≡ bad n q → e ≡ k + 1 → Of s n q e
   -- its descriptor, all before it being accepted
@@ -47,55 +53,55 @@ pub data Of (s : List ℕ) (n q e : ℕ) : Type 0 where
 
 -- ---- numbers and places
 
-length-low : (a b : ℕ) → lengthFault a b < 10
-unfolding lengthFault
-length-low a b = both (λ (n : ℕ). n < 10) (b ≠? a) 6 0 (λ _. omega arith) (λ _. omega arith)
-
-header-low : (s : List ℕ) → Refusals (λ n q. n < 10) (readHeader s)
+header-low : (s : List ℕ) → Refusals (λ n q. OfFront n) (readHeader s)
 unfolding readHeader readFields readPositions
 header-low s =
-    r-unless _ _ _ _ _ (omega arith) (r-unless _ _ _ _ _ (omega arith) (r-unless _ _ _ _ _ (omega arith) (r-unless _ _ _ _ _ (omega arith) (r-unless _ _ _ _ _ (omega arith)
-    (r-unless _ _ _ _ _ (length-low _ _) (r-unless _ _ _ _ _ (omega arith) (r-unless _ _ _ _ _ (omega arith) (r-unless _ _ _ _ _ (omega arith) (r-got _ _ _)))))))))
+    let length-low = fault-cases (length s) (be 4 s 20) OfFront (λ _. inr (omega arith)) (λ _. inr (omega arith)) (λ _. inl (omega arith)) in
+    r-unless _ _ _ _ _ (inl (omega arith)) (r-unless _ _ _ _ _ (inl (omega arith)) (r-unless _ _ _ _ _ (inl (omega arith)) (r-unless _ _ _ _ _ (inl (omega arith)) (r-unless _ _ _ _ _ (inl (omega arith))
+    (r-unless _ _ _ _ _ length-low (r-unless _ _ _ _ _ (inl (omega arith)) (r-unless _ _ _ _ _ (inl (omega arith)) (r-unless _ _ _ _ _ (inl (omega arith)) (r-got _ _ _)))))))))
+
+abbrev pub Nine : ℕ → ℕ → Type 0
+Nine n q = n ≡ 9
 
 module _ (limit : ℕ) (s : List ℕ) where
-  text-low : (place p : ℕ) → Refusals (λ n q. n < 10) (readText place limit s p)
+  text-low : (place p : ℕ) → Refusals Nine (readText place limit s p)
   unfolding readText
   text-low place p = r-unless _ _ _ _ _ (omega arith) (r-unless _ _ _ _ _ (omega arith) (r-unless _ _ _ _ _ (omega arith) (r-got _ _ _)))
 
-  note-low : (p : ℕ) → Refusals (λ n q. n < 10) (readAnnotation limit s p)
+  note-low : (p : ℕ) → Refusals Nine (readAnnotation limit s p)
   unfolding readAnnotation readBody
   note-low p =
       r-unless _ _ _ _ _ (omega arith) (r-if _ _ _ _ (λ _. r-got _ _ _) (λ _. r-unless _ _ _ _ _ (omega arith)
       (r-next _ _ _ (text-low p _) (λ x e. r-next _ _ _ (text-low p e) (λ y d. r-got _ _ _)))))
 
-  notes-low : (f p : ℕ) → Refusals (λ n q. n < 10) (annotationsWithin f limit s p)
+  pub notes-low : (f p : ℕ) → Refusals Nine (annotationsWithin f limit s p)
   unfolding annotationsWithin
   notes-low zero p = r-bad _ _ _ _ (omega arith)
   notes-low (suc f) p = r-next _ _ _ (note-low p) (λ a e. r-if _ _ _ _ (λ _. r-got _ _ _) (λ _. r-next _ _ _ (notes-low f e) (λ m d. r-got _ _ _)))
 
-abbrev InRow : ℕ → ℕ → ℕ → Type 0
+abbrev pub InRow : ℕ → ℕ → ℕ → Type 0
 InRow p n q = (p ≤ q) × ((q < p + 28) × ((10 ≤ n) × (n ≤ 13)))
 
 module _ (s pool : List ℕ) (d p : ℕ) where
-  row-places : Refusals (InRow p) (readRow s pool d p)
+  pub row-places : Refusals (InRow p) (readRow s pool d p)
   unfolding readRow
   row-places =
       r-unless _ _ _ _ _ (omega arith) (r-next _ _ _ (follow-refusals (InRow p) pool (p + 16) (omega arith) (omega arith) _) (λ w e.
       r-next _ _ _ (space-refusals (InRow p) pool (p + 20) (omega arith) (omega arith) _) (λ v f. r-unless _ _ _ _ _ (omega arith) (r-got _ _ _))))
 
-abbrev OwnPlace : Context → ℕ → ℕ → ℕ → Type 0
+abbrev pub OwnPlace : Context → ℕ → ℕ → ℕ → Type 0
 OwnPlace c p n q = ((q ≡ p + 24) ⊎ (c .base ≤ q)) × ((11 ≤ n) × (n ≤ 17))
 
-own-places : (c : Context) (s pool : List ℕ) (p : ℕ) → Refusals (OwnPlace c p) (readOwn c s pool p)
+pub own-places : (c : Context) (s pool : List ℕ) (p : ℕ) → Refusals (OwnPlace c p) (readOwn c s pool p)
 unfolding readOwn Pooled
 own-places c s pool p =
     r-if _ _ _ _ (λ _. r-got _ _ _) (λ _. r-unless _ _ _ _ _ (inl refl, (omega arith, omega arith))
     (r-next _ _ _ (r-more (Pooled c) (OwnPlace c p) _ (λ n q h. (inr (h .0), h .1)) (descriptor-places c pool _)) (λ o e. r-got _ _ _)))
 
-abbrev AtEntry : ℕ → ℕ → ℕ → ℕ → Type 0
+abbrev pub AtEntry : ℕ → ℕ → ℕ → ℕ → Type 0
 AtEntry n d m q = (k : ℕ) × (k < n) × (q ≡ d + 28 * k) × ((18 ≤ m) × (m ≤ 19))
 
-across-places : (K : ℕ → Key) (up : ℕ → ℕ) (n d e : ℕ) → Refusals (AtEntry n d) (readAcross K up n d e)
+pub across-places : (K : ℕ → Key) (up : ℕ → ℕ) (n d e : ℕ) → Refusals (AtEntry n d) (readAcross K up n d e)
 unfolding readAcross
 across-places K up n d e =
     r-if _ _ _ _ (λ t. r-bad _ _ _ _ (firstRepeated K n, from-yes-lt _ _ t, refl, (omega arith, omega arith))) (λ _.
@@ -107,11 +113,16 @@ module _ (s : List ℕ) (n q : ℕ) where
   abbrev why : Refusal
   why = record { no = n; place = q }
 
-  found-none : n < 10 → faultOf s why .entry ≡ 0
+  found-none : OfFront n → faultOf s why .entry ≡ 0
   unfolding faultOf noFault
   found-none l =
       both (λ (f : Fault). f .entry ≡ 0) (n =? 8) _ _ (λ _. refl) (λ _.
-      both (λ (f : Fault). f .entry ≡ 0) (n <? 10) _ _ (λ _. refl) (λ t. absurd (let z = from-not-lt n 10 t in omega arith)))
+      both (λ (f : Fault). f .entry ≡ 0) (n <? 10) _ _ (λ _. refl) (λ t.
+      both (λ (f : Fault). f .entry ≡ 0) (19 <? n) _ _ (λ _. refl) (λ u.
+      let z = from-not-lt n 10 t in let y = from-not-lt 19 n u in absurd (elim l [
+        | inl a ↦ omega arith
+        | inr b ↦ omega arith
+      ]))))
 
   module _ (h : Header) (b : ℕ) (g : readHeader s ≡ got h b) where
     found-with : 10 ≤ n → n ≤ 19 → faultOf s why ≡ faultWith h s why
@@ -167,7 +178,7 @@ module _ (s : List ℕ) (n q : ℕ) where
   abbrev e : ℕ
   e = faultOf s (record { no = n; place = q }) .entry
 
-  low : n < 10 → Of s n q e
+  low : OfFront n → Of s n q e
   low l = ofFront l (found-none s n q l)
 
   module _ (h : Header) (b : ℕ) (g : readHeader s ≡ got h b) where
@@ -198,7 +209,7 @@ module _ (s : List ℕ) (n q : ℕ) where
     listed-exact : readListed h s ≡ bad n q → Of s n q e
     unfolding readListed readAnnotations
     listed-exact r = elim (next-bad (annotationsWithin (annotationLimit h) (annotationLimit h) s 32) _ r) [
-      | inl z ↦ low (refusal (λ n q. n < 10) _ (notes-low (annotationLimit h) s (annotationLimit h) 32) z)
+      | inl z ↦ low (let nine = refusal Nine _ (notes-low (annotationLimit h) s (annotationLimit h) 32) z in inl (omega arith))
       | inr t ↦ elim (next-bad (readDirectory s (poolOf h s) (h .count) (h .directory)) _ (t .3)) [
         | inl z ↦ row-exact z
         | inr u ↦ absurd (let w = u .3 in let z : _≡_ {A = ℕ} 0 1 = cc in omega arith)
@@ -208,7 +219,7 @@ module _ (s : List ℕ) (n q : ℕ) where
   front-exact : readFront s ≡ bad n q → Of s n q e
   unfolding readFront
   front-exact r = elim (next-bad (readHeader s) _ r) [
-    | inl z ↦ low (refusal (λ n q. n < 10) _ (header-low s) z)
+    | inl z ↦ low (refusal (λ n q. OfFront n) _ (header-low s) z)
     | inr t ↦ listed-exact (t .0) (t .1) (t .2) (t .3)
   ]
 
@@ -232,7 +243,7 @@ exact s n q r = elim (next-bad (readFront s) _ r) [
   | inr t ↦ behind-exact s n q (t .0) (t .1) (t .2) (t .3)
 ]
 
-denied : (g : Got Typelib) (x : Refusal) → verdictOf g ≡ Refused x → g ≡ bad (x .no) (x .place)
+pub denied : (g : Got Typelib) (x : Refusal) → verdictOf g ≡ Refused x → g ≡ bad (x .no) (x .place)
 unfolding verdictOf
 denied (got t e) x h = absurd (let z : _≡_ {A = ℕ} 0 1 = cc in omega arith)
 denied (bad m p) x h = let w : record { no = m; place = p } ≡ x = cc in rw (← w) refl
