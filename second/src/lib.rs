@@ -1,6 +1,6 @@
-//! A second, independent program for document 01, and what compares it with the proved one.
+//! A second, independent program for documents 01 and 02, and what compares it with the proved one.
 //!
-//! - `program`: the program itself, from document 01 and the readings alone;
+//! - `program`: the program itself, from the documents and the readings alone;
 //! - `making`: generating and damaging typelibs;
 //! - `library`: comparing through the static library (the calls themselves: `linked/`);
 //! - `line`: comparing through the command line, `xpt` and the listing program;

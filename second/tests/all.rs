@@ -4,7 +4,7 @@
 use second::library::cases::{bytes, shown, Asked, Case};
 use second::library::{checks, links, lists, lists::ROOM, questions, questions::Question};
 use second::library::{Program, Session, OWN};
-use second::line::{answers::asked, compare::is_told, compare::tells, listing};
+use second::line::{answers::asked, answers::reason, compare::is_told, compare::tells, listing};
 use second::making::{builder::*, generate::marked, generate::rich};
 use second::program::{check::check, questions::Lookup};
 use second::tally::{floors, Came, Tally};
@@ -120,7 +120,7 @@ fn readings_of_the_questions() {
     for (question, expected) in rows(include_str!("answers.txt"), ": ") {
         assert_eq!(answer(&tree(), question), expected, "{question}");
         // The file's refusal comes first.
-        assert_eq!(answer(&tree()[..81], question), "refused 6 20");
+        assert_eq!(answer(&tree()[..81], question), "refused 29 20");
     }
 }
 
@@ -195,7 +195,7 @@ fn listings() {
     assert_eq!(printed(&p1), "accepted 0\n");
     assert_eq!(printed(&p2), format!("accepted 1\nI 1 {zero}0 - Tank unresolved\n"));
     assert_eq!(printed(&p3), format!("accepted 1\nI 1 {zero}1 - A parent 0\nC K -2\n"));
-    assert_eq!(printed(&p3[..81]), "refused 6 20\n");
+    assert_eq!(printed(&p3[..81]), "refused 29 20\n");
     assert_eq!(printed(&[0; 65_536]), "refused 3 0\n");
     assert_eq!(printed(&[0; 65_537]), "input too long\n");
     let tree = printed(&tree());
@@ -272,11 +272,27 @@ fn planted_differences() {
 
 #[test]
 fn what_is_told_and_counted() {
-    let six = (Refusal { number: 6, place: 20 }, vec!["a 6.xpt".to_string()]);
-    assert!(tells(b"xpt: a 6.xpt: refused 6 at byte 20: the length", &six));
-    assert!(tells(b"xpt: a 6.xpt: refused 6 at byte 20, in A: the length", &six));
-    for line in ["a 6.xpt: refused 5 at byte 20", "a 6.xpt: refused 6 at byte 2", "b: 6 (20)"] {
-        assert!(!tells(line.as_bytes(), &six), "{line}");
+    let told = |file: &[u8]| {
+        let refusal = check(file).unwrap_err();
+        (refusal, vec!["a 7.xpt".to_string()], reason(file, refusal))
+    };
+    let mut seven = marked()[0].clone();
+    seven[18] = 9;
+    let padded = [&seven[..], b"--\r\n"].concat();
+    let rest = "7.xpt: refused 30 at byte 20: 4 bytes follow; without them";
+    for (file, line, is_so) in [
+        (&seven[..], "xpt: a 7.xpt: refused 7 at byte 18: the count", true),
+        (&seven, "xpt: a 7.xpt: refused 7 at byte 18, in A: the count", true),
+        (&seven, "a 7.xpt: refused 8 at byte 18", false),
+        (&seven, "a 7.xpt: refused 7 at byte 1", false),
+        (&seven, "b: 7 (18)", false),
+        (&seven[..33], "a 7.xpt: refused 29 at byte 20: the file ends 3 bytes before\n", true),
+        (&seven[..33], "a 7.xpt: refused 29 at byte 20: the file ends 13 bytes before\n", false),
+        (&padded, &format!("a {rest} it is refused 7 at 18\n"), true),
+        (&padded, &format!("a {rest} it is refused 7 at 1\n"), false),
+        (&padded, &format!("a {rest} the file is accepted\n"), false),
+    ] {
+        assert_eq!(tells(line.as_bytes(), &told(file)), is_so, "{line}");
     }
     let hint = "xpt: `xpt help` shows the commands and their words\n";
     for (line, alone, told, is_so) in [
@@ -300,5 +316,5 @@ fn what_is_told_and_counted() {
     assert_eq!([[3, 3, 1, 1], [4, 3, 1, 1], [3, 4, 1, 1], [3, 3, 2, 1]].map(short), [0, 1, 1, 1]);
     let parts =
         ["compare", "checks", "questions", "lists", "links", "listings", "batches", "alone"];
-    assert_eq!(parts.map(|part| floors(part).len()).iter().sum::<usize>(), 891);
+    assert_eq!(parts.map(|part| floors(part).len()).iter().sum::<usize>(), 906);
 }

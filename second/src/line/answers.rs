@@ -4,7 +4,7 @@ use super::iids;
 use crate::library::{cases::kind_word, cases::shown, questions::Found, questions::Question, OWN};
 use crate::making::rng::Rng;
 use crate::program::questions::{Constant, Lookup, Method, Slot};
-use crate::program::{listing::list, refusal, Refusal, MAX_FILE};
+use crate::program::{check::word, listing::list, refusal, Refusal, MAX_FILE};
 use std::sync::Arc;
 
 pub type Bytes = Arc<[u8]>;
@@ -59,6 +59,23 @@ impl Outcome {
             None => is_error.then(|| printed.iter().position(|byte| *byte == b'\n'))??,
         };
         (printed.get(end) == Some(&b'\n')).then(|| (&printed[..end], &printed[end + 1..]))
+    }
+}
+
+/// What the reason of a file's refusal must hold, and how it must end, where that is fixed: how many
+/// bytes are missing or follow, and what the file is without these.
+pub fn reason(file: &[u8], refusal: Refusal) -> [String; 2] {
+    match refusal.number {
+        refusal::CUT => [format!(" {} byte", word(file, 20) - file.len()), String::new()],
+        refusal::PADDED => {
+            let (own, more) = file.split_at(word(file, 20));
+            let alone = match (OWN.check)(own) {
+                Ok(_) => "the file is accepted".to_string(),
+                Err(Refusal { number, place }) => format!("it is refused {number} at {place}"),
+            };
+            [format!(" {} byte", more.len()), format!("; without them {alone}")]
+        }
+        _ => [String::new(), String::new()],
     }
 }
 

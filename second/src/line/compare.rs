@@ -67,9 +67,10 @@ fn laws_hold(script: &Script, tally: &mut Tally) -> io::Result<()> {
     Ok(())
 }
 
-/// Whether a line tells the refusal's number and names the file; of a file's own also the byte.
-pub fn tells(line: &[u8], (refusal, files): &Told) -> bool {
-    let line = String::from_utf8_lossy(line);
+/// Whether a line tells the refusal's number and names the file; of a file's own also the byte, and
+/// of its reason what is fixed.
+pub fn tells(line: &[u8], (refusal, files, [held, end]): &Told) -> bool {
+    let line = String::from_utf8_lossy(line.strip_suffix(b"\n").unwrap_or(line));
     if !files.iter().any(|file| line.contains(file)) {
         return false;
     }
@@ -80,7 +81,10 @@ pub fn tells(line: &[u8], (refusal, files): &Told) -> bool {
         let is = |word: &str| word.trim_matches(|c: char| c.is_ascii_punctuation()).to_string();
         bare.split_whitespace().any(|word| is(word) == number.to_string())
     };
-    has(refusal.number as usize) && (!is_of_file(refusal.number) || has(refusal.place))
+    has(refusal.number as usize)
+        && (!is_of_file(refusal.number) || has(refusal.place))
+        && bare.contains(held)
+        && bare.ends_with(end)
 }
 
 /// How the errors begin that are about a command's words as a whole.

@@ -26,8 +26,9 @@ type Count = (What, What, Option<u64>);
 /// What the files that a command reads must be answered.
 type To<'a> = &'a dyn Fn(&[&[u8]]) -> Outcome;
 
-/// What a refusal must tell on standard error, and the files of which it must name one.
-pub type Told = (Refusal, Vec<String>);
+/// What a refusal must tell on standard error, the files of which it must name one, and what its
+/// reason must hold and how it must end.
+pub type Told = (Refusal, Vec<String>, [String; 2]);
 
 #[derive(Default)]
 pub struct Step {
@@ -242,7 +243,9 @@ impl Script {
             let number = NUMBER[refusal.number as usize];
             counts.push(("refused", number, Some(refusal.place as u64)));
             let whose = if which == 0 { files } else { &files[usize::from(which) - 1..][..1] };
-            (refusal, whose.iter().map(|file| file.word.clone()).collect())
+            let own = reads.get(usize::from(which).wrapping_sub(1));
+            let reason = own.map_or_else(Default::default, |file| answers::reason(file, refusal));
+            (refusal, whose.iter().map(|file| file.word.clone()).collect(), reason)
         });
         let out = out.first().map(|out| out.path.clone());
         let input = input.unwrap_or_default();
@@ -305,7 +308,7 @@ impl Script {
         let command = if names.len() == 2 { "normal" } else { "link" };
         let start = &[command, FORCED][..1 + usize::from(forced)];
         let step = self.command(start, names, Vec::new(), &answers::written);
-        if let (Some(order), Some((why, _))) = (order, &step.told) {
+        if let (Some(order), Some((why, ..))) = (order, &step.told) {
             if !refusal::is_of_file(why.number) {
                 step.counts.push((LINK[why.number as usize], order, Some(why.place as u64)));
             }

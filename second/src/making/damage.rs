@@ -1,7 +1,7 @@
 //! Damaged typelibs. Where the damage is made on purpose its refusal is known from how it was
 //! made and handed on with the file; elsewhere only the two checks are compared.
 
-use super::faults::{faults, lowest_endless, number, put, Fault};
+use super::faults::{faults, lowest_endless, number, put, Fault, LENGTH};
 use super::{builder::*, generate, generate::both, generate::fitting, pairs, rng::Rng};
 use crate::program::{check::word, Answer};
 
@@ -93,6 +93,20 @@ fn single_and_paired(lib: &Typelib, seed: u64, singles: usize, pairs: usize, sin
         if a.is_apart(b) {
             made(&[a, b], "two faults");
         }
+    }
+    // A fault in a file that was cut or padded: it tells what the rest is without what follows.
+    for fault in all.iter().filter(|fault| fault.rank.0 != LENGTH).take(pairs / 10) {
+        fault.apply(&mut bytes);
+        let (number, changed) = match rng.percent(30) {
+            true => (refusal::CUT, bytes[..rng.range(HEADER, bytes.len() - 1)].to_vec()),
+            false => (refusal::PADDED, [&bytes[..], &footer(&mut rng)].concat()),
+        };
+        let known = Refusal { number, place: 20 };
+        let first = if fault.rank.0 < LENGTH { fault.refusal } else { known };
+        if changed.len() <= MAX_FILE {
+            sink.put(&changed, Some(Err(first)), "a fault on its way");
+        }
+        fault.undo(&mut bytes, good);
     }
 }
 
@@ -187,7 +201,7 @@ fn cuts(good: &[u8], sink: &mut Sink) {
     for length in 0..good.len() {
         let expected = match length {
             0..HEADER => refused(refusal::TOO_SHORT, length),
-            _ => refused(refusal::LENGTH, 20),
+            _ => refused(refusal::CUT, 20),
         };
         let mut bytes = good[..length].to_vec();
         sink.put(&bytes, expected, "cut");
@@ -199,7 +213,40 @@ fn cuts(good: &[u8], sink: &mut Sink) {
     let mut longer = good.to_vec();
     for more in [0, 0x80, 0xff] {
         longer.push(more);
-        sink.put(&longer, refused(refusal::LENGTH, 20), "longer");
+        sink.put(&longer, refused(refusal::PADDED, 20), "longer");
+    }
+}
+
+/// What a mail puts below a file.
+fn footer(rng: &mut Rng) -> Vec<u8> {
+    let lines = ["\r\n-- \r\n", "Sent from a telephone\r\n", "\n_______\n", "list@example.org\n"];
+    (0..rng.range(1, 9)).flat_map(|_| rng.pick(&lines).bytes()).collect()
+}
+
+/// A good file on its way: cut in each of its parts, by one byte and by a few; with more bytes at
+/// its end.
+fn on_its_way(lib: &Typelib, rng: &mut Rng, sink: &mut Sink) {
+    let built = lib.build();
+    let (good, end) = (&built.bytes, built.bytes.len());
+    for (from, to, how) in [
+        (HEADER, built.limit(), "29 cut in the annotations"),
+        (built.directory, built.entry(built.n), "29 cut in the directory"),
+        (built.pool, end, "29 cut in the pool"),
+        (end - 1, end, "29 cut by one"),
+        (HEADER.max(end - 9), end, "29 cut by a few"),
+    ] {
+        if from < to {
+            sink.put(&good[..rng.range(from, to - 1)], refused(refusal::CUT, 20), how);
+        }
+    }
+    let some = (0..rng.range(2, 300)).map(|_| rng.byte()).collect();
+    for (more, how) in [
+        (vec![rng.byte()], "30 one byte more"),
+        (some, "30 some bytes more"),
+        (footer(rng), "30 a footer of text"),
+        (good.clone(), "30 the same again"),
+    ] {
+        sink.put(&[&good[..], &more].concat(), refused(refusal::PADDED, 20), how);
     }
 }
 
@@ -695,7 +742,11 @@ fn good(rng: &mut Rng, sink: &mut Sink) {
             k if k % 8 < 6 => generate::SMALL,
             _ => generate::MEDIUM,
         };
-        let bytes = sink.good(&generate::random(rng, size), "random");
+        let lib = generate::random(rng, size);
+        let bytes = sink.good(&lib, "random");
+        if round % 4 == 1 {
+            on_its_way(&lib, rng, sink);
+        }
         scrambled(&bytes, if round % 4 == 0 { 20 } else { 0 }, rng, sink);
     }
 }

@@ -6,7 +6,9 @@ use super::{builder::*, rng::Rng};
 /// When a fault is met in reading: step, entry, place, and the order at one place.
 type Rank = (u8, usize, usize, u8);
 
-// Steps after those of the header, which have the numbers of their refusals.
+// Steps after those of the header, which have the numbers of their refusals; that of 29 and 30 has
+// the number that stood there before.
+pub const LENGTH: u8 = 6;
 const ANNOTATIONS: u8 = 9;
 const DIRECTORY: u8 = 10;
 const DESCRIPTORS: u8 = 11;
@@ -127,8 +129,9 @@ impl Collector<'_> {
         let minors = [MAX_MINOR + 1, MAX_MINOR + 2, 0x80, 0x81, 255];
         self.byte("5 minor", (17, (5, 0, 0, 0)), minors);
         let length = b.bytes.len();
-        let lengths = [0, 32, length - 1, length + 1, length | 1 << 31, length + (1 << 16), !0];
-        self.field("6 length", (20, (6, 0, 0, 0)), 4, &lengths);
+        let more = [length + 1, length | 1 << 31, length + (1 << 16), !0];
+        self.field("29 length", (20, (LENGTH, 0, 0, 0)), 4, &more);
+        self.field("30 length", (20, (LENGTH, 0, 0, 0)), 4, &[0, 31, 32, length - 1]);
         self.field("7 count", (18, (7, 0, 0, 0)), 2, &over(MAX_INTERFACES));
         let pools = [0, 1, 31, 32, length + 1, length + 28, 1 << 31, 0xffff_fffc, 0xffff_ffff];
         self.field("8 pool", (28, (8, 0, 0, 0)), 4, &pools);

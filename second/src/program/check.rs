@@ -30,7 +30,7 @@ struct Typelib<'a> {
     pool: usize,
 }
 
-/// Header and positions: 1 to 8 in number order.
+/// Header and positions: 1 to 8 in number order, with 29 and 30 in the position of 6.
 fn header(file: &[u8]) -> Result<Typelib<'_>, Refusal> {
     refuse_if(file.len() < HEADER, refusal::TOO_SHORT, file.len())?;
     refuse_if(file.len() > MAX_FILE, refusal::TOO_LONG, MAX_FILE)?;
@@ -40,7 +40,8 @@ fn header(file: &[u8]) -> Result<Typelib<'_>, Refusal> {
     let minor = file[17];
     refuse_if(file[16] != 1, refusal::MAJOR, 16)?;
     refuse_if(minor > MAX_MINOR, refusal::MINOR, 17)?;
-    refuse_if(word(file, 20) != file.len(), refusal::LENGTH, 20)?;
+    refuse_if(file.len() < word(file, 20), refusal::CUT, 20)?;
+    refuse_if(file.len() > word(file, 20), refusal::PADDED, 20)?;
     let n = usize::from(u16::from_be_bytes([file[18], file[19]]));
     refuse_if(n > MAX_INTERFACES, refusal::COUNT, 18)?;
     let pool = word(file, 28);

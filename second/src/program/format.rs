@@ -112,7 +112,6 @@ pub mod refusal {
     pub const MAGIC: u32 = 3;
     pub const MAJOR: u32 = 4;
     pub const MINOR: u32 = 5;
-    pub const LENGTH: u32 = 6;
     pub const COUNT: u32 = 7;
     pub const POSITION: u32 = 8;
     pub const ANNOTATION: u32 = 9;
@@ -134,9 +133,11 @@ pub mod refusal {
     pub const UNION_SIZE: u32 = 25;
     pub const FORM_SIZE: u32 = 26;
     pub const BUFFER: u32 = 27;
+    pub const CUT: u32 = 29;
+    pub const PADDED: u32 = 30;
 
     /// Whether it is a file's own, at a byte.
     pub fn is_of_file(number: u32) -> bool {
-        number <= CYCLE
+        number <= CYCLE || number == CUT || number == PADDED
     }
 }
