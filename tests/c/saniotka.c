@@ -88,8 +88,8 @@ static int untouched_from(size_t at) {
 static void checks(void) {
     EXPECT(saniotka_check(FILE_OF(alarms), list(), NUMBERS), "0: [0] 0 [1] 4");
     EXPECT(saniotka_check(FILE_OF(gas), list(), NUMBERS), "0: [0] 0 [1] 4");
-    EXPECT(saniotka_check(FILE_OF(gas_torn), list(), NUMBERS), "0: [0] 6 [1] 20");
-    EXPECT(saniotka_check(FILE_OF(gas_torn), list(), SANIOTKA_ROOM), "0: [0] 6 [1] 20");
+    EXPECT(saniotka_check(FILE_OF(gas_torn), list(), NUMBERS), "0: [0] 29 [1] 20");
+    EXPECT(saniotka_check(FILE_OF(gas_torn), list(), SANIOTKA_ROOM), "0: [0] 29 [1] 20");
     EXPECT(saniotka_check(out, SANIOTKA_BUFFER, list(), NUMBERS), "0: [0] 3 [1] 0");
     EXPECT(saniotka_check(NULL, 0, list(), NUMBERS), "0: [0] 1 [1] 0");
 }
@@ -102,7 +102,7 @@ static void interfaces(void) {
     EXPECT(saniotka_iid(FILE_OF(gas), gas, 16, list(), NUMBERS), "0: [0] 1");
     EXPECT(saniotka_iid(FILE_OF(gas), iid, 15, list(), NUMBERS), "0: [0] 3 [1] 20 [2] 0");
     EXPECT(saniotka_iid(FILE_OF(gas), NULL, 0, list(), NUMBERS), "0: [0] 3 [1] 20 [2] 0");
-    EXPECT(saniotka_iid(FILE_OF(gas_torn), iid, 15, list(), NUMBERS), "0: [0] 3 [1] 6 [2] 20");
+    EXPECT(saniotka_iid(FILE_OF(gas_torn), iid, 15, list(), NUMBERS), "0: [0] 3 [1] 29 [2] 20");
     EXPECT(saniotka_key(FILE_OF(alarms), TEXT("console"), TEXT("IAlarmList"), list(), NUMBERS), "0: [0] 0 [1] 3");
     EXPECT(saniotka_key(FILE_OF(gas), NULL, 0, TEXT("nsISupports"), list(), NUMBERS), "0: [0] 0 [1] 1");
     EXPECT(saniotka_key(FILE_OF(gas), TEXT("gas"), TEXT("IAlarmList"), list(), NUMBERS), "0: [0] 1");
@@ -138,7 +138,7 @@ static void kinds(void) {
     EXPECT(saniotka_method(FILE_OF(alarms), 3, TEXT("acknowledge"), 258, list(), NUMBERS), "0: [0] 3 [1] 20 [2] 0");
     EXPECT(saniotka_method(FILE_OF(alarms), 3, TEXT("acknowledge"), UINT64_MAX, list(), NUMBERS),
            "0: [0] 3 [1] 20 [2] 0");
-    EXPECT(saniotka_method(FILE_OF(gas_torn), 3, TEXT("acknowledge"), 3, list(), NUMBERS), "0: [0] 3 [1] 6 [2] 20");
+    EXPECT(saniotka_method(FILE_OF(gas_torn), 3, TEXT("acknowledge"), 3, list(), NUMBERS), "0: [0] 3 [1] 29 [2] 20");
 }
 
 static void forms(void) {
@@ -150,7 +150,7 @@ static void forms(void) {
     EXPECT(saniotka_normal(FILE_OF(gas), out, 378, list(), NUMBERS), "0: [0] 3 [1] 27 [2] 379");
     HOLD(untouched_from(0));
     EXPECT(saniotka_normal(FILE_OF(gas), NULL, 0, list(), NUMBERS), "0: [0] 3 [1] 27 [2] 379");
-    EXPECT(saniotka_normal(FILE_OF(gas_torn), out, sizeof out, list(), NUMBERS), "0: [0] 3 [1] 6 [2] 20");
+    EXPECT(saniotka_normal(FILE_OF(gas_torn), out, sizeof out, list(), NUMBERS), "0: [0] 3 [1] 29 [2] 20");
     HOLD(untouched_from(0));
 }
 
@@ -159,9 +159,9 @@ static void links(void) {
            "0: [0] 3 [1] 0 [2] 23 [3] 3");
     HOLD(untouched_from(0));
     EXPECT(saniotka_link(FILE_OF(gas_torn), FILE_OF(gas), out, sizeof out, list(), NUMBERS),
-           "0: [0] 3 [1] 1 [2] 6 [3] 20");
+           "0: [0] 3 [1] 1 [2] 29 [3] 20");
     EXPECT(saniotka_link(FILE_OF(gas), FILE_OF(gas_torn), out, sizeof out, list(), NUMBERS),
-           "0: [0] 3 [1] 2 [2] 6 [3] 20");
+           "0: [0] 3 [1] 2 [2] 29 [3] 20");
     EXPECT(saniotka_link(FILE_OF(alarms), FILE_OF(gas), NULL, 0, list(), NUMBERS), "0: [0] 3 [1] 0 [2] 27 [3] 786");
     EXPECT(saniotka_link(FILE_OF(gas), FILE_OF(gas), out, sizeof out, list(), NUMBERS), "0: [0] 0 [1] 379");
     HOLD(untouched_from(379) && memcmp(out, again, 379) == 0);

@@ -80,6 +80,7 @@ fn main() -> ExitCode {
     libs.push(("gas_old.xpt", old));
     let mut files: Vec<_> = libs.into_iter().map(|(name, lib)| (name, lib.bytes())).collect();
     files.push(("gas_torn.xpt", whole[..whole.len() * 2 / 3].to_vec()));
+    files.push(("gas_mailed.xpt", [&whole[..], b"-- \nSent from the control room\n"].concat()));
     for (name, bytes) in files {
         let path = Path::new(&folder).join(name);
         if let Err(error) = std::fs::write(&path, bytes) {
