@@ -27,7 +27,7 @@ magicEnd s = scan (offMagic s) 16 0
 
 -- the newest minor version
 abbrev pub newest : ℕ
-newest = 1
+newest = 2
 
 unfoldable pub unknownMinor : ℕ → Bool
 unknownMinor m = newest <? m

@@ -9,7 +9,7 @@ pub use annotation::read_annotations;
 pub use fields::read_header;
 
 // The newest minor version.
-pub const NEWEST: u8 = 1;
+pub const NEWEST: u8 = 2;
 
 // What an accepted header says.
 pub struct Header {

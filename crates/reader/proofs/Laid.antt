@@ -53,6 +53,7 @@ module _ (s : List ℕ) (l : Layout) (a : l .count ≡ be 2 s 18) (b : l .direct
         pool-inside = omega (arith, r .0 .inside);
         shown = λ k i. rw (d, p) (w .2 .each k (omega arith));
         minor = h .minor;
+        minor-at = w .0 .minor;
         ruled = rw n (r .2);
       }
 

@@ -21,7 +21,7 @@ use Rattle.rules.proofs.Names.{is-identifier}
 use Rattle.rules.proofs.Types.{simple-class, interface-class, interface-is-class, array-class, sized-class}
 use Rattle.reader.specs.declared.record.Form.{Form}
 use Rattle.reader.specs.declared.record.Form.the-variants.{Simple, Interface, InterfaceIs, Array, Sized}
-use Rattle.reader.specs.Values.{argumentCount, constantName, constantType, constantValue}
+use Rattle.reader.specs.Values.{innerTag, argumentCount, constantName, constantType, constantValue}
 use Rattle.reader.specs.Form.{typeForm, classForm, formOf}
 use Rattle.reader.specs.Layout.{Stands, Ends, Tells, Rows, Spells, Names}
 
@@ -96,6 +96,28 @@ module _ (s : List ℕ) (p : ℕ) where
       go (interfaceIs b a) e h k = k ∙ sym (h .3)
       go (array b x y t) e h k = k .each t e (h .4)
       go (sized b x y) e h k = k ∙ sym (h .4)
+
+  -- the inner tag of a type of this form
+  abbrev InnerAs : ℕ → Form → Type 0
+  InnerAs r Simple = r ≡ getD s p 0 % 32
+  InnerAs r Interface = r ≡ getD s p 0 % 32
+  InnerAs r InterfaceIs = r ≡ getD s p 0 % 32
+  InnerAs r Array = Tells (ShowsType s (p + 3)) innerTag r
+  InnerAs r Sized = r ≡ getD s p 0 % 32
+
+  pub type-inner : (f : Form) → formOf (getD s p 0) ≡ f → (r : ℕ) → InnerAs r f → Tells (ShowsType s p) innerTag r
+  unfolding typeForm innerTag
+  type-inner f z r k = record { each = λ t e h. go t e h (of-form (InnerAs r) f z t e h k) }
+    where
+      tag : {b : ℕ} → r ≡ getD s p 0 % 32 → getD s p 0 ≡ b → r ≡ b % 32
+      tag k v = rw (← v) k
+
+      go : (t : Ty ℕ) (e : ℕ) → ShowsType s p t e → InnerAs r (typeForm t) → r ≡ innerTag t
+      go (simple b) e h k = tag k (h .0 .value)
+      go (interface b i) e h k = tag k (h .0 .value)
+      go (interfaceIs b a) e h k = tag k (h .0 .value)
+      go (array b x y t) e h k = k .each t e (h .4)
+      go (sized b x y) e h k = tag k (h .0 .value)
 
   -- the element of an array
   pub element-stands : formOf (getD s p 0) ≡ Array → Stands (ShowsType s p) → Stands (ShowsType s (p + 3))

@@ -21,6 +21,7 @@ pub record LaidOut (s : List ℕ) (l : Layout) (es : List (Entry ℕ)) : Type 0 
   pub pool-inside : l .pool ≤ length s
   pub shown : (k : ℕ) → k < l .count → ShowsEntry s (drop (l .pool) s) (l .directory + entryWidth * k) (getD es k noEntry)
   pub minor : ℕ
+  pub minor-at : getD s 17 0 ≡ minor
   pub ruled : EntriesRule minor (l .count) es
 
 -- the file is laid out so

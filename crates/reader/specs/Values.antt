@@ -20,6 +20,15 @@ unfoldable pub use Rattle.typelib.specs.Typelib.{headerOf, notesOf, entriesIn}
 use Prim.Native.Nat.{ℕ}
 use mathlib.Core.List.{List}
 use lib.ListN.{length}
+use Rattle.types.specs.Prefix.{tagOf}
+
+-- the tag of a type, of an array that of its element: no array's
+unfoldable pub innerTag : {R : Type 0} → Ty R → ℕ
+innerTag (simple b) = tagOf b
+innerTag (interface b r) = tagOf b
+innerTag (interfaceIs b a) = tagOf b
+innerTag (array b x y t) = innerTag t
+innerTag (sized b x y) = tagOf b
 
 unfoldable pub argumentCount : {R : Type 0} → Method R → ℕ
 argumentCount (method f w (signature ps r)) = length ps

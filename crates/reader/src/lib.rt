@@ -16,6 +16,13 @@ pub mod record;
 // The newest minor version.
 pub const NEWEST: u8 = head::NEWEST;
 
+// The first and the last of the tags 23 to 25, and the minor version that brought them.
+pub const UTF8STRING: u8 = types::UTF8STRING;
+
+pub const FURTHER_ASTRING: u8 = types::FURTHER_ASTRING;
+
+pub const STRINGS_MINOR: u8 = types::STRINGS_MINOR;
+
 // Where the parts of an accepted file stand: its number of interfaces, and the offsets of directory and pool.
 pub struct Layout {
     pub count: usize,

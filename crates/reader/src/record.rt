@@ -3,7 +3,7 @@ ghost use mathlib.Core.Path.{_≡_};
 ghost use Prim.Native.Nat.{_+_, _≤_};
 ghost use lib.ListN.{length};
 ghost use Rattle.number.specs.Limits.{fileLimit};
-ghost use Rattle.reader.specs.Values.{methodFlags, methodName, argumentCount, constantName, constantType, constantValue, parentIndex, parentOf, methodsOf};
+ghost use Rattle.reader.specs.Values.{innerTag, methodFlags, methodName, argumentCount, constantName, constantType, constantValue, parentIndex, parentOf, methodsOf};
 ghost use Rattle.reader.specs.Records.{ShowsType, ShowsParam, ShowsMethod, ShowsConstant, ShowsDescriptor};
 ghost use Rattle.reader.specs.Form.{formOf};
 ghost use Rattle.reader.specs.Layout.{Stands, Ends, Tells, Names, Rows};
@@ -54,6 +54,25 @@ pub fn type_end(pool: &[u8], at: usize) -> usize
             Form::InterfaceIs => return p + 2,
             Form::Array => p += 3,
             Form::Sized => return p + 3,
+        }
+    }
+}
+
+// The tag of the type at `at`, of an array that of its element.
+pub fn inner_tag(pool: &[u8], at: usize) -> u8
+    requires { ⌜ Stands (ShowsType (now pool) at) × (length (now pool) ≤ fileLimit) ⌝ }
+    ensures { λ r. ⌜ Tells (ShowsType (now (pool .entry)) at) innerTag r ⌝ }
+{
+    let mut p = at;
+    loop {
+        let b = pool[p];
+        let f = form_of(b);
+        match f {
+            Form::Simple => return b % types::REFERENCE,
+            Form::Interface => return b % types::REFERENCE,
+            Form::InterfaceIs => return b % types::REFERENCE,
+            Form::Array => p += 3,
+            Form::Sized => return b % types::REFERENCE,
         }
     }
 }

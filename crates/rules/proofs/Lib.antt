@@ -5,6 +5,7 @@ pub mod Pairs
 pub mod Order
 pub mod Chains
 pub mod Types
+pub mod Older
 pub mod Methods
 pub mod Constants
 pub mod Descriptors

@@ -8,14 +8,15 @@ use Prim.Native.Nat.{ℕ, zero, suc, _+_, _%_, _≤_, _<_}
 use native.Mathlib.Decide.{decLe}
 use native.Mathlib.Omega.{arith}
 use lib.ListN.{length, getD}
-use Rattle.number.specs.Choice.{_≤?_, _=?_}
+use Rattle.number.specs.Choice.{if_then_else_, _<?_, _≤?_, _=?_}
 use Rattle.number.specs.Number.{be}
-use Rattle.number.proofs.Choice.{both, yes-le, not-lt, not-le, yes-eq, not-eq, from-yes-le, from-not-le, from-yes-eq, from-not-eq}
+use Rattle.number.proofs.Choice.{both, yes-lt, yes-le, not-lt, not-le, yes-eq, not-eq, from-yes-lt, from-not-lt, from-yes-le, from-not-le, from-yes-eq, from-not-eq}
 use Rattle.number.proofs.Scans.{clash}
 use Rattle.reading.specs.Got.{Got, got, next, byte, field}
 use Rattle.reading.specs.declared.Context.{Context}
 use Rattle.reading.proofs.Facts.{Facts, fact, f-bad, f-got, f-unless, f-next, f-byte, f-self}
 use Rattle.reading.proofs.Passes.{pass-next, pass-true, pass-false, pass-byte, pass-field}
+use Rattle.types.specs.Prefix.{StringTag}
 use Rattle.types.specs.Types.{Ty, simple, interface, interfaceIs, array, sized, classOf, isReserved, needsPointer, lacksPointer, readIndex, readRest, typeWith, readArray, readType}
 use Rattle.types.specs.declared.Class.{Class}
 use Rattle.types.specs.declared.Class.the-variants.{Reserved, Plain, Text, Interface, InterfaceIs, Array, Sized}
@@ -28,9 +29,9 @@ use Rattle.rules.specs.Rules.{PrefixRule, InDirectory, TypeRule, nesting
 
 -- what a class says of the tag
 abbrev Says : ℕ → ℕ → Class → Type 0
-Says minor tag Reserved = (22 < tag) ⊎ ((tag ≡ 15) × (minor ≡ 0))
+Says minor tag Reserved = (25 < tag) ⊎ ((StringTag tag × (minor < 2)) ⊎ ((tag ≡ 15) × (minor ≡ 0)))
 Says minor tag Plain = (tag ≤ 15) × (tag ≡ 15 → minor ≡ 0 → ⊥)
-Says minor tag Text = (16 ≤ tag) × (tag ≤ 17)
+Says minor tag Text = ((16 ≤ tag) × (tag ≤ 17)) ⊎ (StringTag tag × (2 ≤ minor))
 Says minor tag Interface = tag ≡ 18
 Says minor tag InterfaceIs = tag ≡ 19
 Says minor tag Array = tag ≡ 20
@@ -42,9 +43,9 @@ class-says minor tag =
     both S (tag ≤? 14) _ _ (λ a. let l = from-yes-le tag 14 a in (omega arith, λ e _. omega arith)) (λ a.
     let m = from-not-le tag 14 a in
     both S (tag =? 15) _ _ (λ b. let e = from-yes-eq tag 15 b in
-    both S (minor =? 0) _ _ (λ z. inr (e, from-yes-eq minor 0 z)) (λ z. (omega arith, λ _. from-not-eq minor 0 z))) (λ b.
+    both S (minor =? 0) _ _ (λ z. inr (inr (e, from-yes-eq minor 0 z))) (λ z. (omega arith, λ _. from-not-eq minor 0 z))) (λ b.
     let n15 = from-not-eq tag 15 b in
-    both S (tag ≤? 17) _ _ (λ a. (omega arith, from-yes-le tag 17 a)) (λ a.
+    both S (tag ≤? 17) _ _ (λ a. inl (omega arith, from-yes-le tag 17 a)) (λ a.
     let m = from-not-le tag 17 a in
     both S (tag =? 18) _ _ (λ b. from-yes-eq tag 18 b) (λ b.
     let n18 = from-not-eq tag 18 b in
@@ -52,19 +53,30 @@ class-says minor tag =
     let n19 = from-not-eq tag 19 b in
     both S (tag =? 20) _ _ (λ b. from-yes-eq tag 20 b) (λ b.
     let n20 = from-not-eq tag 20 b in
-    both S (tag ≤? 22) _ _ (λ a. (omega arith, from-yes-le tag 22 a)) (λ a. inl (from-not-le tag 22 a))))))))
+    both S (tag ≤? 22) _ _ (λ a. (omega arith, from-yes-le tag 22 a)) (λ a.
+    let m = from-not-le tag 22 a in
+    both S (tag ≤? 25) _ _ (λ b. let l = from-yes-le tag 25 b in
+    both S (minor <? 2) _ _ (λ z. inr (inl ((m, l), from-yes-lt minor 2 z))) (λ z. inr ((m, l), from-not-lt minor 2 z))) (λ b.
+    inl (from-not-le tag 25 b)))))))))
   where
     S : Class → Type 0
     S k = Says minor tag k
 
-class-is : (minor tag : ℕ) (k : Class) → Says minor tag k → classOf minor tag ≡ k
+-- past the tags that every minor has
+newer-is : (minor tag : ℕ) {k : Class} → 22 < tag → (if tag ≤? 25 then (if minor <? 2 then Reserved else Text) else Reserved) ≡ k → classOf minor tag ≡ k
 unfolding classOf
-class-is minor tag Reserved (inl h) =
+newer-is minor tag h j =
     pass-false _ _ _ (not-le tag 14 (omega arith)) (pass-false _ _ _ (not-eq tag 15 (omega arith)) (
     pass-false _ _ _ (not-le tag 17 (omega arith)) (pass-false _ _ _ (not-eq tag 18 (omega arith)) (
     pass-false _ _ _ (not-eq tag 19 (omega arith)) (pass-false _ _ _ (not-eq tag 20 (omega arith)) (
-    pass-false _ _ _ (not-le tag 22 h) refl))))))
-class-is minor tag Reserved (inr h) =
+    pass-false _ _ _ (not-le tag 22 h) j))))))
+
+class-is : (minor tag : ℕ) (k : Class) → Says minor tag k → classOf minor tag ≡ k
+unfolding classOf
+class-is minor tag Reserved (inl h) = newer-is minor tag (omega arith) (pass-false _ _ _ (not-le tag 25 h) refl)
+class-is minor tag Reserved (inr (inl h)) =
+    newer-is minor tag (h .0 .0) (pass-true _ _ _ (yes-le tag 25 (h .0 .1)) (pass-true _ _ _ (yes-lt minor 2 (h .1)) refl))
+class-is minor tag Reserved (inr (inr h)) =
     pass-false _ _ _ (not-le tag 14 (omega arith)) (
     pass-true _ _ _ (yes-eq tag 15 (h .0)) (pass-true _ _ _ (yes-eq minor 0 (h .1)) refl))
 class-is minor tag Plain h = elim (decLe tag 14) [
@@ -74,9 +86,11 @@ class-is minor tag Plain h = elim (decLe tag 14) [
       let e : tag ≡ 15 = omega arith in
       pass-true _ _ _ (yes-eq tag 15 e) (pass-false _ _ _ (not-eq minor 0 (h .1 e)) refl))
 ]
-class-is minor tag Text h =
+class-is minor tag Text (inl h) =
     pass-false _ _ _ (not-le tag 14 (omega arith)) (pass-false _ _ _ (not-eq tag 15 (omega arith)) (
     pass-true _ _ _ (yes-le tag 17 (h .1)) refl))
+class-is minor tag Text (inr h) =
+    newer-is minor tag (h .0 .0) (pass-true _ _ _ (yes-le tag 25 (h .0 .1)) (pass-false _ _ _ (not-lt minor 2 (h .1)) refl))
 class-is minor tag Interface h =
     pass-false _ _ _ (not-le tag 14 (omega arith)) (pass-false _ _ _ (not-eq tag 15 (omega arith)) (
     pass-false _ _ _ (not-le tag 17 (omega arith)) (pass-true _ _ _ (yes-eq tag 18 h) refl)))
@@ -97,7 +111,8 @@ class-is minor tag Sized h =
 -- the classes of the tags of each kind of type
 module _ (tag : ℕ) where
   pub simple-class : SimpleTag tag → (classOf newest tag ≡ Plain) ⊎ (classOf newest tag ≡ Text)
-  simple-class h = elim (decLe tag 15) [ yes l ↦ inl (class-is newest tag Plain (l, λ _ z. omega arith)) | no l ↦ inr (class-is newest tag Text (omega arith, h)) ]
+  simple-class (inl h) = elim (decLe tag 15) [ yes l ↦ inl (class-is newest tag Plain (l, λ _ z. omega arith)) | no l ↦ inr (class-is newest tag Text (inl (omega arith, h))) ]
+  simple-class (inr h) = inr (class-is newest tag Text (inr (h, omega arith)))
 
   pub interface-class : InterfaceTag tag → classOf newest tag ≡ Interface
   interface-class h = class-is newest tag Interface h
@@ -131,29 +146,34 @@ unfolding lacksPointer
 none-lacks k b (inl l) = pass-true _ _ _ (yes-le 128 b l) refl
 none-lacks k b (inr h) = pass-false _ _ _ (not-le 128 b (omega arith)) (pass-false _ _ _ (not-le 32 b (h .0)) (h .1))
 
+-- that the tag is not reserved, but for 15
+abbrev Known : ℕ → ℕ → Type 0
+Known minor tag = (tag ≤ 22) ⊎ (StringTag tag × (2 ≤ minor))
+
 -- the rule, of a prefix with pointer
-with-pointer : (minor b : ℕ) → b % 32 ≤ 22 → (b % 32 ≡ 15 → minor ≡ 0 → ⊥) → 128 ≤ b → PrefixRule minor b
+with-pointer : (minor b : ℕ) → Known minor (b % 32) → (b % 32 ≡ 15 → minor ≡ 0 → ⊥) → 128 ≤ b → PrefixRule minor b
 with-pointer minor b known astring l = record { known = known; astring = astring; unique = λ _. l; reference = λ _. l; pointer = λ _. l }
 
--- of a class whose tags are from 16 to 22
-needy : (k : Class) (minor b : ℕ) → needsPointer k ≡ true → 16 ≤ b % 32 → b % 32 ≤ 22 → Pointed k b → PrefixRule minor b
+-- of a class whose tags are from 16 on
+needy : (k : Class) (minor b : ℕ) → needsPointer k ≡ true → 16 ≤ b % 32 → Known minor (b % 32) → Pointed k b → PrefixRule minor b
 needy k minor b n lo hi (inl l) = with-pointer minor b hi (λ e _. omega arith) l
 needy k minor b n lo hi (inr h) = clash _ n (h .1)
 
 plain-rule : (minor b : ℕ) → Says minor (b % 32) Plain → Pointed Plain b → PrefixRule minor b
-plain-rule minor b h (inl l) = with-pointer minor b (omega arith) (h .1) l
+plain-rule minor b h (inl l) = with-pointer minor b (inl (omega arith)) (h .1) l
 plain-rule minor b h (inr u) =
-    record { known = omega arith; astring = h .1; unique = λ e. omega arith; reference = λ e. omega arith; pointer = λ e. omega arith }
+    record { known = inl (omega arith); astring = h .1; unique = λ e. omega arith; reference = λ e. omega arith; pointer = λ e. omega arith }
 
 prefix-rule : (minor b : ℕ) (k : Class) → Says minor (b % 32) k → isReserved k ≡ false → Pointed k b → PrefixRule minor b
 unfolding isReserved needsPointer
 prefix-rule minor b Reserved h r u = clash true refl r
 prefix-rule minor b Plain h r u = plain-rule minor b h u
-prefix-rule minor b Text h r u = needy Text minor b refl (omega arith) (omega arith) u
-prefix-rule minor b Interface h r u = needy Interface minor b refl (omega arith) (omega arith) u
-prefix-rule minor b InterfaceIs h r u = needy InterfaceIs minor b refl (omega arith) (omega arith) u
-prefix-rule minor b Array h r u = needy Array minor b refl (omega arith) (omega arith) u
-prefix-rule minor b Sized h r u = needy Sized minor b refl (omega arith) (omega arith) u
+prefix-rule minor b Text (inl h) r u = needy Text minor b refl (omega arith) (inl (omega arith)) u
+prefix-rule minor b Text (inr h) r u = needy Text minor b refl (omega arith) (inr h) u
+prefix-rule minor b Interface h r u = needy Interface minor b refl (omega arith) (inl (omega arith)) u
+prefix-rule minor b InterfaceIs h r u = needy InterfaceIs minor b refl (omega arith) (inl (omega arith)) u
+prefix-rule minor b Array h r u = needy Array minor b refl (omega arith) (inl (omega arith)) u
+prefix-rule minor b Sized h r u = needy Sized minor b refl (omega arith) (inl (omega arith)) u
 
 -- the way back: a tag from 16 on has pointer, another may lack it if unique and reference are zero
 rule-pointed : (k : Class) (minor b : ℕ) → PrefixRule minor b → (16 ≤ b % 32) ⊎ (needsPointer k ≡ false) → Pointed k b
@@ -165,6 +185,10 @@ rule-pointed k minor b r (inr h) = elim (decLe 128 b) [
     | no m ↦ elim (decLe 32 b) [ yes n ↦ inl (r .reference (omega arith)) | no n ↦ inr (omega arith, h) ]
   ]
 ]
+
+-- a tag 23 to 25 stands with minor 2 only
+string-minor : (minor b : ℕ) → PrefixRule minor b → StringTag (b % 32) → 2 ≤ minor
+string-minor minor b r h = elim (r .known) [ inl l ↦ absurd (omega arith) | inr k ↦ k .1 ]
 
 -- ---- bytes and fields at q, which another expression names as p
 
@@ -207,8 +231,9 @@ module _ (c : Context) (s : List ℕ) where
       → Facts (TypeShown c s left p) (readRest arrayAt c s k p b (p + 1))
   unfolding readRest
   rest-facts arrayAt left p b w r f Reserved h = f-bad _ _ _
-  rest-facts arrayAt left p b w r f Plain h = f-got _ _ _ ((w, omega arith, refl), r, omega arith)
-  rest-facts arrayAt left p b w r f Text h = f-got _ _ _ ((w, omega arith, refl), r, omega arith)
+  rest-facts arrayAt left p b w r f Plain h = f-got _ _ _ ((w, inl (omega arith), refl), r, omega arith)
+  rest-facts arrayAt left p b w r f Text (inl h) = f-got _ _ _ ((w, inl (h .1), refl), r, omega arith)
+  rest-facts arrayAt left p b w r f Text (inr h) = f-got _ _ _ ((w, inr (h .0), refl), r, omega arith)
   rest-facts arrayAt left p b w r f Interface h =
       f-next _ _ _ _ (index-facts c s (p + 1)) (λ i e g. f-got _ _ _ ((w, h, g .0, omega arith), (r, g .1), omega arith))
   rest-facts arrayAt left p b w r f InterfaceIs h =
@@ -258,10 +283,12 @@ module _ (c : Context) (s : List ℕ) where
 
   pub shows-with : (t : Ty ℕ) (left p e : ℕ) → ShowsType s p t e → TypeRule (c .minor) (c .count) t → nesting t ≤ left → typeWith (readArray left c s) c s p ≡ got t e
   unfolding readRest readArray isReserved needsPointer
-  shows-with (simple b) left p e h r n = elim (decLe (b % 32) 15) [
-    | yes l ↦ begun _ p b Plain (h .0) r (l, r .astring) refl (inr refl) (ap (got (simple b)) (sym (h .2)))
-    | no l ↦ begun _ p b Text (h .0) r (omega arith, h .1) refl (inl (omega arith)) (ap (got (simple b)) (sym (h .2)))
+  shows-with (simple b) left p e (w, inl l, q) r n = elim (decLe (b % 32) 15) [
+    | yes m ↦ begun _ p b Plain w r (m, r .astring) refl (inr refl) (ap (got (simple b)) (sym q))
+    | no m ↦ begun _ p b Text w r (inl (omega arith, l)) refl (inl (omega arith)) (ap (got (simple b)) (sym q))
   ]
+  shows-with (simple b) left p e (w, inr l, q) r n =
+      begun _ p b Text w r (inr (l, string-minor (c .minor) b r l)) refl (inl (omega arith)) (ap (got (simple b)) (sym q))
   shows-with (interface b i) left p e h r n =
       begun _ p b Interface (h .0) (r .0) (h .1) refl (inl (omega arith)) (
       pass-next _ _ (shows-index c s (p + 1) (h .2) (r .1)) (ap (got (interface b i)) (omega arith)))

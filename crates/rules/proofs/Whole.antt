@@ -16,7 +16,7 @@ use Rattle.reading.proofs.Facts.{Facts, fact, f-got, f-unless, f-next, f-read}
 use Rattle.reading.proofs.Passes.{pass-next, pass-false}
 use Rattle.key.specs.Key.{Key}
 use Rattle.head.specs.declared.Header.{Header}
-use Rattle.head.specs.Header.{unknownMinor, readHeader}
+use Rattle.head.specs.Header.{newest, unknownMinor, readHeader}
 use Rattle.head.specs.Annotation.{readAnnotations, annotationLimit}
 use Rattle.head.specs.Says.{Placed, HeaderAt}
 use Rattle.head.specs.Shows.{ShowsNotes, PlainNotes}
@@ -52,7 +52,7 @@ module _ (s : List ℕ) (h : Header) where
   header-obeys a = record {
     short = a .short;
     few = a .few;
-    known = from-not-lt 1 (h .minor) (a .known);
+    known = from-not-lt newest (h .minor) (a .known);
     low = a .low;
     inside = a .inside;
     absent = λ z. elim (a .placed) [ inl p ↦ p .1 | inr p ↦ absurd (omega arith) ];
@@ -77,7 +77,7 @@ module _ (s : List ℕ) (h : Header) where
     length-at = a .size;
     directory-at = sym (a .directory);
     pool-at = sym (a .pool);
-    known = not-lt 1 (h .minor) (r .known);
+    known = not-lt newest (h .minor) (r .known);
     few = r .few;
     low = r .low;
     inside = r .inside;

@@ -13,7 +13,7 @@ use Rattle.key.specs.Key.{Key, key}
 use Rattle.head.specs.declared.Header.{Header}
 use Rattle.head.specs.Header.{newest}
 use Rattle.head.specs.Shows.{PlainNotes}
-use Rattle.types.specs.Prefix.{pointerBit, uniqueBit, referenceBit, tagOf, uint32Tag, voidTag, iidTag, astringTag}
+use Rattle.types.specs.Prefix.{pointerBit, uniqueBit, referenceBit, tagOf, uint32Tag, voidTag, iidTag, astringTag, StringTag, stringsMinor}
 use Rattle.types.specs.Types.{Ty, simple, interface, interfaceIs, array, sized, prefix}
 use Rattle.method.specs.Flags.{getterBit, setterBit, notXpcomBit, constructorBit, inBit, outBit, retvalBit, dipperBit, lowestFlag}
 use Rattle.method.specs.Parameter.{Param, param, paramFlags, paramType}
@@ -43,13 +43,13 @@ pub record Identifier (w : List ℕ) : Type 0 where
 -- ---- types
 
 pub record PrefixRule (minor b : ℕ) : Type 0 where
-  -- 23 to 31 are reserved, and with minor 0 tag 15
-  pub known : tagOf b ≤ 22
+  -- 26 to 31 are reserved, with minor 0 and 1 also 23 to 25, and with minor 0 also 15
+  pub known : (tagOf b ≤ 22) ⊎ (StringTag (tagOf b) × (stringsMinor ≤ minor))
   pub astring : tagOf b ≡ astringTag → minor ≡ 0 → ⊥
   -- unique and reference need pointer
   pub unique : bit uniqueBit b ≡ 1 → pointerBit ≤ b
   pub reference : bit referenceBit b ≡ 1 → pointerBit ≤ b
-  -- tags 16 to 22 need pointer
+  -- tags 16 to 25 need pointer
   pub pointer : 16 ≤ tagOf b → pointerBit ≤ b
 
 -- an index of the directory
@@ -222,7 +222,7 @@ pub record PositionRule (len : ℕ) (h : Header) : Type 0 where
   -- at most 1,048,576 bytes and 1,024 interfaces
   pub short : len ≤ fileLimit
   pub few : h .count ≤ entryLimit
-  -- minor is 0 or 1
+  -- minor is 0, 1 or 2
   pub known : h .minor ≤ newest
   pub low : 33 ≤ h .pool
   pub inside : h .pool ≤ len

@@ -16,7 +16,7 @@ use Rattle.head.specs.declared.Header.{Header}
 use Rattle.head.specs.Header.{magic}
 use Rattle.head.specs.Annotation.{annotationLimit}
 use Rattle.head.specs.Shows.{ShowsNotes}
-use Rattle.types.specs.Prefix.{tagOf}
+use Rattle.types.specs.Prefix.{tagOf, StringTag}
 use Rattle.types.specs.Types.{Ty, simple, interface, interfaceIs, array, sized}
 use Rattle.method.specs.Parameter.{Param, param}
 use Rattle.method.specs.Method.{signature, Method, method}
@@ -65,7 +65,7 @@ pub record ShowsName (s : List ℕ) (p : ℕ) (w : List ℕ) : Type 0 where
 
 -- the tags of each kind of type; the file's minor plays no part in the layout
 abbrev pub SimpleTag : ℕ → Type 0
-SimpleTag t = t ≤ 17
+SimpleTag t = (t ≤ 17) ⊎ StringTag t
 
 abbrev pub InterfaceTag : ℕ → Type 0
 InterfaceTag t = t ≡ 18

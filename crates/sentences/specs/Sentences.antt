@@ -17,7 +17,7 @@ positionText rule =
 -- of 16, by the rule: its number among the rules between fields, or 8 for a constant's type
 unfoldable pub betweenText : ℕ → List ℕ
 betweenText rule =
-    if rule =? 1 then ascii "a type has unique or reference, or a tag from 16 to 22, without the pointer bit" else
+    if rule =? 1 then ascii "a type has unique or reference, or a tag from 16 to 25, without the pointer bit" else
     if rule =? 2 then ascii "an argument has retval without out" else
     if rule =? 3 then ascii "a result has in or out" else
     if rule =? 4 then ascii "an argument number does not name an argument of its kind: a pointer to nsIID for interface-is, a uint32 for a size or a length" else
@@ -43,7 +43,7 @@ headerText n rule =
     if n =? 2 then ascii "the file has more than 1,048,576 bytes" else
     if n =? 3 then ascii "the file does not begin with the magic of a typelib" else
     if n =? 4 then ascii "the major version is not 1" else
-    if n =? 5 then ascii "the minor version is not 0 or 1" else
+    if n =? 5 then ascii "the minor version is not 0, 1 or 2" else
     if n =? 7 then ascii "there are more than 1,024 interfaces" else
     positionText rule
 

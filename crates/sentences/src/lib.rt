@@ -44,7 +44,7 @@ fn put_between(rule: u8, text: &mut [u8; ROOM], at: usize) -> usize
         1 => text::put_bytes(
             text,
             at,
-            b"a type has unique or reference, or a tag from 16 to 22, without the pointer bit",
+            b"a type has unique or reference, or a tag from 16 to 25, without the pointer bit",
         ),
         2 => text::put_bytes(text, at, b"an argument has retval without out"),
         3 => text::put_bytes(text, at, b"a result has in or out"),
@@ -125,7 +125,7 @@ fn put_header(no: u8, rule: u8, text: &mut [u8; ROOM], at: usize) -> usize
             b"the file does not begin with the magic of a typelib",
         ),
         4 => text::put_bytes(text, at, b"the major version is not 1"),
-        5 => text::put_bytes(text, at, b"the minor version is not 0 or 1"),
+        5 => text::put_bytes(text, at, b"the minor version is not 0, 1 or 2"),
         7 => text::put_bytes(text, at, b"there are more than 1,024 interfaces"),
         _ => put_position(rule, text, at),
     }

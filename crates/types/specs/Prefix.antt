@@ -1,6 +1,6 @@
 -- Document 01, "Type": the prefix, three bits and a tag. Pointer is the highest bit, so it is set where the prefix is at least as large.
 -- Assumes nothing.
-use Prim.Native.Nat.{ℕ}
+use Prim.Native.Nat.{ℕ, _≤_}
 use Rattle.number.specs.Bits.{bitsBelow}
 
 abbrev pub pointerBit : ℕ
@@ -31,3 +31,18 @@ iidTag = 14
 -- reserved with minor 0
 abbrev pub astringTag : ℕ
 astringTag = 15
+
+-- ---- three more strings: utf8string, cstring (24) and a further astring, another type than that of tag 15
+
+abbrev pub utf8stringTag : ℕ
+utf8stringTag = 23
+
+abbrev pub furtherAstringTag : ℕ
+furtherAstringTag = 25
+
+abbrev pub StringTag : ℕ → Type 0
+StringTag t = (utf8stringTag ≤ t) × (t ≤ furtherAstringTag)
+
+-- the minor version that brought them: they are reserved with those before it
+abbrev pub stringsMinor : ℕ
+stringsMinor = 2

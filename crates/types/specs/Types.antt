@@ -6,14 +6,14 @@ use Prim.Native.Nat.{ℕ, zero, suc, _+_}
 use Rattle.number.specs.Choice.{if_then_else_, _<?_, _≤?_, _=?_}
 use Rattle.reading.specs.Got.{Got, got, bad, next, byte, field}
 use Rattle.reading.specs.declared.Context.{Context}
-use Rattle.types.specs.Prefix.{pointerBit, referenceBit, tagOf, astringTag}
+use Rattle.types.specs.Prefix.{pointerBit, referenceBit, tagOf, astringTag, furtherAstringTag, stringsMinor}
 use Rattle.types.specs.declared.Class.{Class}
 use Rattle.types.specs.declared.Class.the-variants.{Reserved, Plain, Text, Interface, InterfaceIs, Array, Sized}
 
 -- A type whose references to interfaces are of kind R: an index where a file is read, a key in its meaning.
 -- The first number of each is the prefix.
 pub data Ty (R : Type 0) : Type 0 where
-  -- tags 0 to 17
+  -- tags 0 to 17 and 23 to 25
   simple : ℕ → Ty R
   -- tag 18
   interface : ℕ → R → Ty R
@@ -32,7 +32,7 @@ prefix (interfaceIs b a) = b
 prefix (array b x y t) = b
 prefix (sized b x y) = b
 
--- what a tag stands for under a minor version: 23 to 31 are reserved, and with minor 0 tag 15
+-- what a tag stands for under a minor version: 26 to 31 are reserved, with minor 0 and 1 also 23 to 25, and with minor 0 also 15
 unfoldable pub classOf : ℕ → ℕ → Class
 classOf minor tag =
     if tag ≤? 14 then Plain else
@@ -42,6 +42,7 @@ classOf minor tag =
     if tag =? 19 then InterfaceIs else
     if tag =? 20 then Array else
     if tag ≤? 22 then Sized else
+    if tag ≤? furtherAstringTag then (if minor <? stringsMinor then Reserved else Text) else
     Reserved
 
 unfoldable pub isReserved : Class → Bool
@@ -53,7 +54,7 @@ isReserved InterfaceIs = false
 isReserved Array = false
 isReserved Sized = false
 
--- tags 16 to 22 need pointer
+-- tags 16 to 25 need pointer
 unfoldable pub needsPointer : Class → Bool
 needsPointer Reserved = false
 needsPointer Plain = false

@@ -21,6 +21,14 @@ pub const VOID: u8 = 13;
 
 pub const IID: u8 = 14;
 
+// The first and the last of the three more strings.
+pub const UTF8STRING: u8 = 23;
+
+pub const FURTHER_ASTRING: u8 = 25;
+
+// The minor version that brought them.
+pub const STRINGS_MINOR: u8 = 2;
+
 // What a tag stands for.
 pub enum Class {
     Reserved,
@@ -49,6 +57,12 @@ pub fn tag_class(minor: usize, tag: u8) -> Class
         19 => Class::InterfaceIs,
         20 => Class::Array,
         21..=22 => Class::Sized,
+        UTF8STRING..=FURTHER_ASTRING => {
+            if minor < STRINGS_MINOR as usize {
+                return Class::Reserved;
+            }
+            Class::Text
+        }
         _ => Class::Reserved,
     }
 }

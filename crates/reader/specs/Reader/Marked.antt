@@ -1,4 +1,4 @@
--- Document 01, "Marked cases" P1 to P11, and the second file of P13, as one table, proved by one claim.
+-- Document 01, "Marked cases" P1 to P11, the second file of P13, and P3 with minor 2, as one table, proved by one claim.
 -- Assumes nothing.
 use mathlib.Core.Path.{_≡_, refl, ap}
 use mathlib.Core.List.{List, [], _∷_, _++_, map}
@@ -61,9 +61,9 @@ P3 =
 pub P4 : List ℕ
 P4 = take 81 P3
 
--- minor 2
+-- minor 3
 pub P5 : List ℕ
-P5 = set P3 17 2
+P5 = set P3 17 3
 
 -- 31 bytes of P1
 pub P6 : List ℕ
@@ -93,6 +93,10 @@ P11 = set P3 51 0
 unfoldable pub P13 : List ℕ
 P13 = set P3 78 0xfd
 
+-- P3 with minor 2
+unfoldable pub P3newer : List ℕ
+P3newer = set P3 17 2
+
 -- ---- what they say
 
 -- n = 0; the annotation is tag 0, marked last
@@ -113,6 +117,12 @@ unfoldable pub says13 : Typelib
 says13 =
     typelib (record { minor = 1; count = 1; directory = 36; pool = 64 }) (empty ∷ [])
     (entry (key [] (0x41 ∷ [])) 1 (some (descriptor none [] (constant (0x4b ∷ []) 1 0xfffd ∷ []) 0x80)) ∷ [])
+
+-- what P3 says, with minor 2
+unfoldable pub says3newer : Typelib
+says3newer =
+    typelib (record { minor = 2; count = 1; directory = 36; pool = 64 }) (empty ∷ [])
+    (entry (key [] (0x41 ∷ [])) 1 (some (descriptor none [] (constant (0x4b ∷ []) 1 0xfffe ∷ []) 0x80)) ∷ [])
 
 -- ---- the table
 
@@ -135,10 +145,11 @@ table =
     ∷ record { file = P10; decoded = bad 14 79 }
     ∷ record { file = P11; decoded = bad 12 60 }
     ∷ record { file = P13; decoded = got says13 82 }
+    ∷ record { file = P3newer; decoded = got says3newer 82 }
     ∷ []
 
 pub marked : map (λ (c : Case). decode (c .file)) table ≡ map (λ (c : Case). c .decoded) table
-unfolding table P1 P2 P3 P4 P5 P6 P7 P8 P9 P10 P11 P13 says1 says2 says3 says13 decode if_then_else_ _<?_ _≤?_ _=?_ _≠?_ be scan one tally part next many byte field zeroByte wordEnd wordAt compareWords isSame sameWord thenBy compareKeys sameKey sameAs firstSame isIdentifier readIdentifier follow followSpace readName offMagic magicEnd unknownMinor lengthFault misplacedPool misplacedDirectory readPositions readFields readHeader offAscii asciiEnd readText readBody readAnnotation annotationsWithin readAnnotations annotationLimit falls outOfOrder lacksIid readRow readDirectory prefix classOf isReserved needsPointer lacksPointer readIndex readRest typeWith readArray readType paramFlags paramType reservedParam wrongParam readParam prefixes wrongIid wrongSize wrongSizes wrongNumbers wrongArguments wrongResult methodFlags methodName ruleSignature readSignature readMethod noMethod valueSize readConstant isConstructor manyConstructors isGetter isSetter strayPair strayGetter strayPairs parentOf indexed readParent readCounted reservedInterface readFlags flagsIn namesIn readDescriptor entryKey entryDescriptor readOwn entriesOf noEntry keysIn descriptorIn repeated firstRepeated parentIndex above aboveIn chainEnds circles firstCircling readAcross poolOf contextOf readListed readFront readDescriptors headerOf readBehind readTypelib verdictOf
+unfolding table P1 P2 P3 P4 P5 P6 P7 P8 P9 P10 P11 P13 P3newer says1 says2 says3 says13 says3newer decode if_then_else_ _<?_ _≤?_ _=?_ _≠?_ be scan one tally part next many byte field zeroByte wordEnd wordAt compareWords isSame sameWord thenBy compareKeys sameKey sameAs firstSame isIdentifier readIdentifier follow followSpace readName offMagic magicEnd unknownMinor lengthFault misplacedPool misplacedDirectory readPositions readFields readHeader offAscii asciiEnd readText readBody readAnnotation annotationsWithin readAnnotations annotationLimit falls outOfOrder lacksIid readRow readDirectory prefix classOf isReserved needsPointer lacksPointer readIndex readRest typeWith readArray readType paramFlags paramType reservedParam wrongParam readParam prefixes wrongIid wrongSize wrongSizes wrongNumbers wrongArguments wrongResult methodFlags methodName ruleSignature readSignature readMethod noMethod valueSize readConstant isConstructor manyConstructors isGetter isSetter strayPair strayGetter strayPairs parentOf indexed readParent readCounted reservedInterface readFlags flagsIn namesIn readDescriptor entryKey entryDescriptor readOwn entriesOf noEntry keysIn descriptorIn repeated firstRepeated parentIndex above aboveIn chainEnds circles firstCircling readAcross poolOf contextOf readListed readFront readDescriptors headerOf readBehind readTypelib verdictOf
 marked = refl
 
 -- what the k-th file of the table decodes to, counted from 0
@@ -161,13 +172,17 @@ pub decodes13 : decode P13 ≡ got says13 82
 unfolding table
 decodes13 = decodesTo 11
 
+pub decodes3newer : decode P3newer ≡ got says3newer 82
+unfolding table
+decodes3newer = decodesTo 12
+
 -- the same as answers of the check
 abbrev refused : ℕ → ℕ → Verdict
 refused n q = Refused (record { no = n; place = q })
 
 unfoldable pub verdicts : List Verdict
-verdicts = Accepted 0 ∷ Accepted 1 ∷ Accepted 1 ∷ refused 29 20 ∷ refused 5 17 ∷ refused 1 31 ∷ refused 19 36 ∷ refused 15 66 ∷ refused 16 76 ∷ refused 14 79 ∷ refused 12 60 ∷ Accepted 1 ∷ []
+verdicts = Accepted 0 ∷ Accepted 1 ∷ Accepted 1 ∷ refused 29 20 ∷ refused 5 17 ∷ refused 1 31 ∷ refused 19 36 ∷ refused 15 66 ∷ refused 16 76 ∷ refused 14 79 ∷ refused 12 60 ∷ Accepted 1 ∷ Accepted 1 ∷ []
 
 pub answers : map (λ (c : Case). checkOf (c .file)) table ≡ verdicts
-unfolding table verdicts says1 says2 says3 says13 checkOf verdictOf headerOf
+unfolding table verdicts says1 says2 says3 says13 says3newer checkOf verdictOf headerOf
 answers = ap (map verdictOf) marked
