@@ -49,6 +49,7 @@ none-laid = record {
   pool-inside = omega arith;
   shown = λ k l. absurd (omega arith);
   minor = 0;
+  minor-at = refl;
   ruled = record { each = tt; order = λ i j l k. absurd (omega arith); keys = λ i j l k e. absurd (omega arith); chains = λ i a b l. absurd (omega arith) };
 }
 

@@ -4,6 +4,8 @@ pub mod Unions
 pub mod Answers
 pub mod Buffers
 pub mod Demand
+pub mod Minors
 pub mod Theorems
 pub mod Marked
 pub mod Faces
+pub mod Examples

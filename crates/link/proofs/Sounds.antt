@@ -1,8 +1,7 @@
 -- Each entry of a union is sound: its key, its IID and its descriptor are those of entries.
 -- Assumes nothing.
 use mathlib.Core.Path.{_≡_, refl, subst}
-use mathlib.Core.Logic.{inl, inr}
-use mathlib.Core.List.{List, [], _∷_}
+use mathlib.Core.List.{List}
 use mathlib.Core.Option.{Option, none, some}
 use Prim.Native.Nat.{ℕ, _^_, _<_}
 use native.Mathlib.Bridge.{le-by-compare, IsLe}
@@ -19,16 +18,7 @@ use Rattle.facts.proofs.Unions.{iid-fact, iid-some, descriptor-fact, made-for}
 use Rattle.facts.proofs.Algebra.{Closed}
 use Rattle.normal.specs.Ranged.{Ranged}
 use Rattle.normal.specs.Encodable.{DescriptorApart, Sound}
-
--- ---- of all elements
-
-pub in-all : {X : Type 0} (P : X → Type 0) (xs : List X) → All P xs → (x : X) → In x xs → P x
-in-all P (y ∷ ys) a x (inl e) = rw e (a .0)
-in-all P (y ∷ ys) a x (inr i) = in-all P ys (a .1) x i
-
-pub all-in : {X : Type 0} (P : X → Type 0) (xs : List X) → ((x : X) → In x xs → P x) → All P xs
-all-in P [] f = tt
-all-in P (x ∷ xs) f = (f x (inl refl), all-in P xs (λ y i. f y (inr i)))
+use Rattle.normal.proofs.Anys.{in-all, all-in}
 
 -- ---- the parts of a sound entry
 

@@ -19,15 +19,17 @@ use Rattle.normal.specs.Size.{normalLength}
 use Rattle.normal.specs.Normal.{normalForm}
 use Rattle.normal.specs.Encodable.{Readable}
 use Rattle.normal.proofs.Lengths.{length-normal}
+use Rattle.normal.proofs.Minors.{minor-exactly, minor-else, minor-byte}
 use Rattle.normal.proofs.Back.{normal-injective}
 use Rattle.link.specs.declared.Which.the-variants.{Union}
 use Rattle.joining.specs.Outcome.{written, refusal, encoded}
 use Rattle.link.specs.Outcome.{refusalOf, normalOf, linkOf}
 use Rattle.link.specs.Demand.{Means}
-use Rattle.link.specs.Theorems.{SizedForms, FormOf, ReadsBack, SameForms, LinksBack, Meant, Taken, Left, NormalisedBack, NormalisedSame, LinkedBack, LeftSame}
+use Rattle.link.specs.Theorems.{SizedForms, FormOf, ReadsBack, SameForms, LinksBack, MinorForms, MinorWritten, Meant, Taken, Left, NormalisedBack, NormalisedSame, LinkedBack, LeftSame}
 use Rattle.link.proofs.Files.{accepted-valid, normal-of, link-of, form-means}
 use Rattle.link.proofs.Answers.{normal-readable, link-readable}
 use Rattle.link.proofs.Faces.{accepted}
+use Rattle.link.proofs.Minors.{minor-single, minor-joined}
 use Rattle.link.proofs.Buffers.{normal-front, normal-room, link-front}
 
 -- only what was joined is written, in its normal form
@@ -87,6 +89,19 @@ links-back = link-form
 
 pub sized-forms : SizedForms
 sized-forms = length-normal
+
+pub minor-forms : MinorForms
+minor-forms us = rw (minor-byte us) (minor-exactly us, minor-else us)
+
+pub minor-written : MinorWritten
+minor-written = record {
+  normal = λ a b A m h.
+      let s = reads-back .same a A m in
+      rw (normal-joined a b A m h .1, minor-byte (union A)) (minor-single A (s .0) (s .1));
+  linked = λ a b c A B m n h.
+      let s = link-says a b c A B m n h in
+      rw (link-joined a b c A B m n h .1, minor-byte (union (A ++ B))) (minor-joined A B (s .0) (s .1));
+}
 
 -- ---- at the contracts
 

@@ -34,7 +34,8 @@ use Rattle.facts.proofs.Algebra.{Closed, union-valid, union-again, own-order, R
 use Rattle.normal.specs.Size.{sum, entryLength, normalLength}
 use Rattle.normal.specs.Encodable.{Sound, Readable}
 use Rattle.normal.proofs.Sizes.{iid-same, open-shorter}
-use Rattle.link.proofs.Sounds.{in-all, all-in, sound-union}
+use Rattle.normal.proofs.Anys.{in-all, all-in}
+use Rattle.link.proofs.Sounds.{sound-union}
 
 -- ---- references
 

@@ -1,10 +1,10 @@
 -- Theorems on what normalising and linking accepted files write. A file has a normal form unless normalising gives 26.
 -- Assumes nothing.
 use mathlib.Core.Path.{_≡_}
-use mathlib.Core.Logic.{_↔_}
+use mathlib.Core.Logic.{_⊎_, _↔_}
 use mathlib.Core.List.{List, _++_}
 use Prim.Native.Nat.{ℕ, _≤_}
-use lib.ListN.{length, take}
+use lib.ListN.{length, getD, take}
 use lib.Seq.{sets}
 use Rattle.number.specs.Limits.{fileLimit}
 use Rattle.reading.specs.declared.Verdict.the-variants.{Accepted}
@@ -15,6 +15,7 @@ use Rattle.reader.specs.Reader.{decode, checkOf}
 use Rattle.facts.specs.Facts.{MeanSame, Within}
 use Rattle.facts.specs.Union.{union}
 use Rattle.normal.specs.Size.{normalLength}
+use Rattle.normal.specs.Minor.{Occurs}
 use Rattle.normal.specs.Normal.{normalForm}
 use Rattle.joining.specs.declared.Normalised.the-variants as normalised
 use Rattle.joining.specs.Outcome.{written}
@@ -44,6 +45,15 @@ SameForms = (a b x y : List ℕ) (A B : List (Entry Key)) → Means a A → Mean
 -- What a link of two accepted files writes reads back, with the union as its meaning.
 abbrev pub LinksBack : Type 0
 LinksBack = (a b c : List ℕ) (A B : List (Entry Key)) → Means a A → Means b B → linkOf (decode a) (decode b) ≡ written c → FormOf (union (A ++ B)) c
+
+-- Byte 17 of a normal form, its minor, is 2 exactly when one of the tags 23 to 25 occurs in what it is written for, else 1.
+abbrev pub MinorForms : Type 0
+MinorForms = (us : List (Entry Key)) → ((getD (normalForm us) 17 0 ≡ 2) ↔ Occurs us) × ((getD (normalForm us) 17 0 ≡ 1) ↔ (Occurs us → ⊥))
+
+-- Of what normalising and linking accepted files write: exactly when one occurs in a descriptor of the file, or of one of the two.
+pub record MinorWritten : Type 0 where
+  pub normal : (a b : List ℕ) (A : List (Entry Key)) → Means a A → normalOf (decode a) ≡ written b → (getD b 17 0 ≡ 2) ↔ Occurs A
+  pub linked : (a b c : List ℕ) (A B : List (Entry Key)) → Means a A → Means b B → linkOf (decode a) (decode b) ≡ written c → (getD c 17 0 ≡ 2) ↔ (Occurs A ⊎ Occurs B)
 
 -- ---- the same of what the contracts cite: answers and buffers, whatever the buffers' lengths and contents
 

@@ -1,17 +1,19 @@
 -- The rules apart from indexes: what a file obeys gives them, and they give the rules of any directory that has the references.
 -- Assumes nothing.
 use mathlib.Core.Path.{_≡_}
+use mathlib.Core.Bool.{true}
 use mathlib.Core.Option.{Option, none, some}
-use Prim.Native.Nat.{ℕ}
+use Prim.Native.Nat.{ℕ, _≤_}
 use native.Mathlib.Omega.{arith}
 use Rattle.key.specs.Key.{key}
-use Rattle.reader.specs.Values.{Ty, simple, interface, interfaceIs, array, sized, Param, param, paramType, signature, Method, method, Descriptor, descriptor, Entry, entry}
+use Rattle.reader.specs.Values.{Ty, simple, interface, interfaceIs, array, sized, Param, param, paramType, signature, Method, method, Descriptor, descriptor, Entry, entry, entryDescriptor}
 use Rattle.reader.specs.Rules.{InDirectory, TypeRule, ArgumentRule, MethodRule, ParentRule, DescriptorRule, EntryRule, newest}
 use Rattle.meaning.specs.Meaning.{mapDescriptor, mapOwn, mapEntry}
 use Rattle.meaning.specs.Refs.{TypeRefs, ParamRefs, MethodRefs, ParentRefs, AllRefs, EntryRefs}
 use Rattle.meaning.proofs.Alls.{all-then}
 use Rattle.meaning.proofs.Maps.{map-descriptor, map-entry, descriptor-itself, itself}
 use Rattle.meaning.proofs.Refs.{refs-then}
+use Rattle.normal.specs.Minor.{newDescriptor, newOwn, newEntry}
 use Rattle.normal.specs.Encodable.{DescriptorApart, EntryApart}
 use Rattle.normal.proofs.Transfer.{descriptor-rule}
 
@@ -51,22 +53,23 @@ module _ (minor n : ℕ) where
   obeys-apart d r =
       let refs = refs-in d r in
       let r1 : DescriptorRule minor n (mapDescriptor itself d) = rw (descriptor-itself d) r in
-      descriptor-rule (λ _. 1) itself minor newest n 1 (λ z. absurd (omega arith)) d r1 (refs-then (InDirectory n) (λ _. InDirectory 1 1) (λ i _. (omega arith, omega arith)) d refs)
+      descriptor-rule (λ _. 1) itself minor newest n 1 (λ z. absurd (omega arith)) d r1 (refs-then (InDirectory n) (λ _. InDirectory 1 1) (λ i _. (omega arith, omega arith)) d refs) (λ _. omega arith)
 
   pub entry-obeys-apart : (e : Entry ℕ) → EntryRule minor n e → EntryApart e
   unfolding mapEntry mapOwn
   entry-obeys-apart (entry (key v w) i none) r = r
   entry-obeys-apart (entry (key v w) i (some d)) r = (r .0, r .1, (r .2 .0, obeys-apart d (r .2 .1)))
 
--- ---- and back, in a directory of m entries
+-- ---- and back, in a directory of m entries and under any minor but 0 that has what is used
 
-pub apart-obeys : {R : Type 0} (f : R → ℕ) (m : ℕ) (d : Descriptor R) → DescriptorApart d → AllRefs (λ r. InDirectory m (f r)) d → DescriptorRule newest m (mapDescriptor f d)
-apart-obeys f m d r a = descriptor-rule f (λ _. 1) newest newest 1 m (λ z. z) d r a
+module _ {R : Type 0} (f : R → ℕ) (minor m : ℕ) (above : 1 ≤ minor) where
+  apart-obeys : (d : Descriptor R) → DescriptorApart d → AllRefs (λ r. InDirectory m (f r)) d → (newDescriptor d ≡ true → 2 ≤ minor) → DescriptorRule minor m (mapDescriptor f d)
+  apart-obeys d r a k = descriptor-rule f (λ _. 1) newest minor 1 m (λ z. absurd (omega arith)) d r a k
 
-pub entry-apart-obeys : {R : Type 0} (f : R → ℕ) (m : ℕ) (u : Entry R) → EntryApart u → EntryRefs (λ r. InDirectory m (f r)) u → EntryRule newest m (mapEntry f u)
-unfolding mapEntry mapOwn
-entry-apart-obeys f m (entry (key v w) i none) r a = r
-entry-apart-obeys f m (entry (key v w) i (some d)) r a = (r .0, r .1, (r .2 .0, apart-obeys f m d (r .2 .1) a))
+  pub entry-apart-obeys : (u : Entry R) → EntryApart u → EntryRefs (λ r. InDirectory m (f r)) u → (newEntry u ≡ true → 2 ≤ minor) → EntryRule minor m (mapEntry f u)
+  unfolding mapEntry mapOwn newEntry newOwn entryDescriptor
+  entry-apart-obeys (entry (key v w) i none) r a k = r
+  entry-apart-obeys (entry (key v w) i (some d)) r a k = (r .0, r .1, (r .2 .0, apart-obeys d (r .2 .1) a k))
 
 -- ---- whatever the references are
 

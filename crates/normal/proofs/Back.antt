@@ -1,6 +1,7 @@
 -- The normal form reads back.
 -- Assumes nothing.
 use mathlib.Core.Path.{_≡_, refl, sym, ap, _∙_, subst}
+use mathlib.Core.Bool.{true}
 use mathlib.Core.List.{List, [], _∷_}
 use Prim.Native.Nat.{ℕ, _≤_}
 use native.Mathlib.Omega.{arith}
@@ -20,12 +21,13 @@ use Rattle.meaning.proofs.Refs.{entry-then}
 use Rattle.meaning.proofs.Indexes.{index-range, length-renumbered, meaning-renumbered}
 use Rattle.meaning.proofs.Maps.{itself}
 use Rattle.normal.specs.Size.{normalLength}
-use Rattle.normal.specs.Normal.{minorOf, normalHeader, fileBytes, normalForm, normalTypelib}
+use Rattle.normal.specs.Minor.{newEntry, minorOf}
+use Rattle.normal.specs.Normal.{normalHeader, fileBytes, normalForm, normalTypelib}
 use Rattle.normal.specs.Ranged.{RangedEntry}
 use Rattle.normal.specs.Encodable.{Sound, Encodable, Readable}
 use Rattle.normal.proofs.Lengths.{length-normal}
 use Rattle.normal.proofs.Files.{file-shows, directory-none, directory-at, header-count, header-pool, length-parts}
-use Rattle.normal.proofs.Minors.{minor-most, minor-legal, header-minor}
+use Rattle.normal.proofs.Minors.{minor-range, minor-serves, header-minor}
 use Rattle.normal.proofs.Small.{file-bytes}
 use Rattle.normal.proofs.Mapped.{normal-length, header-mapped, normal-file}
 use Rattle.normal.proofs.Ranges.{ranged-entry}
@@ -47,11 +49,17 @@ module _ (us : List (Entry Key)) (enc : Encodable us) where
   unfolding renumbered
   encodable-rules =
       all-map (mapEntry ix) Good (EntryRule (minorOf us) (length us))
-      (λ u f. minor-legal us (length us) (mapEntry ix u) (entry-apart-obeys ix (length us) u (f .0 .rule) (entry-then Among There (λ k l. (index-range (keysOf us) k .0, l)) u (f .1)))) us
-      (all-both Sound (EntryRefs Among) Good (λ u a b. (a, b)) us (enc .each) (enc .closed))
+      (λ u f. entry-apart-obeys ix (minorOf us) (length us) (minor-range us .0) u (f .0 .0 .rule) (entry-then Among There (λ k l. (index-range (keysOf us) k .0, l)) u (f .0 .1)) (f .1)) us
+      (all-both Closed Served Good (λ u a b. (a, b)) us (all-both Sound (EntryRefs Among) Closed (λ u a b. (a, b)) us (enc .each) (enc .closed)) (minor-serves us))
     where
+      Closed : Entry Key → Type 0
+      Closed u = Sound u × EntryRefs Among u
+
+      Served : Entry Key → Type 0
+      Served u = newEntry u ≡ true → 2 ≤ minorOf us
+
       Good : Entry Key → Type 0
-      Good u = Sound u × EntryRefs Among u
+      Good u = Closed u × Served u
 
   encodable-ranged : All RangedEntry (renumbered us)
   unfolding renumbered
@@ -90,7 +98,7 @@ module _ (us : List (Entry Key)) (enc : Encodable us) where
       record {
         short = omega (arith, enc .short);
         few = omega (arith, enc .few);
-        known = omega (arith, header-minor us, minor-most us);
+        known = omega (arith, header-minor us, minor-range us .1);
         low = omega arith;
         inside = omega arith;
         absent = λ z. directory-none us (omega arith);

@@ -1,4 +1,4 @@
--- P1, P2 and P3 meet what read-back asks, so each is accepted with the meaning whose normal form it is.
+-- P1, P2 and P3 meet what read-back asks, so each is accepted with the meaning whose normal form it is; an interface with a tag of minor 2 meets it too.
 -- Assumes nothing.
 use mathlib.Core.Path.{_≡_, refl, sym}
 use mathlib.Core.Logic.{inl, inr}
@@ -8,24 +8,26 @@ use Prim.Native.Nat.{ℕ, zero, suc, _^_, _≤_}
 use native.Mathlib.Bridge.{le-by-compare, IsLe}
 use native.Mathlib.Omega.{arith}
 use lib.ListN.{length, getD}
-use Rattle.number.specs.Choice.{if_then_else_, _<?_, _=?_}
+use Rattle.number.specs.Choice.{if_then_else_, _<?_, _≤?_, _=?_}
 use Rattle.key.specs.Key.{Key}
 use Rattle.reading.specs.Got.{got}
-use Rattle.reader.specs.Values.{parentOf, Entry}
-use Rattle.reader.specs.Rules.{isIdentifier, InOrder, UniqueKeys}
+use Rattle.reader.specs.Values.{simple, prefix, param, paramFlags, paramType, signature, Method, method, methodFlags, methodName, methodsOf, parentOf, Entry, entryDescriptor}
+use Rattle.reader.specs.Rules.{isIdentifier, GetterPairs, InOrder, UniqueKeys}
 use Rattle.reader.specs.Reader.{decode}
 use Rattle.reader.specs.Reader.Laws.{identifier-exactly}
-use Rattle.meaning.specs.Meaning.{mapParent, mapDescriptor, mapOwn, mapEntry}
+use Rattle.meaning.specs.Meaning.{mapTy, mapParam, mapSignature, mapMethod, mapParent, mapDescriptor, mapOwn, mapEntry}
 use Rattle.meaning.specs.Index.{renumbered}
 use Rattle.meaning.specs.Chain.{parentRef}
 use Rattle.meaning.proofs.Indexes.{length-renumbered}
 use Rattle.meaning.proofs.Chains.{chains-end}
-use Rattle.normal.specs.Size.{sum, valueWidth, constantSize, descriptorSize, nameSize, methodNameSize, constantName, constantNameSize, namesSize, spaceSize, ownSize, entrySize, entryLength, normalLength}
+use Rattle.facts.specs.Conditions.{anyOf}
+use Rattle.normal.specs.Size.{sum, typeSize, paramSize, methodSize, valueWidth, constantSize, descriptorSize, nameSize, methodNameSize, constantName, constantNameSize, namesSize, spaceSize, ownSize, entrySize, entryLength, normalLength}
+use Rattle.normal.specs.Minor.{prefixesOf, paramsOf, newTag, newPrefix, newType, newParam, newMethod, newDescriptor, newOwn, newEntry, minorOf}
 use Rattle.normal.specs.Normal.{normalTypelib}
 use Rattle.normal.specs.Encodable.{Sound, Encodable, Readable}
 use Rattle.normal.proofs.Back.{read-back}
 use Rattle.reader.specs.Reader.Marked.{P1, P2, P3}
-use Rattle.normal.proofs.Examples.{tank, withConstant, marked}
+use Rattle.normal.proofs.Examples.{tank, withConstant, withString, marked}
 
 -- ---- at most one entry, without parent
 
@@ -98,6 +100,71 @@ unfolding withConstant parentRef parentOf normalLength sum entryLength entrySize
 readable-constant = readable-one (withConstant ∷ []) (omega arith) withConstant parents (record { few = omega arith; short = omega arith; each = (sound-constant, tt); closed = ((tt, tt), tt) })
   where
     parents : (i : ℕ) → parentRef (getD (withConstant ∷ []) i withConstant) ≡ none
+    parents zero = refl
+    parents (suc i) = refl
+
+sound-string : Sound withString
+unfolding withString mapEntry mapOwn mapDescriptor mapParent mapMethod mapSignature mapParam mapTy methodFlags paramFlags paramType prefix isIdentifier if_then_else_ _<?_ _=?_ IsLe
+sound-string = record {
+  rule = (
+    identifier-exactly (0x41 ∷ []) .0 refl,
+    inl refl,
+    (
+      λ e. omega arith,
+      record {
+        parent = tt;
+        fewMethods = omega arith;
+        methods = (
+          (
+            refl,
+            identifier-exactly (0x6d ∷ []) .0 refl,
+            record {
+              arguments = tt;
+              result = (
+                record {
+                  flags = record { reserved = refl; dipper = λ z. refl };
+                  type = record { known = inr ((omega arith, omega arith), omega arith); astring = λ e z. omega arith; unique = λ _. omega arith; reference = λ _. omega arith; pointer = λ _. omega arith };
+                  nested = omega arith;
+                },
+                refl,
+                refl,
+              );
+              numbers = tt;
+              resultNumbers = tt;
+              resultKind = inl refl;
+            },
+          ),
+          tt,
+        );
+        fewConstants = omega arith;
+        constants = tt;
+        reserved = refl;
+        function = λ z. refl;
+        constructors = λ i j l m x y. omega arith;
+        pairs = pairs;
+      },
+    ),
+  );
+  ranged = (le-by-compare 2 (256 ^ 16) tt, (((omega arith, omega arith, tt, (omega arith, (omega arith, inr (omega arith, omega arith)))), tt), tt, omega arith));
+}
+  where
+    one : List (Method ℕ)
+    one = method 0x20 (0x6d ∷ []) (signature [] (param 0 (simple 0x97))) ∷ []
+
+    -- it is no getter
+    pairs : GetterPairs one
+    pairs zero j l m x y q = absurd (omega arith)
+    pairs (suc i) j l m x y q = absurd (omega arith)
+
+pub string-minor : minorOf (withString ∷ []) ≡ 2
+unfolding withString anyOf if_then_else_ _≤?_ entryDescriptor methodsOf paramType prefixesOf paramsOf newTag newPrefix newType newParam newMethod newDescriptor newOwn newEntry minorOf
+string-minor = refl
+
+pub readable-string : Readable (withString ∷ [])
+unfolding withString parentRef parentOf normalLength sum entryLength entrySize nameSize spaceSize ownSize descriptorSize methodSize paramSize typeSize namesSize methodNameSize methodName constantNameSize
+readable-string = readable-one (withString ∷ []) (omega arith) withString parents (record { few = omega arith; short = omega arith; each = (sound-string, tt); closed = ((tt, ((tt, tt), tt)), tt) })
+  where
+    parents : (i : ℕ) → parentRef (getD (withString ∷ []) i withString) ≡ none
     parents zero = refl
     parents (suc i) = refl
 

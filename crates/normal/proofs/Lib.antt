@@ -4,6 +4,7 @@ pub mod Shows
 pub mod Descriptors
 pub mod Entries
 pub mod Files
+pub mod Anys
 pub mod Minors
 pub mod Small
 pub mod Transfer

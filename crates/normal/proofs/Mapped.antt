@@ -1,22 +1,25 @@
 -- Sizes are free of the references, and the bytes of a record whose references were mapped are those of the record, with the maps in turn.
 -- Assumes nothing.
 use mathlib.Core.Path.{_≡_, refl, sym, ap, _∙_}
-use mathlib.Core.List.{List, [], _∷_, _++_, map}
+use mathlib.Core.List.{List, [], _∷_, _++_, map, map-append}
 use mathlib.Core.Option.{Option, none, some}
 use Prim.Native.Nat.{ℕ, _+_, _*_}
 use lib.ListN.{length, length-map}
 use Rattle.number.specs.Choice.{if_then_else_, _=?_}
 use Rattle.key.specs.Key.{Key, key}
-use Rattle.reader.specs.Values.{Ty, simple, interface, interfaceIs, array, sized, Param, param, signature, Method, method, methodName, Descriptor, descriptor, Entry, entry}
+use Rattle.reader.specs.Values.{Ty, simple, interface, interfaceIs, array, sized, Param, param, paramType, signature, Method, method, methodName, Descriptor, descriptor, methodsOf, Entry, entry, entryDescriptor}
 use Rattle.reader.specs.Rules.{All}
 use Rattle.meaning.specs.Meaning.{mapTy, mapParam, mapSignature, mapMethod, mapParent, mapDescriptor, mapOwn, mapEntry}
 use Rattle.meaning.specs.Index.{keysOf, indexOf, renumbered}
 use Rattle.meaning.specs.Refs.{AllRefs, EntryRefs}
 use Rattle.meaning.proofs.Maps.{itself, descriptor-agrees, entry-agrees, entries-agree}
+use Rattle.facts.specs.Conditions.{anyOf}
 use Rattle.normal.specs.BigEndian.{bytesOf}
 use Rattle.normal.specs.Size.{sum, typeSize, paramSize, methodSize, constantSize, descriptorSize, methodNameSize, constantNameSize, namesSize, nameSize, spaceSize, ownSize, entrySize, entryLength, normalLength}
 use Rattle.normal.specs.Record.{run, typeBytes, paramBytes, methodBytes, nameAfter, methodsBytes, constantsBytes, parentNumber, constantsFrom, descriptorBytes, methodNameBytes, constantNameBytes, namesBytes, nameBytes}
-use Rattle.normal.specs.Normal.{ownFrom, namesFrom, spaceFrom, spaceBytes, ownBytes, entryPool, poolBytes, spacePointer, ownPointer, entryBytes, directoryBytes, minorOf, normalHeader, headerBytes, noteBytes, fileBytes, normalForm}
+use Rattle.normal.specs.Minor.{prefixesOf, paramsOf, newPrefix, newType, newParam, newMethod, newDescriptor, newOwn, newEntry, minorOf}
+use Rattle.normal.specs.Normal.{ownFrom, namesFrom, spaceFrom, spaceBytes, ownBytes, entryPool, poolBytes, spacePointer, ownPointer, entryBytes, directoryBytes, normalHeader, headerBytes, noteBytes, fileBytes, normalForm}
+use Rattle.normal.proofs.Anys.{any-mapped}
 
 -- ---- lists
 
@@ -177,9 +180,42 @@ module _ {R S : Type 0} (g : R → S) where
       = ap (λ (n : ℕ). directoryBytes (q + n) (map (mapEntry g) us)) (entry-size g u) ∙ directory-bytes (q + entrySize u) us in
       λ i. entry-bytes q u i ++ e i
 
+  prefixes-mapped : (t : Ty R) → prefixesOf (mapTy g t) ≡ prefixesOf t
+  unfolding prefixesOf mapTy
+  prefixes-mapped (simple b) = refl
+  prefixes-mapped (interface b r) = refl
+  prefixes-mapped (interfaceIs b a) = refl
+  prefixes-mapped (array b x y t) = λ i. b ∷ prefixes-mapped t i
+  prefixes-mapped (sized b x y) = refl
+
+  param-new : (x : Param R) → newParam (mapParam g x) ≡ newParam x
+  unfolding newParam newType mapParam paramType
+  param-new (param h t) = λ i. anyOf newPrefix (prefixes-mapped t i)
+
+  params-mapped : (m : Method R) → paramsOf (mapMethod g m) ≡ map (mapParam g) (paramsOf m)
+  unfolding paramsOf mapMethod mapSignature
+  params-mapped (method h w (signature ps r)) = sym (map-append (mapParam g) ps (r ∷ []))
+
+  method-new : (m : Method R) → newMethod (mapMethod g m) ≡ newMethod m
+  unfolding newMethod
+  method-new m = ap (anyOf newParam) (params-mapped m) ∙ any-mapped (mapParam g) newParam newParam param-new (paramsOf m)
+
+  descriptor-new : (d : Descriptor R) → newDescriptor (mapDescriptor g d) ≡ newDescriptor d
+  unfolding newDescriptor methodsOf mapDescriptor
+  descriptor-new (descriptor up ms ks h) = any-mapped (mapMethod g) newMethod newMethod method-new ms
+
+  pub own-new : (d : Option (Descriptor R)) → newOwn (mapOwn g d) ≡ newOwn d
+  unfolding newOwn mapOwn
+  own-new none = refl
+  own-new (some d) = descriptor-new d
+
+  entry-new : (u : Entry R) → newEntry (mapEntry g u) ≡ newEntry u
+  unfolding newEntry entryDescriptor mapEntry
+  entry-new (entry k j d) = own-new d
+
   pub minor-mapped : (us : List (Entry R)) → minorOf (map (mapEntry g) us) ≡ minorOf us
   unfolding minorOf
-  minor-mapped us = refl
+  minor-mapped us = λ i. if any-mapped (mapEntry g) newEntry newEntry entry-new us i then 2 else 1
 
   pub header-mapped : (us : List (Entry R)) → normalHeader (map (mapEntry g) us) ≡ normalHeader us
   unfolding normalHeader

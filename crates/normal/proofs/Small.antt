@@ -18,7 +18,7 @@ use Rattle.normal.specs.Size.{valueWidth, constantName, entrySize, norma
 use Rattle.normal.specs.Record.{run, typeBytes, paramBytes, methodBytes, nameAfter, methodsBytes, constantBytes, constantsBytes, parentNumber, constantsFrom, descriptorBytes, nameBytes, methodNameBytes, constantNameBytes, namesBytes}
 use Rattle.normal.specs.Normal.{spaceFrom, ownFrom, namesFrom, spaceBytes, ownBytes, entryPool, poolBytes, spacePointer, ownPointer, entryBytes, directoryBytes, normalHeader, headerBytes, noteBytes, fileBytes}
 use Rattle.normal.specs.Ranged.{RangedType, RangedParam, RangedMethod, Ranged, RangedOwn, RangedEntry}
-use Rattle.normal.proofs.Minors.{minor-most, header-minor}
+use Rattle.normal.proofs.Minors.{minor-range, header-minor}
 
 -- ---- lists
 
@@ -172,4 +172,4 @@ small-note = cons-small 128 (omega arith) (cons-small 0 (omega arith) (cons-smal
 pub file-bytes : (us : List (Entry ℕ)) (minor : ℕ) → All RangedEntry us → All (EntryRule minor (length us)) us → Bytes (fileBytes itself us)
 unfolding fileBytes
 file-bytes us minor g r =
-    join (join (join (small-header (normalHeader us) (normalLength us) (omega (arith, header-minor us, minor-most us))) small-note) (small-directory 1 us)) (small-pool minor (length us) 1 us g r)
+    join (join (join (small-header (normalHeader us) (normalLength us) (omega (arith, header-minor us, minor-range us .1))) small-note) (small-directory 1 us)) (small-pool minor (length us) 1 us g r)

@@ -13,6 +13,7 @@ use Rattle.meaning.specs.Index.{keysOf, indexOf, renumbered}
 use Rattle.normal.specs.BigEndian.{bytesOf}
 use Rattle.normal.specs.Size.{descriptorSize, spaceSize, entrySize, normalLength}
 use Rattle.normal.specs.Record.{nameAfter, descriptorBytes, nameBytes, namesBytes}
+use Rattle.normal.specs.Minor.{minorOf}
 
 -- ---- where the parts of an entry lie, its part of the pool starting at the pool pointer q
 
@@ -69,11 +70,7 @@ directoryBytes q (u ∷ us) = entryBytes q u ++ directoryBytes (q + entrySize u)
 
 -- ---- the file
 
--- the minor version that a meaning is written with
-unfoldable pub minorOf : {R : Type 0} → List (Entry R) → ℕ
-minorOf us = 1
-
--- directory at 36, field 0 when n = 0; pool at 36 + 28n
+-- the minor that the entries need; directory at 36, field 0 when n = 0; pool at 36 + 28n
 unfoldable pub normalHeader : {R : Type 0} → List (Entry R) → Header
 normalHeader us = record {
   minor = minorOf us;

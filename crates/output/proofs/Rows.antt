@@ -115,11 +115,11 @@ module _ (s pool : List ℕ) (l : Layout) (s2 pool2 : List ℕ) (l2 : Layout) (x
       unfolding rowOwn countedOf
       own-file d z = held-some (countedOf (x .first) (x .second)) t i e ∙ ap (mapOwn (referenceIn (length (x .first)) i)) z
 
-      own-first : i < l .count → rowOwn x t ≡ mapOwn (referenceIn (length (x .first)) i) (descriptorIn (x .first) i)
+      pub own-first : i < l .count → rowOwn x t ≡ mapOwn (referenceIn (length (x .first)) i) (descriptorIn (x .first) i)
       unfolding descriptorOfRow descriptorIn
       own-first b = own-file (descriptorIn (x .first) i) (ap entryDescriptor (row-first (x .first) (x .second) i (omega (arith, counts))))
 
-      own-second : l .count ≤ i → rowOwn x t ≡ mapOwn (referenceIn (length (x .first)) i) (descriptorIn (x .second) (i - l .count))
+      pub own-second : l .count ≤ i → rowOwn x t ≡ mapOwn (referenceIn (length (x .first)) i) (descriptorIn (x .second) (i - l .count))
       unfolding descriptorOfRow descriptorIn
       own-second b =
           let e = counts in

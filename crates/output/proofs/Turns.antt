@@ -9,11 +9,10 @@ use lib.Seq.{sets}
 use Rattle.number.specs.Choice.{if_then_else_, _=?_}
 use Rattle.decimal.proofs.Stores.{follow, chain, length-kept}
 use Rattle.reader.specs.Values.{Entry}
-use Rattle.reader.specs.Rules.{newest}
 use Rattle.normal.specs.Size.{sum, ownSize, entrySize, normalLength}
-use Rattle.normal.specs.Normal.{ownBytes, entryPool, poolBytes, entryBytes, directoryBytes, minorOf, normalHeader, headerBytes, noteBytes, fileBytes}
+use Rattle.normal.specs.Minor.{minorOf}
+use Rattle.normal.specs.Normal.{ownBytes, entryPool, poolBytes, entryBytes, directoryBytes, normalHeader, headerBytes, noteBytes, fileBytes}
 use Rattle.normal.proofs.Lengths.{length-entry, length-directory, length-pool}
-use Rattle.normal.proofs.Minors.{minor-newest}
 use Rattle.iids.specs.Cells.{cell}
 use Rattle.iids.specs.Numbers.{wide, numberIn}
 use Rattle.writing.proofs.Lent.{rest, back, lent}
@@ -198,21 +197,21 @@ module _ (place : List ℕ) (x : Pair) (iid holder : ℕ → ℕ) (t : List ℕ)
   abbrev all : List (Entry ℕ)
   all = viewEntries x iid holder t c
 
-  front-is : frontBytes newest c (viewLength x iid holder t c) ≡ headerBytes (normalHeader all) (normalLength all) ++ noteBytes
-  unfolding frontBytes frontHeader directoryAt normalHeader viewLength
-  front-is =
-      let e : c ≡ length all = sym (length-entries x iid holder t c) in
-      let m : newest ≡ minorOf all = sym (minor-newest all) in
-      (λ i. headerBytes (record { minor = m i; count = e i; directory = if e i =? 0 then 0 else 36; pool = 36 + 28 * e i }) (normalLength all) ++ noteBytes)
+  module _ (minor : ℕ) (m : minor ≡ minorOf all) where
+    front-is : frontBytes minor c (viewLength x iid holder t c) ≡ headerBytes (normalHeader all) (normalLength all) ++ noteBytes
+    unfolding frontBytes frontHeader directoryAt normalHeader viewLength
+    front-is =
+        let e : c ≡ length all = sym (length-entries x iid holder t c) in
+        (λ i. headerBytes (record { minor = m i; count = e i; directory = if e i =? 0 then 0 else 36; pool = 36 + 28 * e i }) (normalLength all) ++ noteBytes)
 
-  pub file-stored : (l l₁ l₂ : List ℕ) (end : ℕ) → end ≡ viewLength x iid holder t c → l₁ ≡ sets l 36 (directoryBytes 1 all ++ poolBytes (placeOf place) 1 all) → l₂ ≡ sets l₁ 0 (frontBytes newest c end) → l₂ ≡ sets l 0 (viewBytes place x iid holder t c)
-  unfolding viewBytes fileBytes
-  file-stored l l₁ l₂ end z e f =
-      let F : List ℕ = frontBytes newest c end in
-      let D : List ℕ = directoryBytes 1 all in
-      let Q : List ℕ = poolBytes (placeOf place) 1 all in
-      let n : length F ≡ 36 = length-front newest c end in
-      f ∙ ap (λ (y : List ℕ). sets y 0 F) e
-      ∙ sym (sets-comm (D ++ Q) F l 0 36 (omega (arith, n)))
-      ∙ follow F (D ++ Q) l 0 36 (omega (arith, n))
-      ∙ ap (sets l 0) (sym (append-assoc F D Q) ∙ ap (λ (y : List ℕ). y ++ D ++ Q) (ap (frontBytes newest c) z ∙ front-is))
+    pub file-stored : (l l₁ l₂ : List ℕ) (end : ℕ) → end ≡ viewLength x iid holder t c → l₁ ≡ sets l 36 (directoryBytes 1 all ++ poolBytes (placeOf place) 1 all) → l₂ ≡ sets l₁ 0 (frontBytes minor c end) → l₂ ≡ sets l 0 (viewBytes place x iid holder t c)
+    unfolding viewBytes fileBytes
+    file-stored l l₁ l₂ end z e f =
+        let F : List ℕ = frontBytes minor c end in
+        let D : List ℕ = directoryBytes 1 all in
+        let Q : List ℕ = poolBytes (placeOf place) 1 all in
+        let n : length F ≡ 36 = length-front minor c end in
+        f ∙ ap (λ (y : List ℕ). sets y 0 F) e
+        ∙ sym (sets-comm (D ++ Q) F l 0 36 (omega (arith, n)))
+        ∙ follow F (D ++ Q) l 0 36 (omega (arith, n))
+        ∙ ap (sets l 0) (sym (append-assoc F D Q) ∙ ap (λ (y : List ℕ). y ++ D ++ Q) (ap (frontBytes minor c) z ∙ front-is))

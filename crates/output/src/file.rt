@@ -14,6 +14,7 @@ ghost use Rattle.output.specs.View.{entryOf, viewEntries, Viewed, placeO
 use crate::index;
 use crate::keys::put_row_key;
 use crate::keys::row_parts;
+use crate::minor::view_minor;
 use crate::own::put_row_own;
 use crate::own::row_own_size;
 use entries::front::put_front;
@@ -22,7 +23,6 @@ use number::ENTRY_WIDTH;
 use number::FILE_LIMIT;
 use number::ROW_LIMIT;
 use reader::Layout;
-use reader::NEWEST;
 
 // What stands for every length over the limit.
 const TOO_LONG: usize = FILE_LIMIT + 1;
@@ -167,6 +167,7 @@ pub fn put_file(
         c,
         out,
     );
-    put_front(NEWEST, c, end, out);
+    let minor = view_minor(a, pool, l, b, pool2, l2, t, holders, c);
+    put_front(minor, c, end, out);
     end
 }

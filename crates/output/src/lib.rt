@@ -4,6 +4,7 @@ ghost use mathlib.Core.Path.{_≡_};
 
 pub mod file;
 mod keys;
+mod minor;
 mod own;
 
 fn index(x: u16) -> usize
