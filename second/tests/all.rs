@@ -164,6 +164,15 @@ fn normal_forms() {
     let other = Typelib { junk: 3, pool_gap: 5, tail: 9, ..rich(1, Order::NamesFirst) };
     assert_eq!(written(&[&other.bytes()]), Ok(form.clone()));
     assert_eq!((form[17], written(&[&form])), (1, Ok(form.clone())));
+    let other = Typelib { minor: 2, ..rich(1, Order::NamesFirst) }.bytes();
+    assert_eq!(written(&[&other]), Ok(form.clone()));
+    // The tags of minor 2 are written as such, also where only one of two files has them.
+    let newer = written(&[&rich(2, Order::Shuffled).bytes()]).unwrap();
+    assert_eq!((newer[17], written(&[&newer])), (2, Ok(newer.clone())));
+    for files in [[&newer, &marked()[1]], [&marked()[1], &newer]] {
+        assert_eq!(written(&files.map(|file| &file[..])).unwrap()[17], 2);
+    }
+    assert_eq!(written(&[&form, &newer]), Err("refused 23 5".to_string()));
     // Zero IIDs by namespace, then name: default first, a prefix before the longer.
     let keys = [("", "A"), ("", "AA"), ("", "_"), ("", "a"), ("Z", "a"), ("a", "b"), ("aa", "A")];
     let of = |keys: &mut dyn Iterator<Item = &(&str, &str)>| {
@@ -316,5 +325,5 @@ fn what_is_told_and_counted() {
     assert_eq!([[3, 3, 1, 1], [4, 3, 1, 1], [3, 4, 1, 1], [3, 3, 2, 1]].map(short), [0, 1, 1, 1]);
     let parts =
         ["compare", "checks", "questions", "lists", "links", "listings", "batches", "alone"];
-    assert_eq!(parts.map(|part| floors(part).len()).iter().sum::<usize>(), 906);
+    assert_eq!(parts.map(|part| floors(part).len()).iter().sum::<usize>(), 921);
 }

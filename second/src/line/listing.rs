@@ -57,7 +57,7 @@ fn count(tally: &mut Tally, made: &'static str, input: &[u8]) {
 fn marked() -> Vec<Vec<u8>> {
     let [p1, p2, p3] = generate::marked();
     let mut all = vec![p1.clone(), p2, p3.clone(), p3[..81].to_vec(), p1[..31].to_vec()];
-    let changes = [(17, &[2][..]), (66, &[0, 1]), (66, &[0, 2]), (76, &[3]), (79, &[0x81])];
+    let changes = [(17, &[3][..]), (66, &[0, 1]), (66, &[0, 2]), (76, &[3]), (79, &[0x81])];
     for (at, new) in changes.into_iter().chain([(36, &[0; 16][..])]) {
         all.push([&p3[..at], new, &p3[at + new.len()..]].concat());
     }

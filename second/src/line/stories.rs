@@ -18,7 +18,7 @@ pub fn good(rng: &mut Rng) -> Vec<u8> {
         }
         1 => {
             let order = *rng.pick(&[Order::Entries, Order::NamesFirst, Order::Shuffled]);
-            generate::rich(rng.below(2) as u8, order).bytes()
+            generate::rich(generate::minor(rng), order).bytes()
         }
         2 => rng.pick(&generate::marked()).clone(),
         3..6 => generate::random(rng, generate::SMALL).bytes(),

@@ -442,7 +442,8 @@ fn numbers(sink: &mut Sink) {
                 method.arguments = arguments.clone();
                 let it = if flags == 0 { &mut method.arguments[0] } else { &mut method.result };
                 it.of = Type::nested(depth, 1, POINTER | tag, tail);
-                let built = Typelib::of(vec![Method::plain(0, b"e"), method]).build();
+                let methods = vec![Method::plain(0, b"e"), method];
+                let built = Typelib { minor: MAX_MINOR, ..Typelib::of(methods) }.build();
                 let rule = (refusal::RULE, built.placed[0].methods[1]);
                 sink.built(&built, (!good).then_some(rule), "numbers");
             }
@@ -687,10 +688,11 @@ fn random_pools(rounds: usize, rng: &mut Rng, sink: &mut Sink) {
         bytes.extend_from_slice(b"A\0");
         bytes.extend([0, rng.below(3) as u8, 0, rng.below(3) as u8]);
         for _ in 0..rng.below(60) {
-            let small = [0, 0, 0, 0, 1, 1, 2, 6, 13, 14, 0x80, 0x8e, 0x92, 0x93, 0x94, 0x95, 0x40];
+            let small =
+                [0, 0, 0, 0, 1, 1, 2, 6, 13, 14, 0x80, 0x8e, 0x92, 0x93, 0x94, 0x95, 0x98, 0x40];
             bytes.push(if rng.percent(97) { *rng.pick(&small) } else { rng.byte() });
         }
-        bytes[17] = rng.below(2) as u8;
+        bytes[17] = generate::minor(rng);
         set_length(&mut bytes);
         sink.put(&bytes, None, "random pool");
     }
@@ -777,7 +779,7 @@ fn related(rng: &mut Rng, sink: &mut Sink) {
 fn all_faults(rng: &mut Rng, sink: &mut Sink) {
     for (minor, order) in [
         (1, Order::Entries),
-        (1, Order::NamesFirst),
+        (2, Order::NamesFirst),
         (1, Order::NamesLast),
         (0, Order::NamesFirst),
         (0, Order::Shuffled),

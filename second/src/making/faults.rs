@@ -329,15 +329,16 @@ impl Collector<'_> {
     fn prefix(&mut self, spot: Spot, here: Where) {
         let (old, minor) = (self.built.bytes[spot.at], self.lib.minor);
         let bits = self.rng.byte() & !TAG;
-        for tag in LAST_TAG + 1..=TAG {
-            self.byte("14 tag", here, [tag | bits, tag | old & !TAG]);
+        for tag in (UTF8STRING..=TAG).filter(|tag| is_reserved(*tag, minor)) {
+            let what = if is_newer(tag) { "14 tag of minor 2" } else { "14 tag" };
+            self.byte(what, here, [tag | bits, tag | old & !TAG]);
         }
         if is_reserved(ASTRING, minor) {
             self.byte("14 tag 15 in minor 0", here, [0, 0x80, 0x40, 0xe0].map(|b| ASTRING | b));
         }
         let prefixes = [UNIQUE, REFERENCE, UNIQUE | REFERENCE].map(|bits| old & TAG | bits);
         self.byte("16 unique or reference", here, prefixes);
-        for tag in (0..=LAST_TAG).filter(|tag| needs_pointer(*tag)) {
+        for tag in (0..=TAG).filter(|tag| needs_pointer(*tag) && !is_reserved(*tag, minor)) {
             self.byte("16 pointer needed", here, [tag, tag | bits & !POINTER]);
         }
         if usize::from(spot.more) == MAX_ARRAYS {
@@ -348,8 +349,9 @@ impl Collector<'_> {
         let free = method.flags & NOT_XPCOM != 0 || method.result.flags & RETVAL != 0;
         if spot.field == Field::ResultPrefix && !free {
             let types = [0, 4, 5, 7, 10, 12, 14, 0x80, 0x86, 0x8d, 0x8e, 0x90, 0x91, 0xe6, 0xcd];
-            let astring = (!is_reserved(ASTRING, minor)).then_some(ASTRING);
-            types.into_iter().chain(astring).for_each(|of| self.rule("16 result rule", spot, of));
+            let strings = [ASTRING, 0x97, 0x98, 0x99];
+            let strings = strings.into_iter().filter(|of| !is_reserved(of & TAG, minor));
+            types.into_iter().chain(strings).for_each(|of| self.rule("16 result rule", spot, of));
         }
     }
 

@@ -246,9 +246,13 @@ fn populate(
     descriptors
 }
 
+pub fn minor(rng: &mut Rng) -> u8 {
+    *rng.pick(&[0, 0, 0, 1, 1, 1, 1, 2, 2, 2])
+}
+
 /// A good typelib of up to the given size, in a random layout.
 pub fn random(rng: &mut Rng, size: Size) -> Typelib {
-    let minor = u8::from(rng.percent(70));
+    let minor = minor(rng);
     let n = rng.range(0, size.entries);
     let zeros = if rng.percent(50) { 0 } else { rng.range(0, n) };
     let words: Vec<_> = (0..8).map(|_| identifier(rng, size.name)).collect();
@@ -287,7 +291,7 @@ fn near_words(rng: &mut Rng) -> Vec<Vec<u8>> {
 /// all methods and constants; chains that end and chains that meet an unresolved entry.
 pub fn family(rng: &mut Rng) -> Typelib {
     let size = Size { entries: 0, methods: 4, arguments: 2, constants: 3, name: 6 };
-    let minor = u8::from(rng.percent(70));
+    let minor = minor(rng);
     let n = rng.range(1, 16);
     let zeros = if rng.percent(60) { 0 } else { rng.range(0, n / 2) };
     let incomplete = if rng.percent(40) { 0 } else { 25 };
@@ -369,7 +373,11 @@ pub fn rich(minor: u8, order: Order) -> Typelib {
         argument(IN, Type::with(POINTER | 21, [2, 5, 0])),
         argument(OUT, Type::with(POINTER | UNIQUE | 22, [5, 5, 0])),
     ];
-    let numbers = vec![simple(IN, UINT32), simple(IN, IID | POINTER)];
+    let mut numbers = vec![simple(IN, UINT32), simple(IN, IID | POINTER)];
+    if minor == 2 {
+        numbers.push(argument(IN, Type::nested(1, 0, POINTER | UTF8STRING, [0; 3])));
+        numbers.push(simple(OUT | RETVAL, POINTER | LAST_TAG));
+    }
     let other = Parameter::new(0, Type::nested(8, 0, POINTER | INTERFACE_IS, [1, 0, 0]));
     let interface = Parameter::new(RETVAL, Type::with(POINTER | INTERFACE, [0, 4, 0]));
     let value = |flags: u8| vec![simple(flags, 10)];

@@ -110,10 +110,25 @@ pub fn index_of(of: &Type) -> usize {
 /// The indexes that a descriptor holds, without a parent of 0.
 pub fn references(d: &Descriptor) -> Vec<usize> {
     let mut all = Vec::from_iter((d.parent != 0).then_some(usize::from(d.parent)));
-    let parameters = d.methods.iter().flat_map(|m| m.arguments.iter().chain([&m.result]));
-    let interfaces = parameters.map(|p| &p.of).filter(|of| of.leaf & TAG == INTERFACE);
+    let interfaces = parameters(d).map(|p| &p.of).filter(|of| of.leaf & TAG == INTERFACE);
     all.extend(interfaces.map(index_of));
     all
+}
+
+/// The parameters of a descriptor, results too.
+pub fn parameters(d: &Descriptor) -> impl Iterator<Item = &Parameter> {
+    d.methods.iter().flat_map(|method| method.arguments.iter().chain([&method.result]))
+}
+
+/// The least minor version in which these contents may stand.
+pub fn least_minor(lib: &Typelib) -> u8 {
+    let all = || lib.descriptors.iter().flat_map(parameters);
+    let has = |minor: u8| {
+        lib.descriptors.iter().all(|d| d.flags & reserved_in_interface(minor) == 0)
+            && all().all(|p| p.flags & reserved_in_parameter(minor) == 0)
+            && all().all(|p| !is_reserved(p.of.leaf & TAG, minor))
+    };
+    (0..MAX_MINOR).find(|minor| has(*minor)).unwrap_or(MAX_MINOR)
 }
 
 /// Whether two accepted files mean the same: the same entries with the same IIDs and descriptors.

@@ -1,6 +1,6 @@
 //! Files to be linked. Those of one world agree with one another; then conflicts are put in.
 
-use super::model::{descriptor, index_of, key, references, renumbered};
+use super::model::{descriptor, index_of, key, least_minor, references, renumbered};
 use super::{builder::*, generate, generate::index_tail, hostile::sharing, rng::Rng};
 use crate::program::check::check;
 use crate::tally::numbered;
@@ -118,16 +118,17 @@ fn view_with(world: &Typelib, rng: &mut Rng, full: &[usize], some: &[usize]) -> 
 
 /// The same contents in another layout.
 fn laid_out(lib: &Typelib, rng: &mut Rng) -> Typelib {
-    let minor = if lib.minor == 0 { rng.below(2) as u8 } else { 1 };
     let (entries, descriptors) = (lib.entries.clone(), lib.descriptors.clone());
-    Typelib { entries, descriptors, ..generate::layout(rng, minor) }
+    Typelib { entries, descriptors, ..generate::layout(rng, lib.minor) }
 }
 
-/// These entries, by IID; those of zero IID in any order.
+/// These entries, by IID; those of zero IID in any order. The minor version is one that will do.
 fn shuffled(lib: &Typelib, mut order: Vec<usize>, rng: &mut Rng) -> Typelib {
     rng.shuffle(&mut order);
     order.sort_by_key(|i| lib.entries[*i].iid);
-    reordered(lib, &order)
+    let lib = reordered(lib, &order);
+    let minor = rng.range(least_minor(&lib).into(), MAX_MINOR.into()) as u8;
+    Typelib { minor, ..lib }
 }
 
 /// The same meaning in another layout: entries of zero IID in another order, records elsewhere.
@@ -137,7 +138,7 @@ pub fn relaid(lib: &Typelib, rng: &mut Rng) -> Typelib {
 
 /// An empty typelib, not only P1.
 pub fn empty(rng: &mut Rng) -> Typelib {
-    let minor = rng.below(2) as u8;
+    let minor = generate::minor(rng);
     generate::layout(rng, minor)
 }
 
@@ -333,6 +334,7 @@ fn another_descriptor(first: &Typelib, second: &mut Typelib, rng: &mut Rng) -> M
     let mut d = descriptor(second, j + 1).clone();
     let made = change(&mut d, n, rng)?;
     second.resolve(j, d);
+    second.minor = second.minor.max(least_minor(second));
     Some(made)
 }
 
@@ -366,6 +368,11 @@ fn change(d: &mut Descriptor, n: usize, rng: &mut Rng) -> Made {
     if methods == 0 {
         return None;
     }
+    if kind == 13 || kind == 14 {
+        if let Some(made) = change_strings(d, rng) {
+            return Some(made);
+        }
+    }
     let at = rng.below(methods);
     let m = &mut d.methods[at];
     let parameters = m.arguments.len() + 1;
@@ -396,6 +403,16 @@ fn change(d: &mut Descriptor, n: usize, rng: &mut Rng) -> Made {
         }
     };
     Some(made)
+}
+
+/// Gives the first string of a class another class.
+fn change_strings(d: &mut Descriptor, rng: &mut Rng) -> Made {
+    let all = d.methods.iter_mut().flat_map(|m| m.arguments.iter_mut().chain([&mut m.result]));
+    let classes = [ASTRING, UTF8STRING, 24, LAST_TAG];
+    let leaf = all.map(|p| &mut p.of.leaf).find(|leaf| classes.contains(&(**leaf & TAG)))?;
+    let others = classes.into_iter().filter(|tag| *tag != *leaf & TAG);
+    *leaf = POINTER | *rng.pick(&others.collect::<Vec<_>>());
+    Some("another class of strings")
 }
 
 fn change_constant(constants: &mut Vec<Constant>, kind: usize, rng: &mut Rng) -> Made {

@@ -127,12 +127,20 @@ impl Shapes {
             let most = d.methods.iter().map(|method| method.arguments.len()).max();
             self.add(most == Some(255), "255 arguments");
         }
-        let methods = lib.descriptors.iter().flat_map(|d| &d.methods);
-        let parameters = methods.flat_map(|m| m.arguments.iter().chain([&m.result]));
-        let most = parameters.map(|p| p.of.arrays.len()).max().unwrap_or(0);
+        let all = || lib.descriptors.iter().flat_map(model::parameters);
+        let most = all().map(|p| p.of.arrays.len()).max().unwrap_or(0);
         self.add(most == 1, "an array");
         self.add(most > 1, "nested arrays");
         self.add(most == MAX_ARRAYS, "nested arrays to depth 8");
+        // Of minor 2, whether a file has its tags, and where.
+        let newer = |p: &&Parameter| is_newer(p.of.leaf & TAG);
+        let most = all().filter(newer).map(|p| p.of.arrays.len()).max();
+        let in_result = |m: &Method| newer(&&m.result);
+        let in_result = lib.descriptors.iter().any(|d| d.methods.iter().any(in_result));
+        self.add(lib.minor == 2 && most.is_none(), "minor 2, no tag of its own");
+        self.add(most.is_some(), "minor 2, a tag of its own");
+        self.add(most == Some(MAX_ARRAYS), "minor 2, in eight arrays");
+        self.add(in_result, "minor 2, in a result");
     }
 
     fn records(&mut self, mut records: Vec<Record>) {
@@ -191,6 +199,9 @@ pub fn between(first: &Typelib, second: &Typelib) -> Vec<&'static str> {
         all.add(resolved.0 != resolved.1, "a descriptor from one file");
     }
     let (n, m) = (first.entries.len(), second.entries.len());
+    let has = |lib: &Typelib| model::least_minor(lib) == 2;
+    all.add(has(first) != has(second), "tags of minor 2 in one file");
+    all.add(has(first) && has(second), "tags of minor 2 in both files");
     all.add(common == 0 && n > 0 && m > 0, "no key in common");
     all.add(common > 0 && common < n && common < m, "keys in one file only, and in both");
     for index in 1..=n {

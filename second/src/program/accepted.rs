@@ -2,7 +2,7 @@
 //! before.
 
 use super::check::word;
-use super::format::{ARRAY, ENTRY, INTERFACE, INTERFACE_IS, TAG};
+use super::format::{ARRAY, ENTRY, INTERFACE, INTERFACE_IS, TAG, UTF8STRING};
 
 /// Namespace (empty for the default) and name.
 pub type Key<'a> = (&'a [u8], &'a [u8]);
@@ -45,7 +45,7 @@ impl<'a> Accepted<'a> {
 
     /// A walk that starts at a method count: of the descriptor at `descriptor`.
     pub fn walk(&self, descriptor: usize) -> Walk<'a> {
-        Walk { file: self.file, pool: self.pool, at: descriptor + 2 }
+        Walk { file: self.file, pool: self.pool, at: descriptor + 2, has_newer: false }
     }
 
     /// The number of own methods, from the descriptor's place.
@@ -124,6 +124,8 @@ pub struct Walk<'a> {
     pub(crate) file: &'a [u8],
     pub(crate) pool: usize,
     pub(crate) at: usize,
+    /// Whether a tag of minor 2 was stepped over.
+    pub(crate) has_newer: bool,
 }
 
 impl<'a> Walk<'a> {
@@ -172,6 +174,10 @@ impl<'a> Walk<'a> {
             }
             if tag == INTERFACE_IS {
                 self.at += 1;
+                return None;
+            }
+            if tag >= UTF8STRING {
+                self.has_newer = true;
                 return None;
             }
             self.at += 2;

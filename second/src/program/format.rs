@@ -20,7 +20,7 @@ pub(crate) fn refuse_if(holds: bool, number: u32, place: usize) -> Result<(), Re
 
 pub const MAGIC: [u8; 16] = *b"XPCOM\nTypeLib\r\n\x1a";
 
-pub const MAX_MINOR: u8 = 1;
+pub const MAX_MINOR: u8 = 2;
 
 // Sizes. Each number itself is allowed.
 pub const MAX_FILE: usize = 1_048_576;
@@ -62,11 +62,17 @@ pub const INTERFACE_IS: u8 = 19;
 pub const ARRAY: u8 = 20;
 pub const SIZED_STRING: u8 = 21;
 pub const SIZED_WSTRING: u8 = 22;
-pub const LAST_TAG: u8 = 22;
+pub const UTF8STRING: u8 = 23;
+pub const LAST_TAG: u8 = 25;
+
+/// Whether a tag came with minor version 2.
+pub fn is_newer(tag: u8) -> bool {
+    (UTF8STRING..=LAST_TAG).contains(&tag)
+}
 
 /// Whether a tag is reserved in files of this minor version.
 pub fn is_reserved(tag: u8, minor: u8) -> bool {
-    tag > LAST_TAG || tag == ASTRING && minor == 0
+    tag > LAST_TAG || is_newer(tag) && minor < 2 || tag == ASTRING && minor == 0
 }
 
 /// Whether a tag needs the pointer flag.

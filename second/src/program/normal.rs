@@ -54,7 +54,7 @@ const DIRECTORY: usize = 36;
 pub(crate) fn write(sources: &[Source], items: &[Item], out: &mut [u8]) -> Answer {
     let n = items.len();
     let pool = DIRECTORY + ENTRY * n;
-    let Some((length, sizes)) = lengths(sources, items, pool) else {
+    let Some((length, sizes, minor)) = lengths(sources, items, pool) else {
         return refused(refusal::FORM_SIZE, 0);
     };
     let Some(out) = out.get_mut(..length) else {
@@ -63,7 +63,7 @@ pub(crate) fn write(sources: &[Source], items: &[Item], out: &mut [u8]) -> Answe
     let (head, pool_bytes) = out.split_at_mut(pool);
     let (header, directory) = head.split_at_mut(DIRECTORY);
     let words = [length, if n == 0 { 0 } else { DIRECTORY }, pool].map(|word| word as u32);
-    header[..18].copy_from_slice(&[&MAGIC[..], &[1, 1]].concat());
+    header[..18].copy_from_slice(&[&MAGIC[..], &[1, minor]].concat());
     header[18..20].copy_from_slice(&(n as u16).to_be_bytes());
     header[20..32].copy_from_slice(words.map(u32::to_be_bytes).as_flattened());
     header[32..].copy_from_slice(&[0x80, 0, 0, 0]);
@@ -84,12 +84,13 @@ pub(crate) fn write(sources: &[Source], items: &[Item], out: &mut [u8]) -> Answe
     Ok(length)
 }
 
-/// The length of the whole, and the bytes of each entry's descriptor without its names (0 where
-/// there is none); nothing if it is over the limit. As nothing is shared in a normal form, what
+/// The length of the whole, the bytes of each entry's descriptor without its names (0 where there
+/// is none), and the minor version that is needed, 1 or 2; nothing if it is over the limit. As nothing is shared in a normal form, what
 /// is read up to there is little, however much the sources share.
-fn lengths(sources: &[Source], items: &[Item], pool: usize) -> Option<(usize, Vec<u32>)> {
+fn lengths(sources: &[Source], items: &[Item], pool: usize) -> Option<(usize, Vec<u32>, u8)> {
     let mut length = pool;
     let mut sizes = Vec::with_capacity(items.len());
+    let mut minor = 1;
     for item in items {
         let (namespace, name) = item.key;
         length += name.len() + 1;
@@ -109,6 +110,7 @@ fn lengths(sources: &[Source], items: &[Item], pool: usize) -> Option<(usize, Ve
                 names += walk.identifier(name).len() + 1;
             }
             size = walk.at + 1 - start;
+            minor = if walk.has_newer { 2 } else { minor };
             length += size + names;
         }
         if length > MAX_FILE {
@@ -116,7 +118,7 @@ fn lengths(sources: &[Source], items: &[Item], pool: usize) -> Option<(usize, Ve
         }
         sizes.push(size as u32);
     }
-    Some((length, sizes))
+    Some((length, sizes, minor))
 }
 
 /// Writes records into a pool, one after another.
