@@ -87,18 +87,20 @@ enum {
     SANIOTKA_SECOND = 2
 };
 
-/* Refusals that a program may want to tell from the others, which docs/FORMAT.md lists: 1 to 19 are of a file, and 21 to
- * 25 of a link. */
+/* Refusals that a program may want to tell from the others, which docs/FORMAT.md lists: 1 to 19, 29 and 30 are of a
+ * file, and 21 to 25 of a link. */
 enum {
-    SANIOTKA_MALFORMED = 20,   /* the question; its place is 0 */
-    SANIOTKA_OVER_LIMIT = 26,  /* the normal form has more than SANIOTKA_BUFFER bytes; its place is 0 */
-    SANIOTKA_SHORT_BUFFER = 27 /* its place is the length that is needed */
+    SANIOTKA_MALFORMED = 20,    /* the question; its place is 0 */
+    SANIOTKA_OVER_LIMIT = 26,   /* the normal form has more than SANIOTKA_BUFFER bytes; its place is 0 */
+    SANIOTKA_SHORT_BUFFER = 27, /* its place is the length that is needed */
+    SANIOTKA_CUT = 29,          /* the file has fewer bytes than its header says; its place is 20 */
+    SANIOTKA_PADDED = 30        /* it has more; its place is 20 */
 };
 
 /* Is this a typelib?
  *
  *     0, n            it is accepted, and has n interfaces (0 to 1,024)
- *     number, place   it is refused, with the first refusal that applies (1 to 19) and its place
+ *     number, place   it is refused, with the first refusal that applies (1 to 19, 29, 30) and its place
  */
 int saniotka_check(const uint8_t *file, size_t length, uint64_t *answer, size_t answers);
 

@@ -90,6 +90,7 @@ static void checks(void) {
     EXPECT(saniotka_check(FILE_OF(gas), list(), NUMBERS), "0: [0] 0 [1] 4");
     EXPECT(saniotka_check(FILE_OF(gas_torn), list(), NUMBERS), "0: [0] 29 [1] 20");
     EXPECT(saniotka_check(FILE_OF(gas_torn), list(), SANIOTKA_ROOM), "0: [0] 29 [1] 20");
+    HOLD(saniotka_check(FILE_OF(gas_torn), list(), SANIOTKA_ROOM) == SANIOTKA_ANSWERED && answer[0] == SANIOTKA_CUT);
     EXPECT(saniotka_check(out, SANIOTKA_BUFFER, list(), NUMBERS), "0: [0] 3 [1] 0");
     EXPECT(saniotka_check(NULL, 0, list(), NUMBERS), "0: [0] 1 [1] 0");
 }
