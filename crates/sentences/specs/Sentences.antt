@@ -17,7 +17,7 @@ positionText rule =
 -- of 16, by the rule: its number among the rules between fields, or 8 for a constant's type
 unfoldable pub betweenText : ℕ → List ℕ
 betweenText rule =
-    if rule =? 1 then ascii "a type has unique or reference, or a tag from 16 to 25, without the pointer bit" else
+    if rule =? 1 then ascii "a type has unique or reference, or a tag from 16 to 25 (23 is utf8string, 24 cstring, 25 the further astring), without the pointer bit" else
     if rule =? 2 then ascii "an argument has retval without out" else
     if rule =? 3 then ascii "a result has in or out" else
     if rule =? 4 then ascii "an argument number does not name an argument of its kind: a pointer to nsIID for interface-is, a uint32 for a size or a length" else
@@ -55,7 +55,7 @@ directoryText n =
     if n =? 11 then ascii "a name is absent, or is not 1 to 255 letters, digits or _ with a zero byte after them" else
     if n =? 12 then ascii "an interface has a descriptor but no IID" else
     if n =? 13 then ascii "a pointer leads out of the pool, or a field does not fit in it" else
-    ascii "a reserved bit is set, or a type's tag is reserved"
+    ascii "a reserved bit is set, or a type's tag is reserved (with minor 0 and 1 also 23 utf8string, 24 cstring and 25 the further astring)"
 
 -- 15 to 20: descriptors, rules across entries, questions
 unfoldable pub ownText : ℕ → ℕ → List ℕ

@@ -44,7 +44,7 @@ fn put_between(rule: u8, text: &mut [u8; ROOM], at: usize) -> usize
         1 => text::put_bytes(
             text,
             at,
-            b"a type has unique or reference, or a tag from 16 to 25, without the pointer bit",
+            b"a type has unique or reference, or a tag from 16 to 25 (23 is utf8string, 24 cstring, 25 the further astring), without the pointer bit",
         ),
         2 => text::put_bytes(text, at, b"an argument has retval without out"),
         3 => text::put_bytes(text, at, b"a result has in or out"),
@@ -161,7 +161,7 @@ fn put_directory(no: u8, text: &mut [u8; ROOM], at: usize) -> usize
         _ => text::put_bytes(
             text,
             at,
-            b"a reserved bit is set, or a type's tag is reserved",
+            b"a reserved bit is set, or a type's tag is reserved (with minor 0 and 1 also 23 utf8string, 24 cstring and 25 the further astring)",
         ),
     }
 }
