@@ -21,6 +21,12 @@ struct Turn {
     is_going: bool,
 }
 
+// The feed after a session, and whether lines may be left, as its turns ran out.
+struct Rest {
+    feed: Feed,
+    is_going: bool,
+}
+
 // Whether standard output still takes lines; it is said on standard error where it does not.
 fn is_open(told: Told, text: &mut [u8; ROOM]) -> bool {
     match told {
@@ -100,27 +106,36 @@ fn go_on(
     }
 }
 
-// All lines of standard input. A loop that is proved has to end, and nothing says that the input does: the turns are counted down from a number that no run uses up.
+// The lines of standard input from a feed on. A loop that is proved has to end, and nothing says that the input does: the turns are counted down from a number that no run uses up.
 fn run_all(
+    from: Feed,
     input: &mut [u8; INPUT_ROOM],
     rows: &mut [usize; 256],
     store: &mut [u8; 4210688],
     out: &mut [u8; FILE_LIMIT],
     text: &mut [u8; ROOM],
-)
-    requires { ⌜ 256 ≡ length (now rows) ⌝ }
+) -> Rest
+    requires { ⌜ Fed (now input) from × (256 ≡ length (now rows)) ⌝ }
+    ensures { λ r. ⌜ Fed (now (input .exit)) (r .feed) ⌝ }
 {
-    let mut feed = feed::start();
+    let mut feed = from;
     let mut kept = Kept { rows: 0, used: 0 };
     let mut turns = u64::MAX;
     while 0 < turns {
         turns -= 1;
         let after = go_on(feed, kept, input, rows, store, out, text);
-        if !after.is_going {
-            return;
-        }
         feed = after.feed;
         kept = after.kept;
+        if !after.is_going {
+            return Rest {
+                feed,
+                is_going: false,
+            };
+        }
+    }
+    Rest {
+        feed,
+        is_going: true,
     }
 }
 
@@ -153,16 +168,33 @@ fn run_one(
     }
 }
 
-// The commands on standard input, one a line, or the one whose words are the first n bytes.
-pub fn serve(input: &mut [u8; INPUT_ROOM], n: usize, in_batch: bool)
-    requires { ⌜ n ≤ inputRoom ⌝ }
+// A session, with its buffers: the lines from a feed on, or the command whose words are the first n bytes.
+fn hold(feed: Feed, input: &mut [u8; INPUT_ROOM], n: usize, in_batch: bool) -> Rest
+    requires { ⌜ Fed (now input) feed × (n ≤ inputRoom) ⌝ }
+    ensures { λ r. ⌜ Fed (now (input .exit)) (r .feed) ⌝ }
 {
     let mut rows = [0usize; 256];
     let mut store = [0u8; 4210688];
     let mut out = [0u8; FILE_LIMIT];
     let mut text = [0u8; ROOM];
     if in_batch {
-        return run_all(input, &mut rows, &mut store, &mut out, &mut text);
+        return run_all(feed, input, &mut rows, &mut store, &mut out, &mut text);
     }
     run_one(input, n, &mut rows, &mut store, &mut out, &mut text);
+    Rest {
+        feed,
+        is_going: false,
+    }
+}
+
+// The commands on standard input, one a line, or the one whose words are the first n bytes. What a session has no turns for is another's. The compiler puts a function that is called once into its caller, however large it is: the second call of `hold` keeps the buffers out of the frame of `main`, and help and mistakes in the arguments run without them.
+pub fn serve(input: &mut [u8; INPUT_ROOM], n: usize, in_batch: bool)
+    requires { ⌜ n ≤ inputRoom ⌝ }
+{
+    let rest = hold(feed::start(), input, n, in_batch);
+    if !rest.is_going {
+        return;
+    }
+    let feed = rest.feed;
+    hold(feed, input, n, in_batch);
 }

@@ -19,11 +19,10 @@ run-all-spec =
     (tie.spec
     Inv-loop
     μ-loop
-    (λ c κs. tt)
-    (λ c. (c .start .ensures .fed _, tidy-nothing _ (c .before .pre)))
+    (λ c. (c .pre .0, tidy-nothing _ (c .pre .1)))
     (λ c. search needs)
     (λ c κs. c .before .before .before .before .before .before .loop .inv)
-    (λ c. tt)
+    (λ c. search needs)
     (λ c. omega arith)
-    (λ c. c .before .before .before .before .go-on .ensures)
-    (λ c. tt))
+    (λ c. search needs)
+    (λ c. search needs))
