@@ -429,7 +429,7 @@ module _ {minor n : ℕ} {es : List (Entry ℕ)} (all : n ≡ length es) (rule :
   ancestor-in i o us d vs end l p e = ancestor us i o d vs end l (chain-parts (chainOf es i) ∙ (λ j. chain (p j) (e j)))
 
   -- steps up come to no entry twice
-  climb-apart : (i o k m : ℕ) → InDirectory n i → InDirectory n o → k < m → climb k (aboveIn es) i ≡ o → climb m (aboveIn es) i ≡ o → ⊥
+  pub climb-apart : (i o k m : ℕ) → InDirectory n i → InDirectory n o → k < m → climb k (aboveIn es) i ≡ o → climb m (aboveIn es) i ≡ o → ⊥
   climb-apart i o k m l u j f g =
       let s : (i - 1) + 1 ≡ i = omega arith in
       let c = rw s at (rule .chains (i - 1) k m (omega arith) j) in

@@ -13,13 +13,13 @@ use Rattle.number.proofs.Choice.{both, is-lt, no-lt, from-yes-lt, from-not-lt, 
 use Rattle.number.proofs.Scans.{clash}
 use Rattle.key.specs.Word.{sameWord}
 use Rattle.key.proofs.Orders.{same-word, same-word-equal}
-use Rattle.reader.specs.Values.{Descriptor, parentOf, methodsOf, Method, methodFlags, methodName, Entry}
-use Rattle.reader.specs.Rules.{All, InDirectory, EntriesRule}
+use Rattle.reader.specs.Values.{Descriptor, parentOf, methodsOf, Method, methodFlags, methodName, Entry, aboveIn}
+use Rattle.reader.specs.Rules.{All, InDirectory, climb, EntriesRule}
 use Rattle.lookup.specs.declared.Kind.{Kind}
 use Rattle.lookup.specs.declared.Kind.the-variants.{Getter, Setter, Plain}
 use Rattle.lookup.specs.Chain.{Level, level, Ending, root, unresolved, Chain, chain, levels, ending, under, ofParent, descriptorAt, chainOf, Sought, found, nothing, undetermined, orUpward, seek, position}
-use Rattle.lookup.specs.Method.{methodsIn, SlotOf, known, unknown, slotOf, FoundMethod, foundMethod, methodAt, isKind, isNamed, methodIf, ownMethod, methodNamed, atSlot, methodInSlot}
-use Rattle.lookup.proofs.ChainLaws.{all-here, split-at, earlier, same, later, places, First, position-none, position-some, seek-found, seek-nothing, seek-undetermined, ancestor-in, owner-once}
+use Rattle.lookup.specs.Method.{methodsIn, SlotOf, known, unknown, slotOf, totalOf, stepsTo, FoundMethod, foundMethod, methodAt, isKind, isNamed, methodIf, ownMethod, methodFrom, methodNamed, atSlot, slotFrom, methodInSlot}
+use Rattle.lookup.proofs.ChainLaws.{all-here, split-at, earlier, same, later, places, First, position-none, position-some, seek-found, seek-nothing, seek-undetermined, ancestor-in, climb-apart, owner-once}
 
 -- ---- names and kinds
 
@@ -67,6 +67,17 @@ pub record Own {R : Type 0} (c : Chain R) (o : R) (p : ℕ) : Type 0 where
 pub own-within : {R : Type 0} {c : Chain R} {o : R} {p : ℕ} (h : Own c o p) → p < length (methodsOf (h .described))
 own-within h = omega (arith, h .place, ap length (h .held), length-append (h .before) (h .method ∷ h .after))
 
+-- the steps to an entry of a chain are the entries before it
+steps-before : {R : Type 0} (c : Chain R) (us : List (Level R)) (x : Level R) (vs : List (Level R)) (end : Ending R) → levels c ≡ us ++ (x ∷ vs) → stepsTo c (chain vs end) ≡ length us
+unfolding stepsTo levels
+steps-before c us x vs end e = omega (arith, ap length e, length-append us (x ∷ vs))
+
+-- What is answered with a method: its slot; as many steps as entries stand before its owner; the total of the asked chain.
+pub record Told {R : Type 0} {c : Chain R} {o : R} {p : ℕ} (own : Own c o p) (x : SlotOf R) (n : ℕ) (y : SlotOf R) : Type 0 where
+  pub slot : x ≡ slotOf (chain (own .higher) (ending c)) p
+  pub steps : n ≡ length (own .nearer)
+  pub total : y ≡ totalOf c
+
 -- no method of the entry has this name and kind
 abbrev pub Unnamed : {R : Type 0} → List ℕ → Kind → Level R → Type 0
 Unnamed w k (level r d) = All (λ m. isNamed w k m ≡ false) (methodsOf d)
@@ -74,48 +85,51 @@ Unnamed w k (level r d) = All (λ m. isNamed w k m ≡ false) (methodsOf d)
 -- ---- by name
 
 -- The method at position p of o has the name and kind; no entry nearer has one, and o has none at a lower position.
-pub record Named {R : Type 0} (w : List ℕ) (k : Kind) (c : Chain R) (o : R) (p : ℕ) (x : SlotOf R) : Type 0 where
+pub record Named {R : Type 0} (w : List ℕ) (k : Kind) (c : Chain R) (o : R) (p : ℕ) (x : SlotOf R) (n : ℕ) (y : SlotOf R) : Type 0 where
   pub own : Own c o p
   pub named : isNamed w k (own .method) ≡ true
-  pub slot : x ≡ slotOf (chain (own .higher) (ending c)) p
+  pub told : Told own x n y
   pub free : All (Unnamed w k) (own .nearer)
   pub lower : All (λ m. isNamed w k m ≡ false) (own .before)
 
-module _ {R : Type 0} (w : List ℕ) (k : Kind) where
+module _ {R : Type 0} (a : Chain R) (w : List ℕ) (k : Kind) where
   -- where nothing is found in an entry, it has no such method
-  own-none : (x : Level R) (c : Chain R) → ownMethod w k x c ≡ none → Unnamed w k x
+  own-none : (x : Level R) (c : Chain R) → ownMethod a w k x c ≡ none → Unnamed w k x
   unfolding ownMethod methodIf
   own-none (level r d) c e = go (position (isNamed w k) 0 (methodsOf d)) refl e
     where
-      go : (o : Option ℕ) → position (isNamed w k) 0 (methodsOf d) ≡ o → methodIf r c o ≡ none → All (λ m. isNamed w k m ≡ false) (methodsOf d)
+      go : (o : Option ℕ) → position (isNamed w k) 0 (methodsOf d) ≡ o → methodIf a r c o ≡ none → All (λ m. isNamed w k m ≡ false) (methodsOf d)
       go none q e = position-none (isNamed w k) 0 (methodsOf d) q
       go (some j) q e = absurd (let z : _≡_ {A = ℕ} 0 1 = cc in omega arith)
 
   -- what is found in an entry is its first such method
-  own-some : (r : R) (d : Descriptor R) (c : Chain R) (o : R) (p : ℕ) (x : SlotOf R) → ownMethod w k (level r d) c ≡ some (foundMethod o p x) → (r ≡ o) × (x ≡ slotOf c p) × First (isNamed w k) 0 (methodsOf d) p
+  own-some : (r : R) (d : Descriptor R) (c : Chain R) (o : R) (p : ℕ) (x : SlotOf R) (n : ℕ) (y : SlotOf R) → ownMethod a w k (level r d) c ≡ some (foundMethod o p x n y)
+      → (r ≡ o) × (x ≡ slotOf c p) × (n ≡ stepsTo a c) × (y ≡ totalOf a) × First (isNamed w k) 0 (methodsOf d) p
   unfolding ownMethod methodIf methodAt
-  own-some r d c o p x e = go (position (isNamed w k) 0 (methodsOf d)) refl e
+  own-some r d c o p x n y e = go (position (isNamed w k) 0 (methodsOf d)) refl e
     where
-      go : (q : Option ℕ) → position (isNamed w k) 0 (methodsOf d) ≡ q → methodIf r c q ≡ some (foundMethod o p x) → (r ≡ o) × (x ≡ slotOf c p) × First (isNamed w k) 0 (methodsOf d) p
+      go : (q : Option ℕ) → position (isNamed w k) 0 (methodsOf d) ≡ q → methodIf a r c q ≡ some (foundMethod o p x n y)
+          → (r ≡ o) × (x ≡ slotOf c p) × (n ≡ stepsTo a c) × (y ≡ totalOf a) × First (isNamed w k) 0 (methodsOf d) p
       go none q e = absurd (let z : _≡_ {A = ℕ} 0 1 = cc in omega arith)
-      go (some j) q e = let h : j ≡ p = cc in (cc, cc, rw h at (position-some (isNamed w k) 0 j (methodsOf d) q))
+      go (some j) q e = let h : j ≡ p = cc in (cc, cc, cc, cc, rw h at (position-some (isNamed w k) 0 j (methodsOf d) q))
 
   -- an entry, then its parents
-  pub method-under : (x : Level R) (c : Chain R) → methodNamed w k (under x c) ≡ orUpward (ownMethod w k x c) (methodNamed w k c)
-  unfolding methodNamed under seek
+  pub method-under : (x : Level R) (c : Chain R) → methodFrom a w k (under x c) ≡ orUpward (ownMethod a w k x c) (methodFrom a w k c)
+  unfolding methodFrom under seek
   method-under x (chain xs end) = refl
 
+module _ {R : Type 0} (w : List ℕ) (k : Kind) where
   -- what is found is the first: the nearest entry, the lowest position
-  pub method-found : (c : Chain R) (o : R) (p : ℕ) (x : SlotOf R) → methodNamed w k c ≡ found (foundMethod o p x) → Named w k c o p x
-  unfolding methodNamed levels ending
-  method-found (chain xs end) o p x e =
-      let s = seek-found (ownMethod w k) (Unnamed w k) own-none xs end (foundMethod o p x) e in
+  pub method-found : (c : Chain R) (o : R) (p : ℕ) (x : SlotOf R) (n : ℕ) (y : SlotOf R) → methodNamed w k c ≡ found (foundMethod o p x n y) → Named w k c o p x n y
+  unfolding methodNamed methodFrom levels ending
+  method-found (chain xs end) o p x n y e =
+      let s = seek-found (ownMethod (chain xs end) w k) (Unnamed w k) (own-none (chain xs end) w k) xs end (foundMethod o p x n y) e in
       go (s .nearer) (s .higher) (s .here) (s .split) (s .hit) (s .free)
     where
-      go : (us vs : List (Level R)) (y : Level R) → xs ≡ us ++ (y ∷ vs) → ownMethod w k y (chain vs end) ≡ some (foundMethod o p x) → All (Unnamed w k) us → Named w k (chain xs end) o p x
+      go : (us vs : List (Level R)) (z : Level R) → xs ≡ us ++ (z ∷ vs) → ownMethod (chain xs end) w k z (chain vs end) ≡ some (foundMethod o p x n y) → All (Unnamed w k) us → Named w k (chain xs end) o p x n y
       go us vs (level r d) q h f =
-          let t = own-some r d (chain vs end) o p x h in
-          let u = t .2 in
+          let t = own-some (chain xs end) w k r d (chain vs end) o p x n y h in
+          let u = t .4 in
           record {
             own = record {
               nearer = us;
@@ -129,20 +143,20 @@ module _ {R : Type 0} (w : List ℕ) (k : Kind) where
               place = omega (arith, u .place);
             };
             named = u .passes;
-            slot = t .1;
+            told = record { slot = t .1; steps = t .2 ∙ steps-before (chain xs end) us (level r d) vs end q; total = t .3 };
             free = f;
             lower = u .fails;
           }
 
   -- none is answered only on a complete chain no entry of which has such a method
   pub method-nothing : (c : Chain R) → methodNamed w k c ≡ nothing → (ending c ≡ root) × All (Unnamed w k) (levels c)
-  unfolding methodNamed levels ending
-  method-nothing (chain xs end) e = seek-nothing (ownMethod w k) (Unnamed w k) own-none xs end e
+  unfolding methodNamed methodFrom levels ending
+  method-nothing (chain xs end) e = seek-nothing (ownMethod (chain xs end) w k) (Unnamed w k) (own-none (chain xs end) w k) xs end e
 
   -- undetermined is answered with the unresolved entry that the chain met, where no entry before it has such a method
   pub method-undetermined : (c : Chain R) (r : R) → methodNamed w k c ≡ undetermined r → (ending c ≡ unresolved r) × All (Unnamed w k) (levels c)
-  unfolding methodNamed levels ending
-  method-undetermined (chain xs end) r e = seek-undetermined (ownMethod w k) (Unnamed w k) own-none xs end r e
+  unfolding methodNamed methodFrom levels ending
+  method-undetermined (chain xs end) r e = seek-undetermined (ownMethod (chain xs end) w k) (Unnamed w k) (own-none (chain xs end) w k) xs end r e
 
 -- ---- slots
 
@@ -162,6 +176,12 @@ pub slot-incomplete : {R : Type 0} (xs : List (Level R)) (end : Ending R) (p : �
 unfolding slotOf
 slot-incomplete xs end p r e = rw e refl
 
+-- and only there
+pub slot-unknown : {R : Type 0} (xs : List (Level R)) (end : Ending R) (p : ℕ) (r : R) → slotOf (chain xs end) p ≡ unknown r → end ≡ unresolved r
+unfolding slotOf
+slot-unknown xs root p r e = absurd (let z : _≡_ {A = ℕ} 0 1 = cc in omega arith)
+slot-unknown xs (unresolved u) p r e = cc
+
 -- the methods of two parts of a chain
 pub methods-append : {R : Type 0} (us vs : List (Level R)) → methodsIn (us ++ vs) ≡ methodsIn us + methodsIn vs
 unfolding methodsIn
@@ -174,132 +194,162 @@ unfolding methodsIn
 methods-least us o d vs = omega (arith, methods-append us (level o d ∷ vs))
 
 -- The chain is complete, and s counts the methods of all o's ancestors, and p of its own.
-pub record Slotted {R : Type 0} (s : ℕ) (c : Chain R) (o : R) (p : ℕ) (x : SlotOf R) : Type 0 where
+pub record Slotted {R : Type 0} (s : ℕ) (c : Chain R) (o : R) (p : ℕ) (x : SlotOf R) (n : ℕ) (y : SlotOf R) : Type 0 where
   pub own : Own c o p
   pub complete : ending c ≡ root
   pub counts : s ≡ methodsIn (own .higher) + p
   pub slot : x ≡ known s
+  pub told : Told own x n y
 
 module _ {R : Type 0} where
-  at-slot-found : (s : ℕ) (xs : List (Level R)) (o : R) (p : ℕ) (x : SlotOf R) → atSlot s xs ≡ found (foundMethod o p x) → Slotted s (chain xs root) o p x
-  unfolding atSlot levels ending methodAt slotOf
-  at-slot-found s [] o p x e = absurd (let z : _≡_ {A = ℕ} 0 1 = cc in omega arith)
-  at-slot-found s (level r d ∷ xs) o p x e =
-      both (λ (y : Sought R (FoundMethod R)). y ≡ found (foundMethod o p x) → Slotted s (chain (level r d ∷ xs) root) o p x) (s <? methodsIn xs) (atSlot s xs) _
-      (λ _ e. let h = at-slot-found s xs o p x e in
-      let a = h .own in
+  -- the same of the entries from some one on of the asked chain a
+  record SlottedFrom (a : Chain R) (s : ℕ) (xs : List (Level R)) (o : R) (p : ℕ) (x : SlotOf R) (n : ℕ) (y : SlotOf R) : Type 0 where
+    pub own : Own (chain xs root) o p
+    pub counts : s ≡ methodsIn (own .higher) + p
+    pub slot : x ≡ known s
+    pub steps : n ≡ stepsTo a (chain (own .higher) root)
+    pub total : y ≡ totalOf a
+
+  at-slot-found : (a : Chain R) (s : ℕ) (xs : List (Level R)) (o : R) (p : ℕ) (x : SlotOf R) (n : ℕ) (y : SlotOf R) → atSlot a s xs ≡ found (foundMethod o p x n y) → SlottedFrom a s xs o p x n y
+  unfolding atSlot levels methodAt slotOf
+  at-slot-found a s [] o p x n y e = absurd (let z : _≡_ {A = ℕ} 0 1 = cc in omega arith)
+  at-slot-found a s (level r d ∷ xs) o p x n y e =
+      both (λ (z : Sought R (FoundMethod R)). z ≡ found (foundMethod o p x n y) → SlottedFrom a s (level r d ∷ xs) o p x n y) (s <? methodsIn xs) (atSlot a s xs) _
+      (λ _ e. let h = at-slot-found a s xs o p x n y e in
+      let b = h .own in
       record {
-        own = record { nearer = level r d ∷ a .nearer; described = a .described; higher = a .higher; stands = (λ i. level r d ∷ a .stands i); before = a .before; method = a .method; after = a .after; held = a .held; place = a .place };
-        complete = refl;
+        own = record { nearer = level r d ∷ b .nearer; described = b .described; higher = b .higher; stands = (λ i. level r d ∷ b .stands i); before = b .before; method = b .method; after = b .after; held = b .held; place = b .place };
         counts = h .counts;
         slot = h .slot;
+        steps = h .steps;
+        total = h .total;
       })
-      (λ t. both (λ (y : Sought R (FoundMethod R)). y ≡ found (foundMethod o p x) → Slotted s (chain (level r d ∷ xs) root) o p x) (s <? methodsIn xs + length (methodsOf d)) _ nothing
+      (λ t. both (λ (z : Sought R (FoundMethod R)). z ≡ found (foundMethod o p x n y) → SlottedFrom a s (level r d ∷ xs) o p x n y) (s <? methodsIn xs + length (methodsOf d)) _ nothing
       (λ u e.
       let m = from-not-lt s (methodsIn xs) t in
-      let n = from-yes-lt s (methodsIn xs + length (methodsOf d)) u in
+      let v = from-yes-lt s (methodsIn xs + length (methodsOf d)) u in
       let q : s - methodsIn xs ≡ p = cc in
-      let v = split-at (methodsOf d) p (omega arith) in
+      let b = split-at (methodsOf d) p (omega arith) in
       let h : r ≡ o = cc in
       let k : known (methodsIn xs + (s - methodsIn xs)) ≡ x = cc in
+      let f : stepsTo a (chain xs root) ≡ n = cc in
+      let g : totalOf a ≡ y = cc in
       record {
-        own = record { nearer = []; described = d; higher = xs; stands = (λ i. level (h i) d ∷ xs); before = v .0; method = v .1; after = v .2; held = v .3; place = v .4 };
-        complete = refl;
+        own = record { nearer = []; described = d; higher = xs; stands = (λ i. level (h i) d ∷ xs); before = b .0; method = b .1; after = b .2; held = b .3; place = b .4 };
         counts = omega arith;
         slot = sym k ∙ ap known (omega arith);
+        steps = sym f;
+        total = sym g;
       })
       (λ _ e. absurd (let z : _≡_ {A = ℕ} 0 1 = cc in omega arith)))
       e
 
   -- what is found by slot
-  pub slot-found : (s : ℕ) (c : Chain R) (o : R) (p : ℕ) (x : SlotOf R) → methodInSlot s c ≡ found (foundMethod o p x) → Slotted s c o p x
-  unfolding methodInSlot
-  slot-found s (chain xs root) o p x e = at-slot-found s xs o p x e
-  slot-found s (chain xs (unresolved r)) o p x e = absurd (let z : _≡_ {A = ℕ} 0 1 = cc in omega arith)
+  pub slot-found : (s : ℕ) (c : Chain R) (o : R) (p : ℕ) (x : SlotOf R) (n : ℕ) (y : SlotOf R) → methodInSlot s c ≡ found (foundMethod o p x n y) → Slotted s c o p x n y
+  unfolding methodInSlot slotFrom ending
+  slot-found s (chain xs root) o p x n y e =
+      let h = at-slot-found (chain xs root) s xs o p x n y e in
+      let a = h .own in
+      record {
+        own = a;
+        complete = refl;
+        counts = h .counts;
+        slot = h .slot;
+        told = record {
+          slot = h .slot ∙ ap known (h .counts) ∙ sym (slot-complete (a .higher) root p refl);
+          steps = h .steps ∙ steps-before (chain xs root) (a .nearer) (level o (a .described)) (a .higher) root (a .stands);
+          total = h .total;
+        };
+      }
+  slot-found s (chain xs (unresolved r)) o p x n y e = absurd (let z : _≡_ {A = ℕ} 0 1 = cc in omega arith)
 
-  found-same : (o : R) {p q s t : ℕ} → p ≡ q → s ≡ t → _≡_ {A = Sought R (FoundMethod R)} (found (foundMethod o p (known s))) (found (foundMethod o q (known t)))
-  found-same o e f i = found (foundMethod o (e i) (known (f i)))
+  found-same : (o : R) {p q s t n m : ℕ} (y : SlotOf R) → p ≡ q → s ≡ t → n ≡ m → _≡_ {A = Sought R (FoundMethod R)} (found (foundMethod o p (known s) n y)) (found (foundMethod o q (known t) m y))
+  found-same o y e f g i = found (foundMethod o (e i) (known (f i)) (g i) y)
 
-  at-slot-own : (s : ℕ) (us : List (Level R)) (o : R) (d : Descriptor R) (vs : List (Level R)) (p : ℕ) → p < length (methodsOf d) → s ≡ methodsIn vs + p → atSlot s (us ++ (level o d ∷ vs)) ≡ found (foundMethod o p (known s))
+  at-slot-own : (a : Chain R) (s : ℕ) (us : List (Level R)) (o : R) (d : Descriptor R) (vs : List (Level R)) (p : ℕ) → p < length (methodsOf d) → s ≡ methodsIn vs + p
+      → atSlot a s (us ++ (level o d ∷ vs)) ≡ found (foundMethod o p (known s) (stepsTo a (chain vs root)) (totalOf a))
   unfolding atSlot methodAt slotOf
-  at-slot-own s [] o d vs p l e =
+  at-slot-own a s [] o d vs p l e =
       let q : s - methodsIn vs ≡ p = omega arith in
       let h : methodsIn vs + (s - methodsIn vs) ≡ s = omega arith in
-      sym (no-lt s (methodsIn vs) _ _ (omega arith) (is-lt s (methodsIn vs + length (methodsOf d)) _ _ (omega arith) (found-same o (sym q) (sym h))))
-  at-slot-own s (level r u ∷ us) o d vs p l e = sym (is-lt s (methodsIn (us ++ (level o d ∷ vs))) _ _ (omega (arith, methods-least us o d vs)) (sym (at-slot-own s us o d vs p l e)))
+      sym (no-lt s (methodsIn vs) _ _ (omega arith) (is-lt s (methodsIn vs + length (methodsOf d)) _ _ (omega arith) (found-same o (totalOf a) (sym q) (sym h) refl)))
+  at-slot-own a s (level r u ∷ us) o d vs p l e = sym (is-lt s (methodsIn (us ++ (level o d ∷ vs))) _ _ (omega (arith, methods-least us o d vs)) (sym (at-slot-own a s us o d vs p l e)))
 
   -- each method of each entry of a complete chain has a slot, and is found by it
-  pub slot-own : (c : Chain R) (o : R) (p : ℕ) (h : Own c o p) → ending c ≡ root → methodInSlot (methodsIn (h .higher) + p) c ≡ found (foundMethod o p (known (methodsIn (h .higher) + p)))
-  unfolding methodInSlot ending levels
-  slot-own (chain xs root) o p h e = ap (atSlot (methodsIn (h .higher) + p)) (h .stands) ∙ at-slot-own (methodsIn (h .higher) + p) (h .nearer) o (h .described) (h .higher) p (own-within h) refl
+  pub slot-own : (c : Chain R) (o : R) (p : ℕ) (h : Own c o p) → ending c ≡ root → methodInSlot (methodsIn (h .higher) + p) c ≡ found (foundMethod o p (known (methodsIn (h .higher) + p)) (length (h .nearer)) (totalOf c))
+  unfolding methodInSlot slotFrom ending levels
+  slot-own (chain xs root) o p h e =
+      ap (atSlot (chain xs root) (methodsIn (h .higher) + p)) (h .stands)
+      ∙ at-slot-own (chain xs root) (methodsIn (h .higher) + p) (h .nearer) o (h .described) (h .higher) p (own-within h) refl
+      ∙ found-same o (totalOf (chain xs root)) refl refl (steps-before (chain xs root) (h .nearer) (level o (h .described)) (h .higher) root (h .stands))
   slot-own (chain xs (unresolved r)) o p h e = absurd (let z : _≡_ {A = ℕ} 0 1 = cc in omega arith)
 
-  -- a method found by name with a known slot is found by that slot
-  pub method-slot : (w : List ℕ) (k : Kind) (c : Chain R) (o : R) (p s : ℕ) → methodNamed w k c ≡ found (foundMethod o p (known s)) → methodInSlot s c ≡ found (foundMethod o p (known s))
-  method-slot w k c o p s e =
-      let h = method-found w k c o p (known s) e in
-      let t = slot-known (h .own .higher) (ending c) p s (sym (h .slot)) in
-      rw (t .1) (slot-own c o p (h .own) (t .0))
+  -- a method found by name with a known slot is found by that slot, with the same steps and total
+  pub method-slot : (w : List ℕ) (k : Kind) (c : Chain R) (o : R) (p s n : ℕ) (y : SlotOf R) → methodNamed w k c ≡ found (foundMethod o p (known s) n y) → methodInSlot s c ≡ found (foundMethod o p (known s) n y)
+  method-slot w k c o p s n y e =
+      let h = method-found w k c o p (known s) n y e in
+      let t = slot-known (h .own .higher) (ending c) p s (sym (h .told .slot)) in
+      ap (λ (m : ℕ). methodInSlot m c) (t .1) ∙ slot-own c o p (h .own) (t .0) ∙ sym (λ i. found (foundMethod o p (known (t .1 i)) (h .told .steps i) (h .told .total i)))
 
   -- where the asked chain is complete, the slot is known
-  pub method-known : (w : List ℕ) (k : Kind) (c : Chain R) (o : R) (p : ℕ) (x : SlotOf R) → methodNamed w k c ≡ found (foundMethod o p x) → ending c ≡ root → (s : ℕ) × (x ≡ known s)
-  method-known w k c o p x e q = let h = method-found w k c o p x e in (methodsIn (h .own .higher) + p, h .slot ∙ slot-complete (h .own .higher) (ending c) p q)
+  pub method-known : (w : List ℕ) (k : Kind) (c : Chain R) (o : R) (p : ℕ) (x : SlotOf R) (n : ℕ) (y : SlotOf R) → methodNamed w k c ≡ found (foundMethod o p x n y) → ending c ≡ root → (s : ℕ) × (x ≡ known s)
+  method-known w k c o p x n y e q = let h = method-found w k c o p x n y e in (methodsIn (h .own .higher) + p, h .told .slot ∙ slot-complete (h .own .higher) (ending c) p q)
 
   -- where it met an unresolved entry, the slot is undetermined, with that entry
-  pub method-unknown : (w : List ℕ) (k : Kind) (c : Chain R) (o : R) (p : ℕ) (x : SlotOf R) (r : R) → methodNamed w k c ≡ found (foundMethod o p x) → ending c ≡ unresolved r → x ≡ unknown r
-  method-unknown w k c o p x r e q = let h = method-found w k c o p x e in h .slot ∙ slot-incomplete (h .own .higher) (ending c) p r q
+  pub method-unknown : (w : List ℕ) (k : Kind) (c : Chain R) (o : R) (p : ℕ) (x : SlotOf R) (n : ℕ) (y : SlotOf R) (r : R) → methodNamed w k c ≡ found (foundMethod o p x n y) → ending c ≡ unresolved r → x ≡ unknown r
+  method-unknown w k c o p x n y r e q = let h = method-found w k c o p x n y e in h .told .slot ∙ slot-incomplete (h .own .higher) (ending c) p r q
 
 -- ---- what is not found by slot
 
 module _ {R : Type 0} where
-  at-slot-nothing : (s : ℕ) (xs : List (Level R)) → atSlot s xs ≡ nothing → methodsIn xs ≤ s
+  at-slot-nothing : (a : Chain R) (s : ℕ) (xs : List (Level R)) → atSlot a s xs ≡ nothing → methodsIn xs ≤ s
   unfolding atSlot methodsIn
-  at-slot-nothing s [] e = omega arith
-  at-slot-nothing s (level r d ∷ xs) e =
-      both (λ (y : Sought R (FoundMethod R)). y ≡ nothing → methodsIn xs + length (methodsOf d) ≤ s) (s <? methodsIn xs) (atSlot s xs) _
-      (λ t e. absurd (omega (arith, at-slot-nothing s xs e, from-yes-lt s (methodsIn xs) t)))
+  at-slot-nothing a s [] e = omega arith
+  at-slot-nothing a s (level r d ∷ xs) e =
+      both (λ (y : Sought R (FoundMethod R)). y ≡ nothing → methodsIn xs + length (methodsOf d) ≤ s) (s <? methodsIn xs) (atSlot a s xs) _
+      (λ t e. absurd (omega (arith, at-slot-nothing a s xs e, from-yes-lt s (methodsIn xs) t)))
       (λ _. both (λ (y : Sought R (FoundMethod R)). y ≡ nothing → methodsIn xs + length (methodsOf d) ≤ s) (s <? methodsIn xs + length (methodsOf d)) _ nothing
       (λ _ e. absurd (let z : _≡_ {A = ℕ} 0 1 = cc in omega arith))
       (λ u _. from-not-lt s (methodsIn xs + length (methodsOf d)) u)) e
 
-  at-slot-determined : (s : ℕ) (xs : List (Level R)) (r : R) → atSlot s xs ≡ undetermined r → ⊥
+  at-slot-determined : (a : Chain R) (s : ℕ) (xs : List (Level R)) (r : R) → atSlot a s xs ≡ undetermined r → ⊥
   unfolding atSlot
-  at-slot-determined s [] r e = absurd (let z : _≡_ {A = ℕ} 0 1 = cc in omega arith)
-  at-slot-determined s (level q d ∷ xs) r e =
-      both (λ (y : Sought R (FoundMethod R)). y ≡ undetermined r → ⊥) (s <? methodsIn xs) (atSlot s xs) _
-      (λ _ e. at-slot-determined s xs r e)
+  at-slot-determined a s [] r e = absurd (let z : _≡_ {A = ℕ} 0 1 = cc in omega arith)
+  at-slot-determined a s (level q d ∷ xs) r e =
+      both (λ (y : Sought R (FoundMethod R)). y ≡ undetermined r → ⊥) (s <? methodsIn xs) (atSlot a s xs) _
+      (λ _ e. at-slot-determined a s xs r e)
       (λ _. both (λ (y : Sought R (FoundMethod R)). y ≡ undetermined r → ⊥) (s <? methodsIn xs + length (methodsOf d)) _ nothing
       (λ _ e. absurd (let z : _≡_ {A = ℕ} 0 1 = cc in omega arith))
       (λ _ e. absurd (let z : _≡_ {A = ℕ} 0 1 = cc in omega arith))) e
 
   -- none is answered only on a complete chain, at or past the total
   pub slot-nothing : (s : ℕ) (c : Chain R) → methodInSlot s c ≡ nothing → (ending c ≡ root) × (methodsIn (levels c) ≤ s)
-  unfolding methodInSlot levels ending
-  slot-nothing s (chain xs root) e = (refl, at-slot-nothing s xs e)
+  unfolding methodInSlot slotFrom levels ending
+  slot-nothing s (chain xs root) e = (refl, at-slot-nothing (chain xs root) s xs e)
   slot-nothing s (chain xs (unresolved r)) e = absurd (let z : _≡_ {A = ℕ} 0 1 = cc in omega arith)
 
   -- undetermined is answered with the unresolved entry that the chain met
   pub slot-undetermined : (s : ℕ) (c : Chain R) (r : R) → methodInSlot s c ≡ undetermined r → ending c ≡ unresolved r
-  unfolding methodInSlot ending
-  slot-undetermined s (chain xs root) r e = absurd (at-slot-determined s xs r e)
+  unfolding methodInSlot slotFrom ending
+  slot-undetermined s (chain xs root) r e = absurd (at-slot-determined (chain xs root) s xs r e)
   slot-undetermined s (chain xs (unresolved q)) r e = cc
 
 -- ---- the slots of a complete chain
 
 module _ {R : Type 0} (c : Chain R) where
   -- there is a method in each slot below the total
-  pub slot-filled : (s : ℕ) → ending c ≡ root → s < methodsIn (levels c) → (o : R) × (p : ℕ) × (methodInSlot s c ≡ found (foundMethod o p (known s)))
+  pub slot-filled : (s : ℕ) → ending c ≡ root → s < methodsIn (levels c) → (o : R) × (p n : ℕ) × (methodInSlot s c ≡ found (foundMethod o p (known s) n (totalOf c)))
   slot-filled s e l = go (methodInSlot s c) refl
     where
-      go : (y : Sought R (FoundMethod R)) → methodInSlot s c ≡ y → (o : R) × (p : ℕ) × (methodInSlot s c ≡ found (foundMethod o p (known s)))
-      go (found (foundMethod o p x)) h = (o, p, h ∙ ap (λ (y : SlotOf R). found (foundMethod o p y)) (slot-found s c o p x h .slot))
+      go : (y : Sought R (FoundMethod R)) → methodInSlot s c ≡ y → (o : R) × (p n : ℕ) × (methodInSlot s c ≡ found (foundMethod o p (known s) n (totalOf c)))
+      go (found (foundMethod o p x n y)) h = let g = slot-found s c o p x n y h in (o, p, n, h ∙ (λ i. found (foundMethod o p (g .slot i) n (g .told .total i))))
       go nothing h = absurd (omega (arith, slot-nothing s c h .1))
       go (undetermined r) h = absurd (let u = slot-undetermined s c r h in let z : _≡_ {A = ℕ} 0 1 = cc in omega arith)
 
   -- a method's slot is below the total
-  pub slot-within : (s : ℕ) (o : R) (p : ℕ) (x : SlotOf R) → methodInSlot s c ≡ found (foundMethod o p x) → s < methodsIn (levels c)
-  slot-within s o p x e =
-      let h = slot-found s c o p x e in
+  pub slot-within : (s : ℕ) (o : R) (p : ℕ) (x : SlotOf R) (n : ℕ) (y : SlotOf R) → methodInSlot s c ≡ found (foundMethod o p x n y) → s < methodsIn (levels c)
+  slot-within s o p x n y e =
+      let h = slot-found s c o p x n y e in
       let a = h .own in
       omega (arith, h .counts, own-within a, ap methodsIn (a .stands), methods-least (a .nearer) o (a .described) (a .higher))
 
@@ -308,21 +358,21 @@ module _ {R : Type 0} (c : Chain R) where
   slot-past s e l = go (methodInSlot s c) refl
     where
       go : (y : Sought R (FoundMethod R)) → methodInSlot s c ≡ y → methodInSlot s c ≡ nothing
-      go (found (foundMethod o p x)) h = absurd (omega (arith, slot-within s o p x h))
+      go (found (foundMethod o p x n y)) h = absurd (omega (arith, slot-within s o p x n y h))
       go nothing h = h
       go (undetermined r) h = absurd (let u = slot-undetermined s c r h in let z : _≡_ {A = ℕ} 0 1 = cc in omega arith)
 
   -- the next position has the next slot
-  pub slot-next : {s : ℕ} {o : R} {p : ℕ} {x : SlotOf R} (h : Slotted s c o p x) → p + 1 < length (methodsOf (h .own .described)) → methodInSlot (s + 1) c ≡ found (foundMethod o (p + 1) (known (s + 1)))
+  pub slot-next : {s : ℕ} {o : R} {p : ℕ} {x : SlotOf R} {n : ℕ} {y : SlotOf R} (h : Slotted s c o p x n y) → p + 1 < length (methodsOf (h .own .described)) → methodInSlot (s + 1) c ≡ found (foundMethod o (p + 1) (known (s + 1)) n y)
   slot-next {s} {o} {p} h l =
       let a = h .own in
       let t = split-at (methodsOf (a .described)) (p + 1) l in
       let b : Own c o (p + 1) = record { nearer = a .nearer; described = a .described; higher = a .higher; stands = a .stands; before = t .0; method = t .1; after = t .2; held = t .3; place = t .4 } in
       let q : methodsIn (a .higher) + (p + 1) ≡ s + 1 = omega (arith, h .counts) in
-      rw q at (slot-own c o (p + 1) b (h .complete))
+      rw (h .told .steps, h .told .total) (rw q at (slot-own c o (p + 1) b (h .complete)))
 
   -- every slot of an ancestor is below every slot of an entry nearer the asked interface
-  pub slot-below : {s t : ℕ} {o u : R} {p q : ℕ} {x y : SlotOf R} (g : Slotted s c o p x) (h : Slotted t c u q y) → length (g .own .nearer) < length (h .own .nearer) → t < s
+  pub slot-below : {s t : ℕ} {o u : R} {p q : ℕ} {x y : SlotOf R} {n m : ℕ} {v z : SlotOf R} (g : Slotted s c o p x n v) (h : Slotted t c u q y m z) → length (g .own .nearer) < length (h .own .nearer) → t < s
   slot-below {s} {t} {o} {u} {p} {q} g h l =
       let a = g .own in
       let b = h .own in
@@ -331,6 +381,44 @@ module _ {R : Type 0} (c : Chain R) where
         | same e f k ↦ absurd (omega (arith, ap length e))
         | later ys e f ↦ absurd (omega (arith, ap length e, length-append (b .nearer) (level u (b .described) ∷ ys)))
       ]
+
+-- ---- the total, and the slot of a method beside it
+
+-- the total is known exactly on a complete chain, and is the number of its methods
+pub total-known : {R : Type 0} (c : Chain R) (t : ℕ) → (totalOf c ≡ known t) ↔ ((ending c ≡ root) × (t ≡ methodsIn (levels c)))
+unfolding totalOf ending levels
+total-known (chain xs end) t = (
+  (λ e. let h = slot-known xs end 0 t e in (h .0, omega (arith, h .1))),
+  (λ h. slot-complete xs end 0 (h .0) ∙ ap known (omega (arith, h .1))),
+)
+
+-- otherwise it is undetermined, with the unresolved ancestor
+pub total-unknown : {R : Type 0} (c : Chain R) (r : R) → (totalOf c ≡ unknown r) ↔ (ending c ≡ unresolved r)
+unfolding totalOf ending slotOf
+total-unknown (chain xs root) r = ((λ e. absurd (let z : _≡_ {A = ℕ} 0 1 = cc in omega arith)), (λ e. absurd (let z : _≡_ {A = ℕ} 0 1 = cc in omega arith)))
+total-unknown (chain xs (unresolved u)) r = ((λ e. cc), (λ e. cc))
+
+module _ {R : Type 0} {c : Chain R} {o : R} {p : ℕ} {own : Own c o p} {x : SlotOf R} {n : ℕ} {y : SlotOf R} (h : Told own x n y) where
+  -- the total is known exactly when the slot is
+  pub known-together : ((s : ℕ) × (x ≡ known s)) ↔ ((t : ℕ) × (y ≡ known t))
+  known-together = (
+    (λ k. let s = slot-known (own .higher) (ending c) p (k .0) (sym (h .slot) ∙ k .1) in (methodsIn (levels c), h .total ∙ total-known c (methodsIn (levels c)) .1 (s .0, refl))),
+    (λ k. let t = total-known c (k .0) .0 (sym (h .total) ∙ k .1) in (methodsIn (own .higher) + p, h .slot ∙ slot-complete (own .higher) (ending c) p (t .0))),
+  )
+
+  -- else both are undetermined, with the same ancestor
+  pub unknown-together : (r : R) → (x ≡ unknown r) ↔ (y ≡ unknown r)
+  unknown-together r = (
+    (λ e. h .total ∙ total-unknown c r .1 (slot-unknown (own .higher) (ending c) p r (sym (h .slot) ∙ e))),
+    (λ e. h .slot ∙ slot-incomplete (own .higher) (ending c) p r (total-unknown c r .0 (sym (h .total) ∙ e))),
+  )
+
+  -- a slot is below the total
+  pub slot-beneath : (s t : ℕ) → x ≡ known s → y ≡ known t → s < t
+  slot-beneath s t e f =
+      let k = slot-known (own .higher) (ending c) p s (sym (h .slot) ∙ e) in
+      let m = total-known c t .0 (sym (h .total) ∙ f) in
+      omega (arith, k .1, m .1, own-within own, ap methodsIn (own .stands), methods-least (own .nearer) o (own .described) (own .higher))
 
 -- ---- by slot, then by name
 
@@ -349,8 +437,10 @@ module _ {R : Type 0} (w : List ℕ) (k : Kind) (c : Chain R) where
     pub owner : R
     pub position : ℕ
     pub slot : SlotOf R
-    pub answer : methodNamed w k c ≡ found (foundMethod owner position slot)
-    pub shown : Named w k c owner position slot
+    pub steps : ℕ
+    pub total : SlotOf R
+    pub answer : methodNamed w k c ≡ found (foundMethod owner position slot steps total)
+    pub shown : Named w k c owner position slot steps total
     pub first : Before (shown .own) h
 
   -- a method that has this name and kind is found by them, or one that comes before it
@@ -360,8 +450,8 @@ module _ {R : Type 0} (w : List ℕ) (k : Kind) (c : Chain R) where
       never : All (Unnamed w k) (levels c) → ⊥
       never f = clash (isNamed w k (h .method)) t (unnamed-method o p h (all-here (Unnamed w k) (h .nearer) (level o (h .described)) (h .higher) (rw (h .stands) at f)))
 
-      before : (u : R) (q : ℕ) (y : SlotOf R) (g : Named w k c u q y) → Before (g .own) h
-      before u q y g =
+      before : {u : R} {q : ℕ} {y : SlotOf R} {n : ℕ} {v : SlotOf R} (g : Named w k c u q y n v) → Before (g .own) h
+      before {u} g =
           let a = g .own in
           elim (places (a .nearer) (level u (a .described)) (a .higher) (h .nearer) (level o (h .described)) (h .higher) (sym (a .stands) ∙ h .stands)) [
             | earlier ys i j ↦ nearer (omega (arith, ap length i, length-append (a .nearer) (level u (a .described) ∷ ys)))
@@ -376,13 +466,13 @@ module _ {R : Type 0} (w : List ℕ) (k : Kind) (c : Chain R) where
           ]
 
       go : (y : Sought R (FoundMethod R)) → methodNamed w k c ≡ y → Sooner h
-      go (found (foundMethod u q y)) e = let g = method-found w k c u q y e in record { owner = u; position = q; slot = y; answer = e; shown = g; first = before u q y g }
+      go (found (foundMethod u q y n v)) e = let g = method-found w k c u q y n v e in record { owner = u; position = q; slot = y; steps = n; total = v; answer = e; shown = g; first = before g }
       go nothing e = absurd (never (method-nothing w k c e .1))
       go (undetermined r) e = absurd (never (method-undetermined w k c r e .1))
 
 -- what is found by slot, asked for by its name and kind, gives itself or what comes before it
-pub slot-named : {R : Type 0} (s : ℕ) (c : Chain R) (o : R) (p : ℕ) (x : SlotOf R) → methodInSlot s c ≡ found (foundMethod o p x) → (h : Slotted s c o p x) × ((w : List ℕ) (k : Kind) → isNamed w k (h .own .method) ≡ true → Sooner w k c (h .own))
-slot-named s c o p x e = let h = slot-found s c o p x e in (h, (λ w k t. named-found w k c o p (h .own) t))
+pub slot-named : {R : Type 0} (s : ℕ) (c : Chain R) (o : R) (p : ℕ) (x : SlotOf R) (n : ℕ) (y : SlotOf R) → methodInSlot s c ≡ found (foundMethod o p x n y) → (h : Slotted s c o p x n y) × ((w : List ℕ) (k : Kind) → isNamed w k (h .own .method) ≡ true → Sooner w k c (h .own))
+slot-named s c o p x n y e = let h = slot-found s c o p x n y e in (h, (λ w k t. named-found w k c o p (h .own) t))
 
 -- ---- the slots of an accepted file
 
@@ -396,6 +486,11 @@ pub record Counted (es : List (Entry ℕ)) (o p s : ℕ) : Type 0 where
   pub within : p < length (methodsOf described)
   pub counts : s ≡ methodsIn higher + p
 
+-- from the entry i so many steps up, and no fewer, lead to o
+pub record Distant (es : List (Entry ℕ)) (i o n : ℕ) : Type 0 where
+  pub reached : climb n (aboveIn es) i ≡ o
+  pub first : (m : ℕ) → m < n → climb m (aboveIn es) i ≡ o → ⊥
+
 module _ {minor n : ℕ} {es : List (Entry ℕ)} (all : n ≡ length es) (rule : EntriesRule minor n es) where
   counted : (i o p s : ℕ) (h : Own (chainOf es i) o p) → InDirectory n i → ending (chainOf es i) ≡ root → s ≡ methodsIn (h .higher) + p → Counted es o p s
   counted i o p s h l e q =
@@ -403,20 +498,20 @@ module _ {minor n : ℕ} {es : List (Entry ℕ)} (all : n ≡ length es) (rule :
       record { described = h .described; higher = h .higher; resolved = a .resolved; own = a .own; parents = a .parents; within = own-within h; counts = q }
 
   -- a known slot is the methods of all the owner's ancestors and the position
-  pub method-counted : (w : List ℕ) (k : Kind) (i o p s : ℕ) → InDirectory n i → methodNamed w k (chainOf es i) ≡ found (foundMethod o p (known s)) → Counted es o p s
-  method-counted w k i o p s l e =
-      let h = method-found w k (chainOf es i) o p (known s) e in
-      let t = slot-known (h .own .higher) (ending (chainOf es i)) p s (sym (h .slot)) in
+  pub method-counted : (w : List ℕ) (k : Kind) (i o p s m : ℕ) (y : SlotOf ℕ) → InDirectory n i → methodNamed w k (chainOf es i) ≡ found (foundMethod o p (known s) m y) → Counted es o p s
+  method-counted w k i o p s m y l e =
+      let h = method-found w k (chainOf es i) o p (known s) m y e in
+      let t = slot-known (h .own .higher) (ending (chainOf es i)) p s (sym (h .told .slot)) in
       counted i o p s (h .own) l (t .0) (t .1)
 
   -- so is a slot that was asked for
-  pub slot-counted : (i s o p : ℕ) (x : SlotOf ℕ) → InDirectory n i → methodInSlot s (chainOf es i) ≡ found (foundMethod o p x) → (x ≡ known s) × Counted es o p s
-  slot-counted i s o p x l e =
-      let h = slot-found s (chainOf es i) o p x e in
+  pub slot-counted : (i s o p : ℕ) (x : SlotOf ℕ) (m : ℕ) (y : SlotOf ℕ) → InDirectory n i → methodInSlot s (chainOf es i) ≡ found (foundMethod o p x m y) → (x ≡ known s) × Counted es o p s
+  slot-counted i s o p x m y l e =
+      let h = slot-found s (chainOf es i) o p x m y e in
       (h .slot, counted i o p s (h .own) l (h .complete) (h .counts))
 
   -- the slots of one owner rise with the positions by one
-  pub slot-steps : (i : ℕ) {s t o p q : ℕ} {x y : SlotOf ℕ} → InDirectory n i → Slotted s (chainOf es i) o p x → Slotted t (chainOf es i) o q y → s + q ≡ t + p
+  pub slot-steps : (i : ℕ) {s t o p q : ℕ} {x y : SlotOf ℕ} {a b : ℕ} {v z : SlotOf ℕ} → InDirectory n i → Slotted s (chainOf es i) o p x a v → Slotted t (chainOf es i) o q y b z → s + q ≡ t + p
   slot-steps i {s} {t} {o} l g h =
       let a = g .own in
       let b = h .own in
@@ -424,5 +519,20 @@ module _ {minor n : ℕ} {es : List (Entry ℕ)} (all : n ≡ length es) (rule :
       omega (arith, g .counts, h .counts, ap methodsIn (m .2))
 
   -- each method of a chain has one slot
-  pub slot-once : (i s t o p : ℕ) (x y : SlotOf ℕ) → InDirectory n i → methodInSlot s (chainOf es i) ≡ found (foundMethod o p x) → methodInSlot t (chainOf es i) ≡ found (foundMethod o p y) → s ≡ t
-  slot-once i s t o p x y l e f = omega (arith, slot-steps i l (slot-found s (chainOf es i) o p x e) (slot-found t (chainOf es i) o p y f))
+  pub slot-once : (i s t o p : ℕ) (x y : SlotOf ℕ) (a b : ℕ) (v z : SlotOf ℕ) → InDirectory n i → methodInSlot s (chainOf es i) ≡ found (foundMethod o p x a v) → methodInSlot t (chainOf es i) ≡ found (foundMethod o p y b z) → s ≡ t
+  slot-once i s t o p x y a b v z l e f = omega (arith, slot-steps i l (slot-found s (chainOf es i) o p x a v e) (slot-found t (chainOf es i) o p y b z f))
+
+  distant : (i o p : ℕ) {x : SlotOf ℕ} {m : ℕ} {y : SlotOf ℕ} (h : Own (chainOf es i) o p) → Told h x m y → InDirectory n i → Distant es i o m
+  distant i o p h t l =
+      let a = ancestor-in all rule i o (h .nearer) (h .described) (h .higher) (ending (chainOf es i)) l (h .stands) refl in
+      record {
+        reached = ap (λ (k : ℕ). climb k (aboveIn es) i) (t .steps) ∙ a .reached;
+        first = λ k g e. climb-apart all rule i o k (length (h .nearer)) l (a .within) (omega (arith, t .steps)) e (a .reached);
+      }
+
+  -- the steps that are answered are those from the asked interface up to the owner
+  pub method-distant : (w : List ℕ) (k : Kind) (i o p : ℕ) (x : SlotOf ℕ) (m : ℕ) (y : SlotOf ℕ) → InDirectory n i → methodNamed w k (chainOf es i) ≡ found (foundMethod o p x m y) → Distant es i o m
+  method-distant w k i o p x m y l e = let h = method-found w k (chainOf es i) o p x m y e in distant i o p (h .own) (h .told) l
+
+  pub slot-distant : (i s o p : ℕ) (x : SlotOf ℕ) (m : ℕ) (y : SlotOf ℕ) → InDirectory n i → methodInSlot s (chainOf es i) ≡ found (foundMethod o p x m y) → Distant es i o m
+  slot-distant i s o p x m y l e = let h = slot-found s (chainOf es i) o p x m y e in distant i o p (h .own) (h .told) l

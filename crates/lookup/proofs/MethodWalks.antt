@@ -19,12 +19,12 @@ use Rattle.lookup.specs.declared.Slot.the-variants as slot
 use Rattle.lookup.specs.declared.MethodAnswer.{MethodAnswer}
 use Rattle.lookup.specs.declared.MethodAnswer.the-variants as method
 use Rattle.lookup.specs.Chain.{level, root, unresolved, Chain, chain, levels, ending, under, descriptorAt, chainOf, chainAbove, found, orUpward, position, firstPosition}
-use Rattle.lookup.specs.Method.{methodsIn, known, slotOf, foundMethod, methodAt, isKind, isNamed, methodIf, ownMethod, methodNamed, atSlot, methodInSlot}
+use Rattle.lookup.specs.Method.{methodsIn, known, slotOf, totalOf, stepsTo, foundMethod, methodAt, isKind, isNamed, methodIf, ownMethod, methodFrom, atSlot, slotFrom, methodInSlot}
 use Rattle.lookup.specs.Question.{slotAs, movedBy, soughtMethod}
 use Rattle.lookup.specs.Holding.{Answers, PoolOf, NamedMethod, NamedDescriptor}
 use Rattle.lookup.proofs.ChainLaws.{Ends, chain-ends, under-ending, under-levels}
 use Rattle.lookup.proofs.MethodLaws.{method-under, slot-past}
-use Rattle.lookup.proofs.Walks.{methods-in, above-none, above-some, lacks, Described, described, stands-own, up-chained, up-within, up-ends, Climbs, climb-start, climb-out, climb-stands, climb-hit, climb-next}
+use Rattle.lookup.proofs.Walks.{methods-in, above-none, above-some, lacks, Described, described, stands-own, up-chained, up-within, up-ends, climb-out, climb-stands, climb-hit, Rises, rise-start, rise-told, rise-next}
 
 -- ---- the first position that passes
 
@@ -100,23 +100,23 @@ module _ (s : List ℕ) (p n : ℕ) (t : Tells (ShowsDescriptor s p) (λ d. leng
     place : i ≡ firstPosition (isNamed w k) 0 (methodsOf d)
     place = let m = methods-in s p d e n h count in first .each (methodsOf d) (m .0) (m .1)
 
-    module _ (r : ℕ) (c : Chain ℕ) where
-      pub named-hit : i < n → methodNamed w k (under (level r d) c) ≡ found (methodAt r c i)
+    module _ (a : Chain ℕ) (r : ℕ) (c : Chain ℕ) where
+      pub named-hit : i < n → methodFrom a w k (under (level r d) c) ≡ found (methodAt a r c i)
       unfolding ownMethod methodIf orUpward
       named-hit l =
           let q : position (isNamed w k) 0 (methodsOf d) ≡ some i = spot (isNamed w k) 0 (methodsOf d) .inside (omega (arith, count, place)) ∙ ap some (sym place) in
-          method-under w k (level r d) c ∙ rw q refl
+          method-under a w k (level r d) c ∙ rw q refl
 
-      pub named-miss : n ≤ i → methodNamed w k (under (level r d) c) ≡ methodNamed w k c
+      pub named-miss : n ≤ i → methodFrom a w k (under (level r d) c) ≡ methodFrom a w k c
       unfolding ownMethod methodIf orUpward
       named-miss l =
           let q : position (isNamed w k) 0 (methodsOf d) ≡ none = spot (isNamed w k) 0 (methodsOf d) .past (omega (arith, count, place)) in
-          method-under w k (level r d) c ∙ rw q refl
+          method-under a w k (level r d) c ∙ rw q refl
 
 -- ---- slots
 
 -- one entry more below
-slot-under : {R : Type 0} (r : R) (d : Descriptor R) (c : Chain R) (p : ℕ) → slotOf (under (level r d) c) p ≡ slotOf c (p + length (methodsOf d))
+pub slot-under : {R : Type 0} (r : R) (d : Descriptor R) (c : Chain R) (p : ℕ) → slotOf (under (level r d) c) p ≡ slotOf c (p + length (methodsOf d))
 unfolding slotOf under methodsIn
 slot-under r d (chain xs root) p = let q : methodsIn xs + length (methodsOf d) + p ≡ methodsIn xs + (p + length (methodsOf d)) = omega arith in ap known q
 slot-under r d (chain xs (unresolved u)) p = refl
@@ -134,13 +134,19 @@ unfolding slotOf slotAs movedBy
 slot-moved p (chain xs root) = let q : methodsIn xs + 0 + p ≡ methodsIn xs + p = omega arith in ap slot.Known q
 slot-moved p (chain xs (unresolved r)) = refl
 
-pub found-answer : (s : List ℕ) (l : Layout) (o up p : ℕ) (base r : Slot) → Answers s l (λ es. slotAs (slotOf (chainAbove es up) 0)) base → r ≡ movedBy p base
-    → Answers s l (λ es. soughtMethod (found (methodAt o (chainAbove es up) p))) (method.Found (record { owner = o; position = p; slot = r }))
+-- the total of an entry is the slot that would follow, were it a parent
+pub total-of : (s : List ℕ) (l : Layout) (i : ℕ) {r : Slot} → (i ≡ 0 → ⊥) → Answers s l (λ es. slotAs (slotOf (chainAbove es i) 0)) r → Answers s l (λ es. slotAs (totalOf (chainOf es i))) r
+unfolding totalOf
+total-of s l i n h = record { each = λ es a. h .each es a ∙ ap (λ (c : Chain ℕ). slotAs (slotOf c 0)) (above-some es i n) }
+
+pub found-answer : (s : List ℕ) (l : Layout) (i o up p n : ℕ) (base r t : Slot) → Answers s l (λ es. slotAs (slotOf (chainAbove es up) 0)) base → r ≡ movedBy p base
+    → Answers s l (λ es. stepsTo (chainOf es i) (chainAbove es up)) n → Answers s l (λ es. slotAs (totalOf (chainOf es i))) t
+    → Answers s l (λ es. soughtMethod (found (methodAt (chainOf es i) o (chainAbove es up) p))) (method.Found (record { owner = o; position = p; slot = r; distance = n; total = t }))
 unfolding soughtMethod methodAt
-found-answer s l o up p base r h e = record {
+found-answer s l i o up p n base r t h e f g = record {
   each = λ es a.
       let q : r ≡ slotAs (slotOf (chainAbove es up) p) = e ∙ ap (movedBy p) (h .each es a) ∙ slot-moved p (chainAbove es up) in
-      ap (λ (x : Slot). method.Found (record { owner = o; position = p; slot = x })) q;
+      (λ j. method.Found (record { owner = o; position = p; slot = q j; distance = f .each es a j; total = g .each es a j }));
 }
 
 -- The methods of the ancestors are counted up to the entry of index j, 0 being none; so many entries as are left are enough.
@@ -200,31 +206,32 @@ module _ (s : List ℕ) (l : Layout) (i : ℕ) where
 
 -- ---- a method by slot
 
-module _ {R : Type 0} (s : ℕ) (r : R) (d : Descriptor R) where
-  slot-here : (c : Chain R) → ending c ≡ root → methodsIn (levels c) ≤ s → s < methodsIn (levels c) + length (methodsOf d) → methodInSlot s (under (level r d) c) ≡ found (foundMethod r (s - methodsIn (levels c)) (known s))
-  unfolding methodInSlot under atSlot levels ending methodAt slotOf
-  slot-here (chain xs root) e a b =
+module _ {R : Type 0} (a : Chain R) (s : ℕ) (r : R) (d : Descriptor R) where
+  slot-here : (c : Chain R) → ending c ≡ root → methodsIn (levels c) ≤ s → s < methodsIn (levels c) + length (methodsOf d)
+      → slotFrom a s (under (level r d) c) ≡ found (foundMethod r (s - methodsIn (levels c)) (known s) (stepsTo a c) (totalOf a))
+  unfolding slotFrom under atSlot levels ending methodAt slotOf
+  slot-here (chain xs root) e f g =
       let q : s ≡ methodsIn xs + (s - methodsIn xs) = omega arith in
-      sym (no-lt _ _ _ _ a (is-lt _ _ _ _ b (ap (λ (n : ℕ). found (foundMethod r (s - methodsIn xs) (known n))) q)))
-  slot-here (chain xs (unresolved u)) e a b = absurd (let z : _≡_ {A = ℕ} 0 1 = cc in omega arith)
+      sym (no-lt _ _ _ _ f (is-lt _ _ _ _ g (ap (λ (n : ℕ). found (foundMethod r (s - methodsIn xs) (known n) (stepsTo a (chain xs root)) (totalOf a))) q)))
+  slot-here (chain xs (unresolved u)) e f g = absurd (let z : _≡_ {A = ℕ} 0 1 = cc in omega arith)
 
-  slot-above : (c : Chain R) → ending c ≡ root → s < methodsIn (levels c) → methodInSlot s (under (level r d) c) ≡ methodInSlot s c
-  unfolding methodInSlot under atSlot levels ending
-  slot-above (chain xs root) e a = sym (is-lt _ _ _ _ a refl)
-  slot-above (chain xs (unresolved u)) e a = absurd (let z : _≡_ {A = ℕ} 0 1 = cc in omega arith)
+  slot-above : (c : Chain R) → ending c ≡ root → s < methodsIn (levels c) → slotFrom a s (under (level r d) c) ≡ slotFrom a s c
+  unfolding slotFrom under atSlot levels ending
+  slot-above (chain xs root) e f = sym (is-lt _ _ _ _ f refl)
+  slot-above (chain xs (unresolved u)) e f = absurd (let z : _≡_ {A = ℕ} 0 1 = cc in omega arith)
 
 methods-under : {R : Type 0} (r : R) (d : Descriptor R) (c : Chain R) → methodsIn (levels (under (level r d) c)) ≡ methodsIn (levels c) + length (methodsOf d)
 unfolding methodsIn
 methods-under r d c = rw (under-levels (level r d) c) refl
 
 -- a slot that is known tells a complete chain and its methods
-whole-known : (c : Chain ℕ) (n : ℕ) → slot.Known n ≡ slotAs (slotOf c 0) → (ending c ≡ root) × (methodsIn (levels c) ≡ n)
-unfolding slotOf slotAs ending levels
+whole-known : (c : Chain ℕ) (n : ℕ) → slot.Known n ≡ slotAs (totalOf c) → (ending c ≡ root) × (methodsIn (levels c) ≡ n)
+unfolding totalOf slotOf slotAs ending levels
 whole-known (chain xs root) n e = let q : n ≡ methodsIn xs + 0 = cc in (refl, omega arith)
 whole-known (chain xs (unresolved r)) n e = absurd (let z : _≡_ {A = ℕ} 0 1 = cc in omega arith)
 
-open-slot : (s : ℕ) (c : Chain ℕ) (r : ℕ) → slot.Undetermined r ≡ slotAs (slotOf c 0) → method.Undetermined r ≡ soughtMethod (methodInSlot s c)
-unfolding slotOf slotAs methodInSlot soughtMethod
+open-slot : (s : ℕ) (c : Chain ℕ) (r : ℕ) → slot.Undetermined r ≡ slotAs (totalOf c) → method.Undetermined r ≡ soughtMethod (methodInSlot s c)
+unfolding totalOf slotOf slotAs methodInSlot slotFrom soughtMethod
 open-slot s (chain xs root) r e = absurd (let z : _≡_ {A = ℕ} 0 1 = cc in omega arith)
 open-slot s (chain xs (unresolved u)) r e = let q : r ≡ u = cc in ap method.Undetermined q
 
@@ -234,20 +241,17 @@ pub record Whole (s : List ℕ) (l : Layout) (j n : ℕ) : Type 0 where
   pub total : (es : List (Entry ℕ)) → LaidOut s l es → methodsIn (levels (chainOf es j)) ≡ n
 
 module _ (s : List ℕ) (l : Layout) (index : ℕ) where
-  whole-start : (n : ℕ) → Answers s l (λ es. slotAs (slotOf (chainOf es index) 0)) (slot.Known n) → Whole s l index n
+  whole-start : (n : ℕ) → Answers s l (λ es. slotAs (totalOf (chainOf es index))) (slot.Known n) → Whole s l index n
   whole-start n h = record { complete = λ es a. whole-known (chainOf es index) n (h .each es a) .0; total = λ es a. whole-known (chainOf es index) n (h .each es a) .1 }
 
-  pub past-total : (n k : ℕ) → Answers s l (λ es. slotAs (slotOf (chainOf es index) 0)) (slot.Known n) → n ≤ k → Answers s l (λ es. soughtMethod (methodInSlot k (chainOf es index))) method.None
+  pub past-total : (n k : ℕ) → Answers s l (λ es. slotAs (totalOf (chainOf es index))) (slot.Known n) → n ≤ k → Answers s l (λ es. soughtMethod (methodInSlot k (chainOf es index))) method.None
   unfolding soughtMethod
   past-total n k h m =
       let w = whole-start n h in
       record { each = λ es a. sym (ap soughtMethod (slot-past (chainOf es index) k (w .complete es a) (omega (arith, w .total es a)))) }
 
-  pub slot-open : (r k : ℕ) → Answers s l (λ es. slotAs (slotOf (chainOf es index) 0)) (slot.Undetermined r) → Answers s l (λ es. soughtMethod (methodInSlot k (chainOf es index))) (method.Undetermined r)
+  pub slot-open : (r k : ℕ) → Answers s l (λ es. slotAs (totalOf (chainOf es index))) (slot.Undetermined r) → Answers s l (λ es. soughtMethod (methodInSlot k (chainOf es index))) (method.Undetermined r)
   slot-open r k h = record { each = λ es a. open-slot k (chainOf es index) r (h .each es a) }
-
-  pub slots-of : {r : Slot} → (index ≡ 0 → ⊥) → Answers s l (λ es. slotAs (slotOf (chainAbove es index) 0)) r → Answers s l (λ es. slotAs (slotOf (chainOf es index) 0)) r
-  slots-of n h = record { each = λ es a. h .each es a ∙ ap (λ (c : Chain ℕ). slotAs (slotOf c 0)) (above-some es index n) }
 
 module _ (s : List ℕ) (l : Layout) (j n : ℕ) (h : Whole s l j n) (from : 1 ≤ j) (within : j ≤ l .count) (q : ℕ)
     (shows : (es : List (Entry ℕ)) → LaidOut s l es → ShowsOwn (drop (l .pool) s) q (descriptorIn es (j - 1))) where
@@ -262,24 +266,29 @@ module _ (s : List ℕ) (l : Layout) (j n : ℕ) (h : Whole s l j n) (from : 1 �
   module _ (pool : List ℕ) (lent : PoolOf s l pool) (y : q ≡ 0 → ⊥) (up : ℕ) (u : Tells (ShowsDescriptor pool (q - 1)) (λ d. parentIndex (parentOf d)) up) (m : ℕ) (t : Tells (ShowsDescriptor pool (q - 1)) (λ d. length (methodsOf d)) m) where
     -- and the chain above it is complete, with the methods that are not its own
     module _ (es : List (Entry ℕ)) (a : LaidOut s l es) (w : Described l pool es j q) where
+      counted : m ≡ length (methodsOf (w .own))
+      counted = t .each (w .own) (w .end) (w .named .shown)
+
       whole-above : (ending (chainAbove es up) ≡ root) × (methodsIn (levels (chainAbove es up)) + m ≡ n)
       whole-above =
           let e = up-chained l pool es j q w up u in
-          let g = t .each (w .own) (w .end) (w .named .shown) in
+          let g = counted in
           let b = sym (under-ending (level j (w .own)) (chainAbove es up)) ∙ ap ending (sym e) ∙ h .complete es a in
           let c = sym (methods-under j (w .own) (chainAbove es up)) ∙ ap (λ (c : Chain ℕ). methodsIn (levels c)) (sym e) ∙ h .total es a in
           (b, omega arith)
 
-      whole-hit : (k : ℕ) → n - m ≤ k → k < n → method.Found (record { owner = j; position = k - (n - m); slot = slot.Known k }) ≡ soughtMethod (methodInSlot k (under (level j (w .own)) (chainAbove es up)))
+      whole-hit : (i k x t : ℕ) → n - m ≤ k → k < n → x ≡ stepsTo (chainOf es i) (chainAbove es up) → slot.Known t ≡ slotAs (totalOf (chainOf es i))
+          → method.Found (record { owner = j; position = k - (n - m); slot = slot.Known k; distance = x; total = slot.Known t }) ≡ soughtMethod (slotFrom (chainOf es i) k (under (level j (w .own)) (chainAbove es up)))
       unfolding soughtMethod slotAs
-      whole-hit k g b =
+      whole-hit i k x t g b e f =
           let v = whole-above in
-          let x = t .each (w .own) (w .end) (w .named .shown) in
+          let y = counted in
           let z : n - m ≡ methodsIn (levels (chainAbove es up)) = omega arith in
-          rw z (sym (ap soughtMethod (slot-here k j (w .own) (chainAbove es up) (v .0) (omega arith) (omega arith))))
+          (λ c. method.Found (record { owner = j; position = k - (n - m); slot = slot.Known k; distance = e c; total = f c }))
+          ∙ rw z (sym (ap soughtMethod (slot-here (chainOf es i) k j (w .own) (chainAbove es up) (v .0) (omega arith) (omega arith))))
 
-      whole-miss : (k : ℕ) → k < n - m → soughtMethod (methodInSlot k (under (level j (w .own)) (chainAbove es up))) ≡ soughtMethod (methodInSlot k (chainAbove es up))
-      whole-miss k g = let v = whole-above in ap soughtMethod (slot-above k j (w .own) (chainAbove es up) (v .0) (omega arith))
+      whole-miss : (a : Chain ℕ) (k : ℕ) → k < n - m → soughtMethod (slotFrom a k (under (level j (w .own)) (chainAbove es up))) ≡ soughtMethod (slotFrom a k (chainAbove es up))
+      whole-miss a k g = let v = whole-above in ap soughtMethod (slot-above a k j (w .own) (chainAbove es up) (v .0) (omega arith))
 
     here : (es : List (Entry ℕ)) → LaidOut s l es → Described l pool es j q
     here es a = described s l j from within q shows pool lent y es a
@@ -303,42 +312,46 @@ module _ (s : List ℕ) (l : Layout) (j n : ℕ) (h : Whole s l j n) (from : 1 �
 
 -- ---- a search for the method in slot k, up the chain of the entry `index`
 
--- It has come to the entry j, whose chain is complete and has more than k methods.
-pub record Lowers (s : List ℕ) (l : Layout) (k index left n j : ℕ) : Type 0 where
-  pub climbs : Climbs s l (λ (c : Chain ℕ). soughtMethod (methodInSlot k c)) index left j
+-- It has come to the entry j by x steps; its chain is complete and has more than k methods.
+pub record Lowers (s : List ℕ) (l : Layout) (k index x n j : ℕ) : Type 0 where
+  pub rises : Rises s l (λ (es : List (Entry ℕ)) (c : Chain ℕ). soughtMethod (slotFrom (chainOf es index) k c)) index x j
   pub whole : Whole s l j n
   pub below : k < n
 
-pub lower-start : (s : List ℕ) (l : Layout) (k index n : ℕ) → 1 ≤ index → index ≤ l .count → Answers s l (λ es. slotAs (slotOf (chainOf es index) 0)) (slot.Known n) → k < n → Lowers s l k index (l .count) n index
-lower-start s l k index n a b h m = record { climbs = climb-start s l _ index a b; whole = whole-start s l index n h; below = m }
+pub lower-start : (s : List ℕ) (l : Layout) (k index n : ℕ) → 1 ≤ index → index ≤ l .count → Answers s l (λ es. slotAs (totalOf (chainOf es index))) (slot.Known n) → k < n → Lowers s l k index 0 n index
+lower-start s l k index n a b h m = record { rises = rise-start s l _ index a b; whole = whole-start s l index n h; below = m }
 
-module _ (s : List ℕ) (l : Layout) (k index left n j : ℕ) (h : Lowers s l k index left n j) (a : Lies s l) where
-  pub lower-out : left ≡ 0 → {r : MethodAnswer} → Answers s l (λ es. soughtMethod (methodInSlot k (chainOf es index))) r
-  lower-out z = climb-out s l _ index left j (h .climbs) a z
+module _ (s : List ℕ) (l : Layout) (k index x n j : ℕ) (h : Lowers s l k index x n j) (a : Lies s l) where
+  pub lower-out : l .count ≤ x → {r : MethodAnswer} → Answers s l (λ es. soughtMethod (methodInSlot k (chainOf es index))) r
+  unfolding methodInSlot
+  lower-out z = climb-out s l _ index (l .count - x) j (h .rises .climbs) a (omega arith)
 
   module _ (q : ℕ) (shows : (es : List (Entry ℕ)) → LaidOut s l es → ShowsOwn (drop (l .pool) s) q (descriptorIn es (j - 1))) where
     pub lower-resolved : q ≡ 0 → ⊥
-    lower-resolved = whole-resolved s l j n (h .whole) (h .climbs .from) (h .climbs .within) q shows a
+    lower-resolved = whole-resolved s l j n (h .whole) (h .rises .climbs .from) (h .rises .climbs .within) q shows a
 
     module _ (pool : List ℕ) (lent : PoolOf s l pool) where
       pub lower-stands : Stands (NamedDescriptor pool (q - 1))
-      lower-stands = climb-stands s l _ index left j (h .climbs) q shows pool lent lower-resolved a
+      lower-stands = climb-stands s l _ index (l .count - x) j (h .rises .climbs) q shows pool lent lower-resolved a
 
       module _ (up : ℕ) (u : Tells (ShowsDescriptor pool (q - 1)) (λ d. parentIndex (parentOf d)) up) (m : ℕ) (t : Tells (ShowsDescriptor pool (q - 1)) (λ d. length (methodsOf d)) m) where
         pub lower-fits : m ≤ n
-        lower-fits = whole-fits s l j n (h .whole) (h .climbs .from) (h .climbs .within) q shows pool lent lower-resolved up u m t a
+        lower-fits = whole-fits s l j n (h .whole) (h .rises .climbs .from) (h .rises .climbs .within) q shows pool lent lower-resolved up u m t a
 
-        pub lower-hit : n - m ≤ k → Answers s l (λ es. soughtMethod (methodInSlot k (chainOf es index))) (method.Found (record { owner = j; position = k - (n - m); slot = slot.Known k }))
-        lower-hit g =
-            climb-hit s l _ index left j (h .climbs) q shows pool lent lower-resolved up u (λ es b w.
-            whole-hit s l j n (h .whole) (h .climbs .from) (h .climbs .within) q shows pool lent lower-resolved up u m t es b w k g (h .below))
+        pub lower-hit : (total : ℕ) → Answers s l (λ es. slotAs (totalOf (chainOf es index))) (slot.Known total) → n - m ≤ k
+            → Answers s l (λ es. soughtMethod (methodInSlot k (chainOf es index))) (method.Found (record { owner = j; position = k - (n - m); slot = slot.Known k; distance = x; total = slot.Known total }))
+        unfolding methodInSlot
+        lower-hit total w g =
+            let y = rise-told s l _ index x j (h .rises) q shows pool lent lower-resolved up u in
+            climb-hit s l _ index (l .count - x) j (h .rises .climbs) q shows pool lent lower-resolved up u (λ es b d.
+            whole-hit s l j n (h .whole) (h .rises .climbs .from) (h .rises .climbs .within) q shows pool lent lower-resolved up u m t es b d index k x total g (h .below) (y .each es b) (w .each es b))
 
-        pub lower-next : (left ≡ 0 → ⊥) → k < n - m → Lowers s l k index (left - 1) (n - m) up
+        pub lower-next : x < l .count → k < n - m → Lowers s l k index (x + 1) (n - m) up
         lower-next y g =
-            let z = whole-parent s l j n (h .whole) (h .climbs .from) (h .climbs .within) q shows pool lent lower-resolved up u m t a k g in
+            let z = whole-parent s l j n (h .whole) (h .rises .climbs .from) (h .rises .climbs .within) q shows pool lent lower-resolved up u m t a k g in
             record {
-              climbs = climb-next s l _ index left j (h .climbs) q shows pool lent lower-resolved up u (λ es b w.
-                  whole-miss s l j n (h .whole) (h .climbs .from) (h .climbs .within) q shows pool lent lower-resolved up u m t es b w k g) a y z;
-              whole = whole-next s l j n (h .whole) (h .climbs .from) (h .climbs .within) q shows pool lent lower-resolved up u m t z;
+              rises = rise-next s l _ index x j (h .rises) q shows pool lent lower-resolved up u (λ es b w.
+                  whole-miss s l j n (h .whole) (h .rises .climbs .from) (h .rises .climbs .within) q shows pool lent lower-resolved up u m t es b w (chainOf es index) k g) a y z;
+              whole = whole-next s l j n (h .whole) (h .rises .climbs .from) (h .rises .climbs .within) q shows pool lent lower-resolved up u m t z;
               below = g;
             }

@@ -13,9 +13,10 @@ use Rattle.reader.specs.Rules.{All, Identifier, MethodRule, ConstantRule, Paren
 use Rattle.reader.specs.Records.{Run, ShowsMethod, ShowsConstant, ShowsDescriptor, ShowsOwn}
 use Rattle.reader.specs.declared.Layout.{Layout}
 use Rattle.reader.specs.Layout.{LaidOut, Lies, Stands, Ends as EndsAt, Tells, Rows}
-use Rattle.lookup.specs.Chain.{level, root, unresolved, Chain, chain, under, ofParent, ofEntry, descriptorAt, chainOf, chainAbove}
+use Rattle.lookup.specs.Chain.{level, root, unresolved, Chain, chain, levels, under, ofParent, ofEntry, descriptorAt, chainOf, chainAbove}
+use Rattle.lookup.specs.Method.{stepsTo}
 use Rattle.lookup.specs.Holding.{Answers, PoolOf, NamedMethod, NamedConstant, NamedDescriptor}
-use Rattle.lookup.proofs.ChainLaws.{rule-within, Ends, chain-ends, chain-unrolled, chain-unresolved}
+use Rattle.lookup.proofs.ChainLaws.{rule-within, Ends, under-levels, chain-ends, chain-unrolled, chain-unresolved}
 
 -- ---- rules of descriptors
 
@@ -243,26 +244,26 @@ module _ (l : Layout) (pool : List ℕ) (es : List (Entry ℕ)) (j q : ℕ) (w :
   pub up-ends : (left : ℕ) → (left ≡ 0 → ⊥) → (up ≡ 0 → ⊥) → Ends (descriptorAt es) left j → Ends (descriptorAt es) (left - 1) up
   up-ends left n z f = ends-up es j left n f (w .own) up (w .resolved) (parent-some (parentOf (w .own)) up up-is z)
 
--- ---- a search up the chain of the entry `index`, which f answers for each chain
+-- ---- a search up the chain of the entry `index`, which f answers for the file's entries and each chain
 
 -- It has come to the entry j, and f gives the same of its chain. So many entries as are left are enough.
-pub record Climbs {Z : Type 0} (s : List ℕ) (l : Layout) (f : Chain ℕ → Z) (index left j : ℕ) : Type 0 where
+pub record Climbs {Z : Type 0} (s : List ℕ) (l : Layout) (f : List (Entry ℕ) → Chain ℕ → Z) (index left j : ℕ) : Type 0 where
   pub from : 1 ≤ j
   pub within : j ≤ l .count
   pub ends : (es : List (Entry ℕ)) → LaidOut s l es → Ends (descriptorAt es) left j
-  pub same : (es : List (Entry ℕ)) → LaidOut s l es → f (chainOf es index) ≡ f (chainOf es j)
+  pub same : (es : List (Entry ℕ)) → LaidOut s l es → f es (chainOf es index) ≡ f es (chainOf es j)
 
-module _ {Z : Type 0} (s : List ℕ) (l : Layout) (f : Chain ℕ → Z) (index : ℕ) where
+module _ {Z : Type 0} (s : List ℕ) (l : Layout) (f : List (Entry ℕ) → Chain ℕ → Z) (index : ℕ) where
   pub climb-start : 1 ≤ index → index ≤ l .count → Climbs s l f index (l .count) index
   climb-start a b = record { from = a; within = b; ends = λ es h. rw (← h .count) (chain-ends (sym (h .count)) (h .ruled) index (a, b)); same = λ es h. refl }
 
   module _ (left j : ℕ) (h : Climbs s l f index left j) where
-    pub climb-out : Lies s l → left ≡ 0 → {r : Z} → Answers s l (λ es. f (chainOf es index)) r
+    pub climb-out : Lies s l → left ≡ 0 → {r : Z} → Answers s l (λ es. f es (chainOf es index)) r
     climb-out a z = absurd (rw z at (h .ends (a .entries) (a .laid)))
 
     module _ (q : ℕ) (shows : (es : List (Entry ℕ)) → LaidOut s l es → ShowsOwn (drop (l .pool) s) q (descriptorIn es (j - 1))) where
-      pub climb-lacking : q ≡ 0 → {r : Z} → r ≡ f (chain [] (unresolved j)) → Answers s l (λ es. f (chainOf es index)) r
-      climb-lacking z e = record { each = λ es a. e ∙ sym (h .same es a ∙ ap f (lacks s l j (h .from) (h .within) q shows es a z)) }
+      pub climb-lacking : q ≡ 0 → {r : Z} → ((es : List (Entry ℕ)) → r ≡ f es (chain [] (unresolved j))) → Answers s l (λ es. f es (chainOf es index)) r
+      climb-lacking z e = record { each = λ es a. e es ∙ sym (h .same es a ∙ ap (f es) (lacks s l j (h .from) (h .within) q shows es a z)) }
 
       module _ (pool : List ℕ) (lent : PoolOf s l pool) (n : q ≡ 0 → ⊥) where
         at : (es : List (Entry ℕ)) → LaidOut s l es → Described l pool es j q
@@ -274,27 +275,59 @@ module _ {Z : Type 0} (s : List ℕ) (l : Layout) (f : Chain ℕ → Z) (index :
         pub climb-few : Lies s l → (m : ℕ) → Tells (ShowsDescriptor pool (q - 1)) (λ d. length (methodsOf d)) m → m ≤ 1024
         climb-few a m t = few-methods s l j (h .from) (h .within) q shows pool lent n a m t
 
-        pub climb-own : {r : Z} → ((es : List (Entry ℕ)) → LaidOut s l es → (w : Described l pool es j q) (c : Chain ℕ) → r ≡ f (under (level j (w .own)) c)) → Answers s l (λ es. f (chainOf es index)) r
-        climb-own hit = record { each = λ es a. hit es a (at es a) _ ∙ sym (h .same es a ∙ ap f (at es a .chained)) }
+        pub climb-own : {r : Z} → ((es : List (Entry ℕ)) → LaidOut s l es → (w : Described l pool es j q) (c : Chain ℕ) → r ≡ f es (under (level j (w .own)) c)) → Answers s l (λ es. f es (chainOf es index)) r
+        climb-own hit = record { each = λ es a. hit es a (at es a) _ ∙ sym (h .same es a ∙ ap (f es) (at es a .chained)) }
 
         module _ (up : ℕ) (t : Tells (ShowsDescriptor pool (q - 1)) (λ d. parentIndex (parentOf d)) up) where
           pub climb-within : Lies s l → up ≤ l .count
           climb-within a = up-within l pool (a .entries) j q (at (a .entries) (a .laid)) up t
 
-          pub climb-hit : {r : Z} → ((es : List (Entry ℕ)) → LaidOut s l es → (w : Described l pool es j q) → r ≡ f (under (level j (w .own)) (chainAbove es up))) → Answers s l (λ es. f (chainOf es index)) r
-          climb-hit hit = record { each = λ es a. hit es a (at es a) ∙ sym (h .same es a ∙ ap f (up-chained l pool es j q (at es a) up t)) }
+          pub climb-hit : {r : Z} → ((es : List (Entry ℕ)) → LaidOut s l es → (w : Described l pool es j q) → r ≡ f es (under (level j (w .own)) (chainAbove es up))) → Answers s l (λ es. f es (chainOf es index)) r
+          climb-hit hit = record { each = λ es a. hit es a (at es a) ∙ sym (h .same es a ∙ ap (f es) (up-chained l pool es j q (at es a) up t)) }
 
-          module _ (miss : (es : List (Entry ℕ)) → LaidOut s l es → (w : Described l pool es j q) → f (under (level j (w .own)) (chainAbove es up)) ≡ f (chainAbove es up)) where
-            passed : (es : List (Entry ℕ)) → LaidOut s l es → f (chainOf es index) ≡ f (chainAbove es up)
-            passed es a = h .same es a ∙ ap f (up-chained l pool es j q (at es a) up t) ∙ miss es a (at es a)
+          module _ (miss : (es : List (Entry ℕ)) → LaidOut s l es → (w : Described l pool es j q) → f es (under (level j (w .own)) (chainAbove es up)) ≡ f es (chainAbove es up)) where
+            passed : (es : List (Entry ℕ)) → LaidOut s l es → f es (chainOf es index) ≡ f es (chainAbove es up)
+            passed es a = h .same es a ∙ ap (f es) (up-chained l pool es j q (at es a) up t) ∙ miss es a (at es a)
 
-            pub climb-top : up ≡ 0 → {r : Z} → r ≡ f (chain [] root) → Answers s l (λ es. f (chainOf es index)) r
-            climb-top z e = record { each = λ es a. e ∙ sym (passed es a ∙ ap f (above-none es up z)) }
+            pub climb-top : up ≡ 0 → {r : Z} → ((es : List (Entry ℕ)) → r ≡ f es (chain [] root)) → Answers s l (λ es. f es (chainOf es index)) r
+            climb-top z e = record { each = λ es a. e es ∙ sym (passed es a ∙ ap (f es) (above-none es up z)) }
 
             pub climb-next : Lies s l → (left ≡ 0 → ⊥) → (up ≡ 0 → ⊥) → Climbs s l f index (left - 1) up
             climb-next b y z = record {
               from = omega arith;
               within = climb-within b;
               ends = λ es a. up-ends l pool es j q (at es a) up t left y z (h .ends es a);
-              same = λ es a. passed es a ∙ ap f (above-some es up z);
+              same = λ es a. passed es a ∙ ap (f es) (above-some es up z);
             }
+
+-- ---- the same, the steps being counted
+
+-- It has come to the entry j by n steps, and the entries that are left are enough.
+pub record Rises {Z : Type 0} (s : List ℕ) (l : Layout) (f : List (Entry ℕ) → Chain ℕ → Z) (index n j : ℕ) : Type 0 where
+  pub climbs : Climbs s l f index (l .count - n) j
+  pub made : (es : List (Entry ℕ)) → LaidOut s l es → length (levels (chainOf es index)) ≡ n + length (levels (chainOf es j))
+
+module _ {Z : Type 0} (s : List ℕ) (l : Layout) (f : List (Entry ℕ) → Chain ℕ → Z) (index : ℕ) where
+  pub rise-start : 1 ≤ index → index ≤ l .count → Rises s l f index 0 index
+  rise-start a b = let q : l .count - 0 ≡ l .count = omega arith in record { climbs = rw q (climb-start s l f index a b); made = λ es h. omega arith }
+
+  module _ (n j : ℕ) (h : Rises s l f index n j) (q : ℕ) (shows : (es : List (Entry ℕ)) → LaidOut s l es → ShowsOwn (drop (l .pool) s) q (descriptorIn es (j - 1)))
+      (pool : List ℕ) (lent : PoolOf s l pool) (y : q ≡ 0 → ⊥) (up : ℕ) (t : Tells (ShowsDescriptor pool (q - 1)) (λ d. parentIndex (parentOf d)) up) where
+    one-more : (es : List (Entry ℕ)) → LaidOut s l es → length (levels (chainOf es index)) ≡ n + (length (levels (chainAbove es up)) + 1)
+    one-more es a =
+        let w = described s l j (h .climbs .from) (h .climbs .within) q shows pool lent y es a in
+        let e = ap (λ (c : Chain ℕ). length (levels c)) (up-chained l pool es j q w up t) ∙ ap length (under-levels (level j (w .own)) (chainAbove es up)) in
+        omega (arith, h .made es a)
+
+    -- so many steps lead to the entry j
+    pub rise-told : Answers s l (λ es. stepsTo (chainOf es index) (chainAbove es up)) n
+    unfolding stepsTo
+    rise-told = record { each = λ es a. omega (arith, one-more es a) }
+
+    pub rise-next : ((es : List (Entry ℕ)) → LaidOut s l es → (w : Described l pool es j q) → f es (under (level j (w .own)) (chainAbove es up)) ≡ f es (chainAbove es up)) → Lies s l → n < l .count → (up ≡ 0 → ⊥) → Rises s l f index (n + 1) up
+    rise-next miss b m z =
+        let e : l .count - n - 1 ≡ l .count - (n + 1) = omega arith in
+        record {
+          climbs = rw (← e) (climb-next s l f index (l .count - n) j (h .climbs) q shows pool lent y up t miss b (λ x. omega arith) z);
+          made = λ es a. omega (arith, one-more es a, ap (λ (c : Chain ℕ). length (levels c)) (above-some es up z));
+        }

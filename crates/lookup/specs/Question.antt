@@ -102,7 +102,7 @@ movedBy p (slot.Known s) = slot.Known (s + p)
 movedBy p (slot.Undetermined r) = slot.Undetermined r
 
 unfoldable pub soughtMethod : Sought ℕ (FoundMethod ℕ) → MethodAnswer
-soughtMethod (found (foundMethod o p s)) = method.Found (record { owner = o; position = p; slot = slotAs s })
+soughtMethod (found (foundMethod o p s n t)) = method.Found (record { owner = o; position = p; slot = slotAs s; distance = n; total = slotAs t })
 soughtMethod nothing = method.None
 soughtMethod (undetermined r) = method.Undetermined r
 

@@ -17,17 +17,20 @@ pub enum Kind {
     Plain,
 }
 
-// A slot: known with its number, or undetermined with the unresolved ancestor's index.
+// A slot, or a total of slots: known with its number, or undetermined with the unresolved ancestor's index.
 pub enum Slot {
     Known(usize),
     Undetermined(usize),
 }
 
-// A method that was found: the index of its owner, its position there from 0, and its slot.
+// A method that was found: the index of its owner, its position there from 0, its slot,
+// the steps from the asked interface up to its owner, and the asked interface's total of slots.
 pub struct FoundMethod {
     pub owner: usize,
     pub position: usize,
     pub slot: Slot,
+    pub distance: usize,
+    pub total: Slot,
 }
 
 // A constant's value.

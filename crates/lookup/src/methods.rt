@@ -5,7 +5,7 @@ ghost use lib.ListN.{length};
 ghost use Rattle.number.specs.Limits.{fileLimit, ownLimit};
 ghost use Rattle.reader.specs.Layout.{Lies, Stands, Tells, Rows};
 ghost use Rattle.lookup.specs.Chain.{chainOf, chainAbove, found, firstPosition};
-ghost use Rattle.lookup.specs.Method.{isKind, isNamed, slotOf, methodAt, methodNamed, methodInSlot};
+ghost use Rattle.lookup.specs.Method.{isKind, isNamed, totalOf, stepsTo, methodAt, methodNamed, methodInSlot};
 ghost use Rattle.lookup.specs.Question.{badIndex, slotAs, slotNumber, movedBy, soughtMethod, methodAnswer, slottedAnswer};
 ghost use Rattle.lookup.specs.Holding.{Answers, PoolOf, NamedMethod};
 ghost use Rattle.lookup.specs.declared.Slot.the-variants.{Known};
@@ -68,23 +68,28 @@ fn slot_at(base: Slot, position: usize) -> Slot
     }
 }
 
-// The method at `position` of the entry `owner`, whose parent has the index `up`.
+// The method at `position` of the entry `owner`, whose parent has the index `up`; `distance` steps lead up to it from the entry of an index.
 fn found_at(
     file: &[u8],
     pool: &[u8],
     l: Layout,
+    index: usize,
     owner: usize,
     up: usize,
     position: usize,
+    distance: usize,
 ) -> MethodAnswer
-    requires { ⌜ Lies (now file) l × PoolOf (now file) l (now pool) × (up ≤ l .count) × (position ≤ ownLimit) ⌝ }
-    ensures { λ r. ⌜ Answers (now (file .entry)) l (λ es. soughtMethod (found (methodAt owner (chainAbove es up) position))) r ⌝ }
+    requires { ⌜ Lies (now file) l × PoolOf (now file) l (now pool) × (1 ≤ index) × (index ≤ l .count) × (up ≤ l .count) × (position ≤ ownLimit) × Answers (now file) l (λ es. stepsTo (chainOf es index) (chainAbove es up)) distance ⌝ }
+    ensures { λ r. ⌜ Answers (now (file .entry)) l (λ es. soughtMethod (found (methodAt (chainOf es index) owner (chainAbove es up) position))) r ⌝ }
 {
     let base = crate::chains::slot_base(file, pool, l, up);
+    let total = crate::chains::slot_base(file, pool, l, index);
     MethodAnswer::Found(FoundMethod {
         owner,
         position,
         slot: slot_at(base, position),
+        distance,
+        total,
     })
 }
 
@@ -100,9 +105,10 @@ fn find_named(
     requires { ⌜ Lies (now file) l × PoolOf (now file) l (now pool) × (1 ≤ index) × (index ≤ l .count) ⌝ }
     ensures { λ r. ⌜ Answers (now (file .entry)) l (λ es. soughtMethod (methodNamed (now (name .entry)) kind (chainOf es index))) r ⌝ }
 {
-    let mut left = l.count;
+    let count = l.count;
+    let mut distance: usize = 0;
     let mut j = index;
-    while left != 0 {
+    while distance < count {
         let q = reader::entry::descriptor_pointer(file, l, j - 1);
         if q == 0 {
             return MethodAnswer::Undetermined(j);
@@ -112,13 +118,13 @@ fn find_named(
         let p = own_position(pool, at + 4, n, name, kind);
         let up = reader::record::parent_index(pool, at);
         if p < n {
-            return found_at(file, pool, l, j, up, p);
+            return found_at(file, pool, l, index, j, up, p, distance);
         }
         if up == 0 {
             return MethodAnswer::None;
         }
         j = up;
-        left -= 1;
+        distance += 1;
     }
     MethodAnswer::Undetermined(j)
 }
@@ -132,13 +138,14 @@ fn find_slot(
     total: usize,
     s: usize,
 ) -> MethodAnswer
-    requires { ⌜ Lies (now file) l × PoolOf (now file) l (now pool) × (1 ≤ index) × (index ≤ l .count) × Answers (now file) l (λ es. slotAs (slotOf (chainOf es index) 0)) (Known total) × (s < total) ⌝ }
+    requires { ⌜ Lies (now file) l × PoolOf (now file) l (now pool) × (1 ≤ index) × (index ≤ l .count) × Answers (now file) l (λ es. slotAs (totalOf (chainOf es index))) (Known total) × (s < total) ⌝ }
     ensures { λ r. ⌜ Answers (now (file .entry)) l (λ es. soughtMethod (methodInSlot s (chainOf es index))) r ⌝ }
 {
-    let mut left = l.count;
+    let count = l.count;
+    let mut distance: usize = 0;
     let mut base = total;
     let mut j = index;
-    while left != 0 {
+    while distance < count {
         let q = reader::entry::descriptor_pointer(file, l, j - 1);
         let at = q - 1;
         let up = reader::record::parent_index(pool, at);
@@ -148,10 +155,12 @@ fn find_slot(
                 owner: j,
                 position: s - base,
                 slot: Slot::Known(s),
+                distance,
+                total: Slot::Known(total),
             });
         }
         j = up;
-        left -= 1;
+        distance += 1;
     }
     MethodAnswer::None
 }
@@ -184,7 +193,7 @@ pub fn by_name(file: &[u8], l: Layout, index: u64, name: &[u8], kind: Kind) -> M
 
 // Method by slot, on a chain whose slots are told by `base`.
 fn in_slot(file: &[u8], pool: &[u8], l: Layout, index: usize, base: Slot, slot: u64) -> MethodAnswer
-    requires { ⌜ Lies (now file) l × PoolOf (now file) l (now pool) × (1 ≤ index) × (index ≤ l .count) × Answers (now file) l (λ es. slotAs (slotOf (chainOf es index) 0)) base ⌝ }
+    requires { ⌜ Lies (now file) l × PoolOf (now file) l (now pool) × (1 ≤ index) × (index ≤ l .count) × Answers (now file) l (λ es. slotAs (totalOf (chainOf es index))) base ⌝ }
     ensures { λ r. ⌜ Answers (now (file .entry)) l (λ es. soughtMethod (methodInSlot slot (chainOf es index))) r ⌝ }
 {
     match base {

@@ -1,6 +1,7 @@
 -- `lookup::constants::find_constant` meets its contract.
 -- Assumes nothing.
 use borrow.Author.Needs.{needs}
+use mathlib.Core.List.{List}
 use Rattle.number.proofs.Tools.{arith, refl, sym, _∙_, ℕ}
 use Rattle.lookup.proofs.ConstantWalks as laws
 use Rattle.lookup.proofs.Walks as walks
@@ -8,11 +9,12 @@ use Rattle.lookup.proofs.Entries.{pool-small}
 use Rattle.lookup.specs.Question.{soughtConstant}
 use Rattle.lookup.specs.Constant.{constantNamed}
 use Rattle.lookup.specs.Chain.{Chain, seek, missed}
+use Rattle.reader.specs.Values.{Entry}
 use Rattle.lookup.proofs.constants.find_constant.Statement.{statement}
 use Rattle.lookup.proofs.constants.find_constant.Tie as tie
 
 abbrev Inv-loop : tie.InvT-loop
-Inv-loop file pool l index name left₀ j₀ left j = walks.Climbs file l (λ (c : Chain ℕ). soughtConstant (constantNamed name c)) index left j
+Inv-loop file pool l index name left₀ j₀ left j = walks.Climbs file l (λ (es : List (Entry ℕ)) (c : Chain ℕ). soughtConstant (constantNamed name c)) index left j
 
 abbrev μ-loop : tie.MeasureT-loop
 μ-loop file pool l index name left₀ j₀ left j = left
@@ -28,7 +30,7 @@ descriptor-pointer-requires c κs = let i = c .before .loop .inv in (c .before .
 
 returns : tie.Need-returns Inv-loop μ-loop
 unfolding soughtConstant constantNamed seek missed
-returns c = walks.climb-lacking _ _ _ _ _ _ (c .before .before .before .loop .inv) _ (c .before .descriptor-pointer .ensures) (c .if1 .taken) refl
+returns c = walks.climb-lacking _ _ _ _ _ _ (c .before .before .before .loop .inv) _ (c .before .descriptor-pointer .ensures) (c .if1 .taken) (λ es. refl)
 
 sub-at : tie.Need-sub-at Inv-loop μ-loop
 sub-at c = omega arith
@@ -58,7 +60,7 @@ returns-3 c =
     let o = c .before .before .before .before .held-by .ensures in
     let v = c .before .before .enum-told .given .1 in
     walks.climb-top _ _ _ _ _ _ (c .before .before .before .before .before .before .before .before .loop .inv) _ (c .before .before .before .before .before .before .descriptor-pointer .ensures) _ (c .before .before .before .before .before .before .before .before .before .before .before .before .pre .1) (c .before .before .before .before .before .if1 .left) _ (c .before .parent-index .ensures) (λ es a w.
-    laws.held-miss _ _ (w .own) _ (sym v ∙ o .each (w .own) (w .end) (w .named))) (c .if2 .taken) refl
+    laws.held-miss _ _ (w .own) _ (sym v ∙ o .each (w .own) (w .end) (w .named))) (c .if2 .taken) (λ es. refl)
 
 sub-left : tie.Need-sub-left Inv-loop μ-loop
 sub-left c = omega arith

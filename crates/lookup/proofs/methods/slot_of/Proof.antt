@@ -9,7 +9,7 @@ slot-base-requires : tie.Need-slot-base-requires
 slot-base-requires c κs = (c .before .before .pre .0, c .before .before .pre .1, c .before .before .pre .3)
 
 in-slot-requires : tie.Need-in-slot-requires
-in-slot-requires c κs = (c .before .before .before .pre .0, c .before .before .before .pre .1, c .before .before .before .pre .2, c .before .before .before .pre .3, laws.slots-of _ _ _ (λ e. omega arith) (c .slot-base .ensures .0))
+in-slot-requires c κs = (c .before .before .before .pre .0, c .before .before .before .pre .1, c .before .before .before .pre .2, c .before .before .before .pre .3, laws.total-of _ _ _ (λ e. omega arith) (c .slot-base .ensures .0))
 
 returns : tie.Need-returns
 returns c = c .in-slot .ensures
