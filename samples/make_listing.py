@@ -134,6 +134,10 @@ def inherited(index):
     return None if above is None else above + len(own[1])
 
 
+def shown(slots):
+    return "?" if slots is None else slots
+
+
 def listing():
     lines = [f"accepted {len(ENTRIES)}"]
     for index, (iid, space, text, own) in enumerate(ENTRIES, 1):
@@ -141,9 +145,10 @@ def listing():
         lines.append(f"I {index} {iid:032x} {space or '-'} {text} {end}")
         if own is None:
             continue
-        base = inherited(own[0])
+        base, total = inherited(own[0]), inherited(index)
         for position, (_, word, arguments) in enumerate(own[1]):
-            lines.append(f"M {'?' if base is None else base + position} {word} {len(arguments)}")
+            slot = None if base is None else base + position
+            lines.append(f"M {shown(slot)} {word} {len(arguments)} {shown(total)}")
         for word, _, value in own[2]:
             lines.append(f"C {word} {value}")
     return "".join(line + "\n" for line in lines)

@@ -1,6 +1,6 @@
 -- What is left to print, piece by piece.
 -- Assumes nothing.
-use mathlib.Core.Path.{_≡_, refl, _∙_}
+use mathlib.Core.Path.{_≡_, refl, sym, ap, _∙_}
 use mathlib.Core.List.{List, [], _∷_, _++_, append-assoc}
 use mathlib.Core.Option.{none}
 use Prim.Native.Nat.{ℕ, _+_, _-_, _≤_, _<_}
@@ -15,8 +15,8 @@ use Rattle.reader.specs.Records.{Run, ShowsMethod, ShowsConstant, ShowsDescript
 use Rattle.reader.specs.Rules.{All, Identifier, MethodRule, ConstantRule, DescriptorRule}
 use Rattle.reader.specs.Layout.{LaidOut, Stands, Ends}
 use Rattle.lookup.specs.declared.Slot.{Slot}
-use Rattle.lookup.specs.Chain.{Chain, ofParent, chainOf}
-use Rattle.lookup.specs.Method.{slotOf}
+use Rattle.lookup.specs.Chain.{Chain, ofParent, descriptorAt, chainOf}
+use Rattle.lookup.specs.Method.{slotOf, totalOf}
 use Rattle.lookup.specs.Question.{slotAs}
 use Rattle.lines.specs.declared.Cursor.{Cursor}
 use Rattle.lines.specs.declared.Cursor.the-variants.{AtMethods, AtConstants}
@@ -25,6 +25,7 @@ use Rattle.printed.specs.Writing.{Wrote, Small, NamedMethod, NamedConstant, Wro
 use Rattle.lookup.specs.Question.{slotNumber}
 use Rattle.lines.specs.Cursor.{EntriesLeft, ConstantsLeft, MethodsLeft, Left, PartWritten}
 use Rattle.printed.proofs.LineLaws.{laid-small}
+use Rattle.printed.proofs.TotalLaws.{total-own}
 use Rattle.lines.proofs.OwnLaws.{Resolved}
 
 -- ---- nothing written
@@ -56,21 +57,31 @@ module _ (s : List ℕ) (l : Layout) (i : ℕ) (k : i < l .count) (es : List (En
   later : EntriesLeft s l (i + 1) (entryLines es (i + 1 + 1) (drop (i + 1) es))
   later = record { entries = es; laid = h; few = omega arith; whole = refl }
 
-  pub below-open : descriptorIn es i ≡ none → EntriesLeft s l (i + 1) (ownLines es (descriptorIn es i) ++ entryLines es (i + 1 + 1) (drop (i + 1) es))
+  pub below-open : descriptorIn es i ≡ none → EntriesLeft s l (i + 1) (ownLines es (i + 1) (descriptorIn es i) ++ entryLines es (i + 1 + 1) (drop (i + 1) es))
   unfolding ownLines
   below-open e = rw e later
 
   module _ (pool : List ℕ) (lent : pool ≡ drop (l .pool) s) (d : ℕ) (x : Resolved pool es (h .minor) (l .count) i d) (n : d ≡ 0 → ⊥) (count : ℕ) (c : count ≡ length (methodsOf (x .value)))
-      (slot : Slot) (w : slot ≡ slotAs (slotOf (ofParent (chainOf es) (parentOf (x .value))) 0)) (low : slotNumber slot ≤ 1048576) where
-    pub below-methods : MethodsLeft s l i count (d + 3) slot (ownLines es (descriptorIn es i) ++ entryLines es (i + 1 + 1) (drop (i + 1) es))
+      (slot : Slot) (w : slot ≡ slotAs (slotOf (ofParent (chainOf es) (parentOf (x .value))) 0)) (low : slotNumber slot ≤ 1048576)
+      (total : Slot) (t : total ≡ slotAs (slotOf (ofParent (chainOf es) (parentOf (x .value))) (0 + count))) where
+    -- the slot past the last of its methods
+    own-total : slotAs (totalOf (chainOf es (i + 1))) ≡ total
+    unfolding descriptorAt
+    own-total =
+        let q : i + 1 - 1 ≡ i = omega arith in
+        let z : length (methodsOf (x .value)) ≡ 0 + count = omega (arith, c) in
+        let e = total-own (sym (h .count)) (h .ruled) (i + 1) (x .value) (omega arith, omega arith) (rw q (x .here)) in
+        ap slotAs (e ∙ ap (slotOf (ofParent (chainOf es) (parentOf (x .value)))) z) ∙ sym t
+
+    pub below-methods : MethodsLeft s l i count (d + 3) slot total (ownLines es (i + 1) (descriptorIn es i) ++ entryLines es (i + 1 + 1) (drop (i + 1) es))
     unfolding ownLines methodsOf parentOf constantsOf
     below-methods =
         let v : ShowsDescriptor (drop (l .pool) s) (d - 1) (x .value) (x .end) = rw (← lent) (x .shown) in
-        rw (x .here) (go (x .value) (x .end) v (x .rule) c w)
+        rw (x .here, own-total) (go (x .value) (x .end) v (x .rule) c w)
       where
         go : (y : Descriptor ℕ) (e : ℕ) → ShowsDescriptor (drop (l .pool) s) (d - 1) y e → DescriptorRule (h .minor) (l .count) y → count ≡ length (methodsOf y)
             → slot ≡ slotAs (slotOf (ofParent (chainOf es) (parentOf y)) 0)
-            → MethodsLeft s l i count (d + 3) slot ((methodLines (ofParent (chainOf es) (parentOf y)) 0 (methodsOf y) ++ constantLines (constantsOf y)) ++ entryLines es (i + 1 + 1) (drop (i + 1) es))
+            → MethodsLeft s l i count (d + 3) slot total ((methodLines total (ofParent (chainOf es) (parentOf y)) 0 (methodsOf y) ++ constantLines (constantsOf y)) ++ entryLines es (i + 1 + 1) (drop (i + 1) es))
         go (descriptor up ms ks f) e v r c w =
             let q : d - 1 + 4 ≡ d + 3 = omega arith in
             record {
@@ -96,7 +107,7 @@ module _ (s : List ℕ) (l : Layout) (i : ℕ) (k : i < l .count) (es : List (En
                 after = later;
                 whole = refl;
               };
-              whole = append-assoc (methodLines (ofParent (chainOf es) up) 0 ms) (constantLines ks) (entryLines es (i + 1 + 1) (drop (i + 1) es));
+              whole = append-assoc (methodLines total (ofParent (chainOf es) up) 0 ms) (constantLines ks) (entryLines es (i + 1 + 1) (drop (i + 1) es));
             }
 
 -- ---- entries
@@ -107,7 +118,7 @@ unfolding entryLines
 lines-done es i j h = rw (drop-of-length-le es {i = i} h) refl
 
 lines-next : (es : List (Entry ℕ)) (i : ℕ) → i < length es
-    → entryLines es (i + 1) (drop i es) ≡ entryLine (i + 1) (getD es i noEntry) ++ (ownLines es (descriptorIn es i) ++ entryLines es (i + 1 + 1) (drop (i + 1) es))
+    → entryLines es (i + 1) (drop i es) ≡ entryLine (i + 1) (getD es i noEntry) ++ (ownLines es (i + 1) (descriptorIn es i) ++ entryLines es (i + 1 + 1) (drop (i + 1) es))
 unfolding entryLines descriptorIn
 lines-next es i h = rw (drop-cons es i noEntry h, add-one i) refl
 
@@ -117,7 +128,7 @@ module _ (s : List ℕ) (l : Layout) (i : ℕ) (text : List ℕ) (h : EntriesLef
 
   module _ (k : i < l .count) (before : List ℕ) (at r : ℕ) (after : List ℕ) (c : Cursor) where
     pub entries-next : Wrote before at (entryLine (i + 1) (getD (h .entries) i noEntry)) r after
-        → Left s l c (ownLines (h .entries) (descriptorIn (h .entries) i) ++ entryLines (h .entries) (i + 1 + 1) (drop (i + 1) (h .entries)))
+        → Left s l c (ownLines (h .entries) (i + 1) (descriptorIn (h .entries) i) ++ entryLines (h .entries) (i + 1 + 1) (drop (i + 1) (h .entries)))
         → PartWritten s l before at r after c text
     entries-next w t = record { bytes = _; rest = _; split = h .whole ∙ lines-next (h .entries) i (omega (arith, h .laid .count)); left = t; wrote = w }
 
@@ -125,7 +136,7 @@ module _ (s : List ℕ) (l : Layout) (i : ℕ) (text : List ℕ) (h : EntriesLef
 
 -- those that the pool, lent beside the file, holds
 module _ (s : List ℕ) (l : Layout) (pool : List ℕ) (lent : pool ≡ drop (l .pool) s) (i k p : ℕ) where
-  module _ (slot : Slot) (text : List ℕ) (h : MethodsLeft s l i k p slot text) where
+  module _ (slot total : Slot) (text : List ℕ) (h : MethodsLeft s l i k p slot total text) where
     record NoMethods : Type 0 where
       pub place : p ≡ h .end
       pub same : text ≡ h .rest
@@ -134,7 +145,7 @@ module _ (s : List ℕ) (l : Layout) (pool : List ℕ) (lent : pool ≡ drop (l 
     unfolding methodLines
     no-methods z = go (h .methods) (h .count) (h .run) (h .whole)
       where
-        go : (ms : List (Method ℕ)) → k ≡ length ms → Run (NamedMethod (drop (l .pool) s)) p ms (h .end) → text ≡ methodLines (h .above) (h .position) ms ++ h .rest → NoMethods
+        go : (ms : List (Method ℕ)) → k ≡ length ms → Run (NamedMethod (drop (l .pool) s)) p ms (h .end) → text ≡ methodLines total (h .above) (h .position) ms ++ h .rest → NoMethods
         go [] c r w = record { place = r; same = w }
         go (m ∷ ms) c r w = absurd (omega arith)
 
@@ -155,23 +166,23 @@ module _ (s : List ℕ) (l : Layout) (pool : List ℕ) (lent : pool ≡ drop (l 
         go [] c r = absurd (z c)
         go (m ∷ ms) c r = record { value = m; end = r .0; shown = r .1 }
 
-    module _ (z : k ≡ 0 → ⊥) (before : List ℕ) (at r : ℕ) (after : List ℕ) (w : WroteOf (NamedMethod pool p) (methodLine slot) before at r after)
+    module _ (z : k ≡ 0 → ⊥) (before : List ℕ) (at r : ℕ) (after : List ℕ) (w : WroteOf (NamedMethod pool p) (methodLine slot total) before at r after)
         (end : ℕ) (e : Ends (ShowsMethod pool p) end) (slot' : Slot)
         (f : (above : Chain ℕ) (q : ℕ) → slot ≡ slotAs (slotOf above q) → slot' ≡ slotAs (slotOf above (q + 1))) (g : slotNumber slot' ≤ slotNumber slot + 1) where
-      pub methods-next : PartWritten s l before at r after (AtMethods (record { entry = i; left = k - 1; at = end; slot = slot' })) text
+      pub methods-next : PartWritten s l before at r after (AtMethods (record { entry = i; left = k - 1; at = end; slot = slot'; total = total })) text
       unfolding methodLines
       methods-next = go (h .methods) (h .count) (h .run) (h .whole)
         where
-          go : (ms : List (Method ℕ)) → k ≡ length ms → Run (NamedMethod (drop (l .pool) s)) p ms (h .end) → text ≡ methodLines (h .above) (h .position) ms ++ h .rest
-              → PartWritten s l before at r after (AtMethods (record { entry = i; left = k - 1; at = end; slot = slot' })) text
+          go : (ms : List (Method ℕ)) → k ≡ length ms → Run (NamedMethod (drop (l .pool) s)) p ms (h .end) → text ≡ methodLines total (h .above) (h .position) ms ++ h .rest
+              → PartWritten s l before at r after (AtMethods (record { entry = i; left = k - 1; at = end; slot = slot'; total = total })) text
           go [] c run t = absurd (z c)
           go (m ∷ ms) c run t =
               let v : NamedMethod pool p m (run .0) = rw lent (run .1) in
               let q : end ≡ run .0 = e .each m (run .0) (v .0) in
               record {
-                bytes = methodLine slot m;
-                rest = methodLines (h .above) (h .position + 1) ms ++ h .rest;
-                split = t ∙ rw (← h .slotted) (append-assoc (methodLine slot m) (methodLines (h .above) (h .position + 1) ms) (h .rest));
+                bytes = methodLine slot total m;
+                rest = methodLines total (h .above) (h .position + 1) ms ++ h .rest;
+                split = t ∙ rw (← h .slotted) (append-assoc (methodLine slot total m) (methodLines total (h .above) (h .position + 1) ms) (h .rest));
                 left = record {
                   methods = ms;
                   count = omega arith;

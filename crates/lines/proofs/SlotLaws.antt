@@ -14,17 +14,17 @@ use Rattle.lookup.specs.Method.{methodsIn, slotOf}
 use Rattle.lookup.specs.Question.{slotAs}
 use Rattle.lines.specs.Cursor.{ParentAt}
 
--- ---- one position more
+-- ---- some positions more
 
-pub slot-more : (slot : Slot) (above : Chain ℕ) (p s : ℕ) → slot ≡ slotAs (slotOf above p) → slot ≡ Known s → Known (s + 1) ≡ slotAs (slotOf above (p + 1))
+pub slot-more : (slot : Slot) (above : Chain ℕ) (p k s : ℕ) → slot ≡ slotAs (slotOf above p) → slot ≡ Known s → Known (s + k) ≡ slotAs (slotOf above (p + k))
 unfolding slotOf slotAs
-slot-more slot (chain xs root) p s e k = let z : methodsIn xs + p ≡ s = cc in ap Known (omega arith)
-slot-more slot (chain xs (unresolved r)) p s e k = absurd (let z : _≡_ {A = ℕ} 0 1 = cc in omega arith)
+slot-more slot (chain xs root) p k s e q = let z : methodsIn xs + p ≡ s = cc in ap Known (omega arith)
+slot-more slot (chain xs (unresolved r)) p k s e q = absurd (let z : _≡_ {A = ℕ} 0 1 = cc in omega arith)
 
-pub slot-unknown : (slot : Slot) (above : Chain ℕ) (p r : ℕ) → slot ≡ slotAs (slotOf above p) → slot ≡ Undetermined r → Undetermined r ≡ slotAs (slotOf above (p + 1))
+pub slot-unknown : (slot : Slot) (above : Chain ℕ) (p k r : ℕ) → slot ≡ slotAs (slotOf above p) → slot ≡ Undetermined r → Undetermined r ≡ slotAs (slotOf above (p + k))
 unfolding slotOf slotAs
-slot-unknown slot (chain xs root) p r e k = absurd (let z : _≡_ {A = ℕ} 0 1 = cc in omega arith)
-slot-unknown slot (chain xs (unresolved q)) p r e k = cc
+slot-unknown slot (chain xs root) p k r e q = absurd (let z : _≡_ {A = ℕ} 0 1 = cc in omega arith)
+slot-unknown slot (chain xs (unresolved u)) p k r e q = cc
 
 -- ---- the chain of a parent
 

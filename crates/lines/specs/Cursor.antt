@@ -49,8 +49,8 @@ pub record ConstantsLeft (s : List ℕ) (l : Layout) (i k p : ℕ) (text : List 
   pub after : EntriesLeft s l (i + 1) rest
   pub whole : text ≡ constantLines constants ++ rest
 
--- k methods of entry i, which stand from p on, the first with this slot; the constants, whose count stands after them; and the entries after it
-pub record MethodsLeft (s : List ℕ) (l : Layout) (i k p : ℕ) (slot : Slot) (text : List ℕ) : Type 0 where
+-- k methods of entry i, which stand from p on, the first with this slot, each line with this total; the constants, whose count stands after them; and the entries after it
+pub record MethodsLeft (s : List ℕ) (l : Layout) (i k p : ℕ) (slot total : Slot) (text : List ℕ) : Type 0 where
   pub methods : List (Method ℕ)
   pub count : k ≡ length methods
   pub few : k ≤ ownLimit
@@ -64,13 +64,13 @@ pub record MethodsLeft (s : List ℕ) (l : Layout) (i k p : ℕ) (slot : Slot) (
   pub counted : ShowsField 2 (drop (l .pool) s) end constants
   pub rest : List ℕ
   pub after : ConstantsLeft s l i constants (end + 2) rest
-  pub whole : text ≡ methodLines above position methods ++ rest
+  pub whole : text ≡ methodLines total above position methods ++ rest
 
 -- the text that is left to print of the file s, laid out as l says
 abbrev pub Left : List ℕ → Layout → Cursor → List ℕ → Type 0
 Left s l Done text = text ≡ []
 Left s l (AtEntry i) text = EntriesLeft s l i text
-Left s l (AtMethods m) text = MethodsLeft s l (m .entry) (m .left) (m .at) (m .slot) text
+Left s l (AtMethods m) text = MethodsLeft s l (m .entry) (m .left) (m .at) (m .slot) (m .total) text
 Left s l (AtConstants k) text = ConstantsLeft s l (k .entry) (k .left) (k .at) text
 
 -- the cursor is one of this file

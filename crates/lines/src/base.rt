@@ -22,13 +22,13 @@ pub fn slot_base(file: &[u8], pool: &[u8], l: Layout, up: usize) -> Slot
     lookup::chains::slot_base(file, pool, l, up)
 }
 
-// The slot after this one.
-pub fn next_slot(slot: Slot) -> Slot
-    requires { ⌜ slotNumber slot ≤ 1049600 ⌝ }
-    ensures { λ r. ⌜ ((above : Chain ℕ) (p : ℕ) → slot ≡ slotAs (slotOf above p) → r ≡ slotAs (slotOf above (p + 1))) × (slotNumber r ≤ slotNumber slot + 1) ⌝ }
+// The slot k positions after this one.
+pub fn slot_after(slot: Slot, k: usize) -> Slot
+    requires { ⌜ slotNumber slot + k ≤ 1049600 ⌝ }
+    ensures { λ r. ⌜ ((above : Chain ℕ) (p : ℕ) → slot ≡ slotAs (slotOf above p) → r ≡ slotAs (slotOf above (p + k))) × (slotNumber r ≤ slotNumber slot + k) ⌝ }
 {
     match slot {
-        Slot::Known(s) => Slot::Known(s + 1),
+        Slot::Known(s) => Slot::Known(s + k),
         Slot::Undetermined(r) => Slot::Undetermined(r),
     }
 }

@@ -15,12 +15,13 @@ ghost use Rattle.printed.specs.Listing.{listingOf, printedOf};
 ghost use Rattle.lines.specs.Cursor.{Begun, isDone, Filling, onlyLine, Starting};
 use printed::LINE_ROOM;
 
-// Where the methods of an entry, counted from 0, go on: how many are left, the place of the next in the pool, and its slot.
+// Where the methods of an entry, counted from 0, go on: how many are left, the place of the next in the pool, and its slot; with the entry's total of slots.
 pub struct MethodsAt {
     pub entry: usize,
     pub left: usize,
     pub at: usize,
     pub slot: Slot,
+    pub total: Slot,
 }
 
 // Where its constants go on.

@@ -18,7 +18,7 @@ ghost use Rattle.lines.specs.Cursor.{Left, Begun, Moved, turns};
 // What follows the line of entry i.
 fn below(file: &[u8], pool: &[u8], l: Layout, i: usize) -> Cursor
     requires { ⌜ Lies (now file) l × ((now pool ≡ drop (l .pool) (now file)) × (i < l .count)) ⌝ }
-    ensures { λ r. ⌜ ((es : List (Entry ℕ)) → LaidOut (now (file .entry)) l es → Left (now (file .entry)) l r (ownLines es (descriptorIn es i) ++ entryLines es (i + 1 + 1) (drop (i + 1) es))) × (turns (l .count) r < turns (l .count) (AtEntry i)) ⌝ }
+    ensures { λ r. ⌜ ((es : List (Entry ℕ)) → LaidOut (now (file .entry)) l es → Left (now (file .entry)) l r (ownLines es (i + 1) (descriptorIn es i) ++ entryLines es (i + 1 + 1) (drop (i + 1) es))) × (turns (l .count) r < turns (l .count) (AtEntry i)) ⌝ }
 {
     let d = reader::entry::descriptor_pointer(file, l, i);
     if d == 0 {
@@ -27,11 +27,13 @@ fn below(file: &[u8], pool: &[u8], l: Layout, i: usize) -> Cursor
     let up = reader::record::parent_index(pool, d - 1);
     let left = reader::record::method_count(pool, d - 1);
     let slot = crate::base::slot_base(file, pool, l, up);
+    let total = crate::base::slot_after(slot, left);
     Cursor::AtMethods(MethodsAt {
         entry: i,
         left,
         at: d + 3,
         slot,
+        total,
     })
 }
 
@@ -69,6 +71,7 @@ fn method_piece(
     let left = m.left;
     let from = m.at;
     let slot = m.slot;
+    let total = m.total;
     if left == 0 {
         let count = number::u16_at(pool, from) as usize;
         return Piece {
@@ -80,9 +83,9 @@ fn method_piece(
             }),
         };
     }
-    let next = printed::line::put_method(pool, from, slot, out, at);
+    let next = printed::line::put_method(pool, from, slot, total, out, at);
     let end = reader::record::method_end(pool, from);
-    let after = crate::base::next_slot(slot);
+    let after = crate::base::slot_after(slot, 1);
     Piece {
         at: next,
         cursor: Cursor::AtMethods(MethodsAt {
@@ -90,6 +93,7 @@ fn method_piece(
             left: left - 1,
             at: end,
             slot: after,
+            total,
         }),
     }
 }

@@ -25,7 +25,7 @@ use Rattle.lines.proofs.BeginLaws.{listed-accepted, entries-start}
 use Rattle.sayings.specs.declared.Said.{Said}
 use Rattle.sayings.specs.declared.Why.the-variants.{Answered, Refused}
 use Rattle.sayings.specs.Texts.{refusedLine}
-use Rattle.sayings.specs.Sayings.{Says, saying, verdictWhy}
+use Rattle.sayings.specs.Sayings.{answerRoom, Says, saying, verdictWhy}
 use Rattle.listed.specs.declared.Next.{Next}
 use Rattle.listed.specs.declared.Next.the-variants.{Over, Closing, At}
 use Rattle.listed.specs.declared.More.{More}
@@ -48,7 +48,7 @@ module _ (b : Bool) (s text : List ℕ) (said : Said) where
     left = rw k refl;
   }
 
-  pub opens-accepted : (t : Typelib) (e n : ℕ) (l : Layout) (mid : List ℕ) (r : Rest) (after : List ℕ) → 128 ≡ length mid
+  pub opens-accepted : (t : Typelib) (e n : ℕ) (l : Layout) (mid : List ℕ) (r : Rest) (after : List ℕ) → answerRoom ≡ length mid
       → checkOf s ≡ verdict.Accepted n → decode s ≡ got t e → n ≡ headerOf t .count → LaidOut s l (entriesIn t)
       → Says (saying (lineOf (verdict.Accepted n)) Answered) text said mid → after ≡ shown b (take (said .length) mid) ++ drop (said .length) mid → r ≡ restOf l b (AtEntry 0)
       → Opens b (listSaying b s) s text (record { said = said; rest = r }) after

@@ -10,7 +10,7 @@ use lib.Seq.{sets}
 use Rattle.number.specs.Choice.{if_then_else_}
 use Rattle.reader.specs.declared.Layout.{Layout}
 use Rattle.text.specs.Line.{newline}
-use Rattle.sayings.specs.Sayings.{Saying}
+use Rattle.sayings.specs.Sayings.{answerRoom, Saying}
 use Rattle.lines.specs.declared.Cursor.{Cursor}
 use Rattle.lines.specs.Cursor.{Left, isDone, turns}
 use Rattle.listed.specs.declared.Next.{Next}
@@ -73,7 +73,7 @@ pub record Opens (inBatch : Bool) (x : Saying) (s before : List ℕ) (r : Opened
   pub rest : List ℕ
   pub split : x .text ≡ bytes ++ rest
   pub long : r .said .length ≡ length bytes
-  pub fits : r .said .length ≤ 128
+  pub fits : r .said .length ≤ answerRoom
   pub why : r .said .why ≡ x .why
   pub stored : after ≡ sets before 0 bytes
   pub left : LeftIn inBatch s (r .rest) rest

@@ -2,6 +2,7 @@
 use lines::Cursor;
 use reader::Layout;
 use reading::Verdict;
+use sayings::ANSWER_ROOM;
 use sayings::Said;
 ghost use mathlib.Core.Path.{_≡_};
 ghost use mathlib.Core.List.{List, _++_};
@@ -95,7 +96,7 @@ fn rest_of(layout: Layout, c: Cursor, in_batch: bool) -> Rest
 }
 
 // The first line of the listing: the verdict.
-pub fn open(file: &[u8], in_batch: bool, text: &mut [u8; 128]) -> Opened
+pub fn open(file: &[u8], in_batch: bool, text: &mut [u8; ANSWER_ROOM]) -> Opened
     ensures { λ r. ⌜ Opens «in_batch» (listSaying «in_batch» (now (file .entry))) (now (file .entry)) (now (text .entry)) r (now (text .exit)) ⌝ }
 {
     match reader::check(file) {

@@ -125,10 +125,10 @@ module _ (s : List ℕ) (p q : ℕ) where
   pub constant-fits : Names (ShowsConstant s p) constantName s q → Stands (NamedConstant s p) → Leads s q × (length (wordAt s (q - 1)) ≤ 255)
   constant-fits n h = name-fits s q _ (n .each (h .value) (h .end) (h .shown .0) (h .shown .1)) (h .shown .1)
 
-pub method-text : (slot : Slot) (m : Method ℕ) (w : List ℕ) (n : ℕ) → w ≡ methodName m → n ≡ argumentCount m
-    → ((methodWord ++ slotText slot) ++ (space ++ w)) ++ ((space ++ digitsOf n) ++ newline) ≡ methodLine slot m
+pub method-text : (slot total : Slot) (m : Method ℕ) (w : List ℕ) (n : ℕ) → w ≡ methodName m → n ≡ argumentCount m
+    → (((methodWord ++ slotText slot) ++ (space ++ w)) ++ (space ++ digitsOf n)) ++ ((space ++ slotText total) ++ newline) ≡ methodLine slot total m
 unfolding methodLine
-method-text slot m w n e f = rw (e, f) refl
+method-text slot total m w n e f = rw (e, f) refl
 
 pub constant-text : (x : Constant) (w : List ℕ) → w ≡ constantName x → ((constantWord ++ w) ++ (space ++ valueText (valueOf x))) ++ newline ≡ constantLine x
 unfolding constantLine

@@ -19,7 +19,7 @@ use Rattle.lookup.specs.declared.Slot.the-variants.{Known, Undetermined}
 use Rattle.lookup.specs.declared.Value.{Value}
 use Rattle.lookup.specs.declared.Value.the-variants.{I16, I32, U16, U32}
 use Rattle.lookup.specs.Chain.{Chain, ofParent, chainOf}
-use Rattle.lookup.specs.Method.{slotOf}
+use Rattle.lookup.specs.Method.{slotOf, totalOf}
 use Rattle.lookup.specs.Constant.{valueOf}
 use Rattle.lookup.specs.Question.{slotAs}
 
@@ -39,7 +39,7 @@ constantWord = 67 ∷ 32 ∷ []
 abbrev pub hyphen : List ℕ
 hyphen = 45 ∷ []
 
--- `?`, for an unknown slot
+-- `?`, for an unknown slot or total
 abbrev pub mark : List ℕ
 mark = 63 ∷ []
 
@@ -66,6 +66,7 @@ unfoldable pub parentText : Option (Descriptor ℕ) → List ℕ
 parentText none = unresolvedWord
 parentText (some d) = parentWord ++ digitsOf (parentIndex (parentOf d))
 
+-- a slot, or a total of slots
 unfoldable pub slotText : Slot → List ℕ
 slotText (Known s) = digitsOf s
 slotText (Undetermined r) = mark
@@ -89,9 +90,11 @@ entryLine i x =
     ++ ((space ++ spaceText (keySpace (entryKey x))) ++ (space ++ keyName (entryKey x)))
     ++ ((space ++ parentText (entryDescriptor x)) ++ newline)
 
--- `M slot name arguments`, the last a count
-unfoldable pub methodLine : Slot → Method ℕ → List ℕ
-methodLine slot m = (methodWord ++ slotText slot) ++ (space ++ methodName m) ++ ((space ++ digitsOf (argumentCount m)) ++ newline)
+-- `M slot name arguments total`: a count, and the total of slots of the interface that is listed
+unfoldable pub methodLine : Slot → Slot → Method ℕ → List ℕ
+methodLine slot total m =
+    (methodWord ++ slotText slot) ++ (space ++ methodName m) ++ (space ++ digitsOf (argumentCount m))
+    ++ ((space ++ slotText total) ++ newline)
 
 -- `C name value`
 unfoldable pub constantLine : Constant → List ℕ
@@ -99,24 +102,25 @@ constantLine c = (constantWord ++ constantName c) ++ (space ++ valueText (valueO
 
 -- ---- the listing
 
--- the methods from position k on, of an entry whose parents have the chain `above`
-unfoldable pub methodLines : Chain ℕ → ℕ → List (Method ℕ) → List ℕ
-methodLines above k [] = []
-methodLines above k (m ∷ ms) = methodLine (slotAs (slotOf above k)) m ++ methodLines above (k + 1) ms
+-- the methods from position k on, of an entry with this total whose parents have the chain `above`
+unfoldable pub methodLines : Slot → Chain ℕ → ℕ → List (Method ℕ) → List ℕ
+methodLines total above k [] = []
+methodLines total above k (m ∷ ms) = methodLine (slotAs (slotOf above k)) total m ++ methodLines total above (k + 1) ms
 
 unfoldable pub constantLines : List Constant → List ℕ
 constantLines [] = []
 constantLines (c ∷ cs) = constantLine c ++ constantLines cs
 
--- what stands under the line of an entry: its methods, then its constants, by position
-unfoldable pub ownLines : List (Entry ℕ) → Option (Descriptor ℕ) → List ℕ
-ownLines es none = []
-ownLines es (some d) = methodLines (ofParent (chainOf es) (parentOf d)) 0 (methodsOf d) ++ constantLines (constantsOf d)
+-- what stands under the line of the entry of index i: its methods, then its constants, by position
+unfoldable pub ownLines : List (Entry ℕ) → ℕ → Option (Descriptor ℕ) → List ℕ
+ownLines es i none = []
+ownLines es i (some d) =
+    methodLines (slotAs (totalOf (chainOf es i))) (ofParent (chainOf es) (parentOf d)) 0 (methodsOf d) ++ constantLines (constantsOf d)
 
 -- the last entries of es, from index i on
 unfoldable pub entryLines : List (Entry ℕ) → ℕ → List (Entry ℕ) → List ℕ
 entryLines es i [] = []
-entryLines es i (x ∷ xs) = entryLine i x ++ (ownLines es (entryDescriptor x) ++ entryLines es (i + 1) xs)
+entryLines es i (x ∷ xs) = entryLine i x ++ (ownLines es i (entryDescriptor x) ++ entryLines es (i + 1) xs)
 
 -- of a decoded file; the first number is that of its interfaces
 unfoldable pub listingOf : Got Typelib → List ℕ

@@ -53,7 +53,7 @@ pub fn put_entry(file: &[u8], pool: &[u8], l: Layout, i: usize, out: &mut [u8], 
     put_parent(pool, d, out, parent)
 }
 
-// A slot, `?` for an unknown one.
+// A slot or a total of slots, `?` for an unknown one.
 fn put_slot(slot: Slot, out: &mut [u8], at: usize) -> usize
     requires { ⌜ Room (now out) at 20 ⌝ }
     ensures { λ r. ⌜ Wrote (now (out .entry)) at (slotText slot) r (now (out .exit)) × (r ≤ at + 20) ⌝ }
@@ -64,10 +64,27 @@ fn put_slot(slot: Slot, out: &mut [u8], at: usize) -> usize
     }
 }
 
-// The line of the method at `from`, which has this slot.
-pub fn put_method(pool: &[u8], from: usize, slot: Slot, out: &mut [u8], at: usize) -> usize
+// The end of a method's line.
+fn put_total(total: Slot, out: &mut [u8], at: usize) -> usize
+    requires { ⌜ Room (now out) at 22 ⌝ }
+    ensures { λ r. ⌜ Wrote (now (out .entry)) at ((space ++ slotText total) ++ newline) r (now (out .exit)) × (r ≤ at + 22) ⌝ }
+{
+    let first = text::put_bytes(out, at, b" ");
+    let end = put_slot(total, out, first);
+    text::put_bytes(out, end, b"\n")
+}
+
+// The line of the method at `from`, which has this slot, of an interface with this total.
+pub fn put_method(
+    pool: &[u8],
+    from: usize,
+    slot: Slot,
+    total: Slot,
+    out: &mut [u8],
+    at: usize,
+) -> usize
     requires { ⌜ Stands (NamedMethod (now pool) from) × (Small (now pool) × Room (now out) at lineRoom) ⌝ }
-    ensures { λ r. ⌜ WroteOf (NamedMethod (now (pool .entry)) from) (methodLine slot) (now (out .entry)) at r (now (out .exit)) × (r ≤ at + lineRoom) ⌝ }
+    ensures { λ r. ⌜ WroteOf (NamedMethod (now (pool .entry)) from) (methodLine slot total) (now (out .entry)) at r (now (out .exit)) × (r ≤ at + lineRoom) ⌝ }
 {
     let q = reader::record::method_name(pool, from);
     let count = reader::record::argument_count(pool, from);
@@ -75,7 +92,7 @@ pub fn put_method(pool: &[u8], from: usize, slot: Slot, out: &mut [u8], at: usiz
     let name = put_slot(slot, out, first);
     let arguments = crate::word::put_name(pool, q, out, name);
     let end = text::put_labelled(out, arguments, b" ", count as u64);
-    text::put_bytes(out, end, b"\n")
+    put_total(total, out, end)
 }
 
 // The line of the constant at `from`.

@@ -38,28 +38,37 @@ slot-base-requires c κs =
     let d = c .before .before .before .descriptor-pointer in
     (p .0, (p .1 .0, own-low (a .file .now) (a .l) (a .pool .now) (p .1 .0) (a .i) (p .1 .1) (d .result) (d .ensures) (c .before .before .if1 .left) (c .before .parent-index .result) (c .before .parent-index .ensures) (p .0)))
 
-add-t11 : tie.Need-add-t11
-add-t11 c =
-    let a = c .before .before .before .before .before .before .before .args in
-    let p = c .before .before .before .before .before .before .before .pre in
-    let d = c .before .before .before .before .descriptor-pointer in
-    let small = laid-small (a .file .now) (a .l) (p .0 .entries) (p .0 .laid) in
-    omega (arith, ap length (p .1 .0), descriptor-in (a .pool .now) (d .result - 1) (own-stands (a .file .now) (a .l) (a .pool .now) (p .1 .0) (a .i) (p .1 .1) (d .result) (d .ensures) (c .before .before .before .if1 .left) (p .0)))
-
-returns-2 : tie.Need-returns-2
-unfolding turns
-returns-2 c =
+slot-after-requires : tie.Need-slot-after-requires
+slot-after-requires c κs =
     let a = c .before .before .before .before .before .before .before .args in
     let p = c .before .before .before .before .before .before .before .pre in
     let d = c .before .before .before .before .descriptor-pointer in
     let n = c .before .method-count in
-    let t = c .before .before .parent-index in
-    let slot = c .slot-base in (
+    omega (arith, c .slot-base .ensures .1, own-few (a .file .now) (a .l) (a .pool .now) (p .1 .0) (a .i) (p .1 .1) (d .result) (d .ensures) (c .before .before .before .if1 .left) (n .result) (n .ensures) (p .0))
+
+add-t12 : tie.Need-add-t12
+add-t12 c =
+    let a = c .before .before .before .before .before .before .before .before .args in
+    let p = c .before .before .before .before .before .before .before .before .pre in
+    let d = c .before .before .before .before .before .descriptor-pointer in
+    let small = laid-small (a .file .now) (a .l) (p .0 .entries) (p .0 .laid) in
+    omega (arith, ap length (p .1 .0), descriptor-in (a .pool .now) (d .result - 1) (own-stands (a .file .now) (a .l) (a .pool .now) (p .1 .0) (a .i) (p .1 .1) (d .result) (d .ensures) (c .before .before .before .before .if1 .left) (p .0)))
+
+returns-2 : tie.Need-returns-2
+unfolding turns
+returns-2 c =
+    let a = c .before .before .before .before .before .before .before .before .args in
+    let p = c .before .before .before .before .before .before .before .before .pre in
+    let d = c .before .before .before .before .before .descriptor-pointer in
+    let n = c .before .before .method-count in
+    let t = c .before .before .before .parent-index in
+    let slot = c .before .slot-base in
+    let total = c .slot-after in (
       λ es h.
-          let x = own-of (a .file .now) (a .l) (a .pool .now) (p .1 .0) (a .i) (p .1 .1) (d .result) (d .ensures) (c .before .before .before .if1 .left) es h in
-          below-methods (a .file .now) (a .l) (a .i) (p .1 .1) es h (a .pool .now) (p .1 .0) (d .result) x (c .before .before .before .if1 .left) (n .result) (n .ensures .each (x .value) (x .end) (x .shown)) (slot .result)
-          (slot .ensures .0 es h _ (own-parent (a .file .now) (a .l) (a .pool .now) (p .1 .0) (a .i) (p .1 .1) (d .result) (d .ensures) (c .before .before .before .if1 .left) (t .result) (t .ensures) es h)) (slot .ensures .1),
-      omega (arith, own-few (a .file .now) (a .l) (a .pool .now) (p .1 .0) (a .i) (p .1 .1) (d .result) (d .ensures) (c .before .before .before .if1 .left) (n .result) (n .ensures) (p .0)),
+          let x = own-of (a .file .now) (a .l) (a .pool .now) (p .1 .0) (a .i) (p .1 .1) (d .result) (d .ensures) (c .before .before .before .before .if1 .left) es h in
+          let w = slot .ensures .0 es h _ (own-parent (a .file .now) (a .l) (a .pool .now) (p .1 .0) (a .i) (p .1 .1) (d .result) (d .ensures) (c .before .before .before .before .if1 .left) (t .result) (t .ensures) es h) in
+          below-methods (a .file .now) (a .l) (a .i) (p .1 .1) es h (a .pool .now) (p .1 .0) (d .result) x (c .before .before .before .before .if1 .left) (n .result) (n .ensures .each (x .value) (x .end) (x .shown)) (slot .result) w (slot .ensures .1) (total .result) (total .ensures .0 _ 0 w),
+      omega (arith, own-few (a .file .now) (a .l) (a .pool .now) (p .1 .0) (a .i) (p .1 .1) (d .result) (d .ensures) (c .before .before .before .before .if1 .left) (n .result) (n .ensures) (p .0)),
     )
 
 pub below-spec : {M : Type 1} → statement M
@@ -74,5 +83,6 @@ below-spec =
     (λ c. search needs)
     method-count-requires
     slot-base-requires
-    add-t11
+    slot-after-requires
+    add-t12
     returns-2)

@@ -14,14 +14,14 @@ u16-at-requires c κs =
     let a = c .before .before .before .before .args in
     let p = c .before .before .before .before .pre in
     let h = p .0 .left in
-    count-inside (a .file .now) (a .l) (a .pool .now) (p .1 .0) (a .m .entry) (a .m .left) (a .m .at) (a .m .slot) (p .0 .text) h (c .if1 .taken)
+    count-inside (a .file .now) (a .l) (a .pool .now) (p .1 .0) (a .m .entry) (a .m .left) (a .m .at) (a .m .slot) (a .m .total) (p .0 .text) h (c .if1 .taken)
 
-add-t17 : tie.Need-add-t17
-add-t17 c =
+add-t18 : tie.Need-add-t18
+add-t18 c =
     let a = c .before .before .before .before .before .args in
     let p = c .before .before .before .before .before .pre in
     let h = p .0 .left in
-    omega (arith, pool-small (a .file .now) (a .l) (a .pool .now) (p .1 .0) (h .after .after .entries) (h .after .after .laid), count-inside (a .file .now) (a .l) (a .pool .now) (p .1 .0) (a .m .entry) (a .m .left) (a .m .at) (a .m .slot) (p .0 .text) h (c .before .if1 .taken))
+    omega (arith, pool-small (a .file .now) (a .l) (a .pool .now) (p .1 .0) (h .after .after .entries) (h .after .after .laid), count-inside (a .file .now) (a .l) (a .pool .now) (p .1 .0) (a .m .entry) (a .m .left) (a .m .at) (a .m .slot) (a .m .total) (p .0 .text) h (c .before .if1 .taken))
 
 returns : tie.Need-returns
 unfolding turns
@@ -32,8 +32,8 @@ returns c =
     let n = c .u16-at in
     let z = c .before .if1 .taken in
     record {
-      each = λ text v. part-none (a .file .now) (a .l) (a .out .now) (a .at) (AtConstants (record { entry = a .m .entry; left = n .result; at = a .m .at + 2 })) text (methods-done (a .file .now) (a .l) (a .pool .now) (p .1 .0) (a .m .entry) (a .m .left) (a .m .at) (a .m .slot) text v z (n .result) (n .ensures));
-      onward = inr (omega (arith, methods-done (a .file .now) (a .l) (a .pool .now) (p .1 .0) (a .m .entry) (a .m .left) (a .m .at) (a .m .slot) (p .0 .text) h z (n .result) (n .ensures) .few));
+      each = λ text v. part-none (a .file .now) (a .l) (a .out .now) (a .at) (AtConstants (record { entry = a .m .entry; left = n .result; at = a .m .at + 2 })) text (methods-done (a .file .now) (a .l) (a .pool .now) (p .1 .0) (a .m .entry) (a .m .left) (a .m .at) (a .m .slot) (a .m .total) text v z (n .result) (n .ensures));
+      onward = inr (omega (arith, methods-done (a .file .now) (a .l) (a .pool .now) (p .1 .0) (a .m .entry) (a .m .left) (a .m .at) (a .m .slot) (a .m .total) (p .0 .text) h z (n .result) (n .ensures) .few));
       room = omega arith;
     }
 
@@ -42,14 +42,14 @@ put-method-requires c κs =
     let a = c .before .before .before .before .before .args in
     let p = c .before .before .before .before .before .pre in
     let h = p .0 .left in
-    (method-first (a .file .now) (a .l) (a .pool .now) (p .1 .0) (a .m .entry) (a .m .left) (a .m .at) (a .m .slot) (p .0 .text) h (c .before .if1 .left), (pool-small (a .file .now) (a .l) (a .pool .now) (p .1 .0) (h .after .after .entries) (h .after .after .laid), p .1 .1))
+    (method-first (a .file .now) (a .l) (a .pool .now) (p .1 .0) (a .m .entry) (a .m .left) (a .m .at) (a .m .slot) (a .m .total) (p .0 .text) h (c .before .if1 .left), (pool-small (a .file .now) (a .l) (a .pool .now) (p .1 .0) (h .after .after .entries) (h .after .after .laid), p .1 .1))
 
 method-end-requires : tie.Need-method-end-requires
 method-end-requires c κs =
     let a = c .before .before .before .before .before .before .before .before .args in
     let p = c .before .before .before .before .before .before .before .before .pre in
     let h = p .0 .left in
-    (method-shown (method-first (a .file .now) (a .l) (a .pool .now) (p .1 .0) (a .m .entry) (a .m .left) (a .m .at) (a .m .slot) (p .0 .text) h (c .before .before .before .before .if1 .left)), pool-small (a .file .now) (a .l) (a .pool .now) (p .1 .0) (h .after .after .entries) (h .after .after .laid))
+    (method-shown (method-first (a .file .now) (a .l) (a .pool .now) (p .1 .0) (a .m .entry) (a .m .left) (a .m .at) (a .m .slot) (a .m .total) (p .0 .text) h (c .before .before .before .before .if1 .left)), pool-small (a .file .now) (a .l) (a .pool .now) (p .1 .0) (h .after .after .entries) (h .after .after .laid))
 
 returns-2 : tie.Need-returns-2
 unfolding turns
@@ -59,10 +59,10 @@ returns-2 c =
     let h = p .0 .left in
     let line = c .before .before .before .before .put-method in
     let end = c .before .method-end in
-    let slot = c .next-slot in
+    let slot = c .slot-after in
     let z = c .before .before .before .before .before .before .if1 .left in
     record {
-      each = λ text v. methods-next (a .file .now) (a .l) (a .pool .now) (p .1 .0) (a .m .entry) (a .m .left) (a .m .at) (a .m .slot) text v z (a .out .now) (a .at) (line .result) _ (line .ensures .0) (end .result) (end .ensures) (slot .result) (slot .ensures .0) (slot .ensures .1);
+      each = λ text v. methods-next (a .file .now) (a .l) (a .pool .now) (p .1 .0) (a .m .entry) (a .m .left) (a .m .at) (a .m .slot) (a .m .total) text v z (a .out .now) (a .at) (line .result) _ (line .ensures .0) (end .result) (end .ensures) (slot .result) (slot .ensures .0) (slot .ensures .1);
       onward = inr (omega arith);
       room = line .ensures .1;
     }
@@ -73,7 +73,7 @@ method-piece-spec =
     (tie.spec
     u16-at-requires
     (λ c. search needs)
-    add-t17
+    add-t18
     returns
     put-method-requires
     method-end-requires

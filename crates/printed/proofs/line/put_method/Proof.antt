@@ -1,4 +1,4 @@
--- `printed::line::put_method` meets its contract: slot, name, arguments.
+-- `printed::line::put_method` meets its contract: slot, name, arguments, total.
 -- Assumes nothing.
 use Rattle.number.proofs.Tools.{_-_, arith, needs}
 use mathlib.Core.List.{_++_}
@@ -29,31 +29,32 @@ put-labelled-requires c κs =
     let name = c .before .before .before .before .put-name in
     omega (arith, w .1, name .ensures .next, wrote-length _ _ _ (name .ensures), slot .ensures .1, wrote-length _ _ _ (slot .ensures .0), c .before .before .before .before .before .before .before .before .before .before .before .before .put-bytes .kept .0, c .before .before .before .before .before .before .before .before .before .before .before .before .put-bytes .ensures .0, length-u64 (c .before .before .before .before .before .before .before .before .before .before .before .before .before .before .before .argument-count .result) (omega arith))
 
-put-bytes-requires-2 : tie.Need-put-bytes-requires-2
-put-bytes-requires-2 c κs =
-    let a = c .before .before .before .before .before .before .before .before .before .before .before .before .before .before .before .before .before .before .before .before .before .before .before .before .args in
-    let p = c .before .before .before .before .before .before .before .before .before .before .before .before .before .before .before .before .before .before .before .before .before .before .before .before .pre in
-    let w = method-fits (a .pool .now) (a .from) (c .before .before .before .before .before .before .before .before .before .before .before .before .before .before .before .before .before .before .before .before .before .method-name .result) (c .before .before .before .before .before .before .before .before .before .before .before .before .before .before .before .before .before .before .before .before .before .method-name .ensures) (p .0) in
-    let slot = c .before .before .before .before .before .before .before .before .before .before .before .before .before .put-slot in
-    let name = c .before .before .before .before .before .before .before .before .before .put-name in
-    omega (arith, c .before .before .before .before .put-labelled .kept .0, w .1, name .ensures .next, wrote-length _ _ _ (name .ensures), slot .ensures .1, wrote-length _ _ _ (slot .ensures .0), c .before .before .before .before .before .before .before .before .before .before .before .before .before .before .before .before .before .put-bytes .kept .0, c .before .before .before .before .before .before .before .before .before .before .before .before .before .before .before .before .before .put-bytes .ensures .0, length-u64 (c .before .before .before .before .before .before .before .before .before .before .before .before .before .before .before .before .before .before .before .before .argument-count .result) (omega arith))
+put-total-requires : tie.Need-put-total-requires
+put-total-requires c κs =
+    let a = c .before .before .before .before .before .before .before .before .before .before .before .before .before .before .before .before .before .before .before .before .before .before .before .args in
+    let p = c .before .before .before .before .before .before .before .before .before .before .before .before .before .before .before .before .before .before .before .before .before .before .before .pre in
+    let w = method-fits (a .pool .now) (a .from) (c .before .before .before .before .before .before .before .before .before .before .before .before .before .before .before .before .before .before .before .before .method-name .result) (c .before .before .before .before .before .before .before .before .before .before .before .before .before .before .before .before .before .before .before .before .method-name .ensures) (p .0) in
+    let slot = c .before .before .before .before .before .before .before .before .before .before .before .before .put-slot in
+    let name = c .before .before .before .before .before .before .before .before .put-name in
+    omega (arith, c .before .before .before .put-labelled .kept .0, w .1, name .ensures .next, wrote-length _ _ _ (name .ensures), slot .ensures .1, wrote-length _ _ _ (slot .ensures .0), c .before .before .before .before .before .before .before .before .before .before .before .before .before .before .before .before .put-bytes .kept .0, c .before .before .before .before .before .before .before .before .before .before .before .before .before .before .before .before .put-bytes .ensures .0, length-u64 (c .before .before .before .before .before .before .before .before .before .before .before .before .before .before .before .before .before .before .before .argument-count .result) (omega arith))
 
 returns : tie.Need-returns
 returns c =
-    let a = c .before .before .before .before .before .before .before .before .before .before .before .before .before .before .before .before .before .before .before .before .before .before .before .before .before .before .before .args in
+    let a = c .before .before .before .before .before .before .before .before .before .before .before .before .before .before .before .before .before .before .before .before .before .before .before .before .before .before .args in
     let l = a .out .now in
-    let q = c .before .before .before .before .before .before .before .before .before .before .before .before .before .before .before .before .before .before .before .before .before .before .before .before .method-name in
-    let n = c .before .before .before .before .before .before .before .before .before .before .before .before .before .before .before .before .before .before .before .before .before .before .before .argument-count in
+    let q = c .before .before .before .before .before .before .before .before .before .before .before .before .before .before .before .before .before .before .before .before .before .before .before .method-name in
+    let n = c .before .before .before .before .before .before .before .before .before .before .before .before .before .before .before .before .before .before .before .before .before .before .argument-count in
     let w = wordAt (a .pool .now) (q .result - 1) in
     let slot = methodWord ++ slotText (a .slot) in
-    let first = wrote-then l methodWord (slotText (a .slot)) (a .at) (wrote l methodWord (a .at) (c .before .before .before .before .before .before .before .before .before .before .before .before .before .before .before .before .before .before .before .before .put-bytes .ensures)) (c .before .before .before .before .before .before .before .before .before .before .before .before .before .before .before .before .put-slot .ensures .0) in
-    let name = wrote-then l slot (space ++ w) (a .at) first (c .before .before .before .before .before .before .before .before .before .before .before .before .put-name .ensures) in
-    let count = wrote-label _ space (digitsOf (n .result)) _ (c .before .before .before .before .before .before .before .put-labelled .ensures) in
-    let end = wrote-then _ (space ++ digitsOf (n .result)) newline _ count (wrote _ newline _ (c .before .before .put-bytes2 .ensures)) in
-    let line = wrote-then l (slot ++ (space ++ w)) ((space ++ digitsOf (n .result)) ++ newline) (a .at) name end in
-    let fits = method-fits (a .pool .now) (a .from) (q .result) (q .ensures) (c .before .before .before .before .before .before .before .before .before .before .before .before .before .before .before .before .before .before .before .before .before .before .before .before .before .before .before .pre .0) in (
-      record { each = λ m e h. wrote-as (method-text (a .slot) m w (n .result) (q .ensures .each m e (h .0) (h .1) .word) (n .ensures .each m e (h .0))) line },
-      omega (arith, fits .1, c .before .before .before .before .before .before .before .before .before .before .before .before .before .before .before .before .before .before .before .before .put-bytes .ensures .0, c .before .before .before .before .before .before .before .before .before .before .before .before .before .before .before .before .put-slot .ensures .1, c .before .before .before .before .before .before .before .before .before .before .before .before .put-name .ensures .next, length-u64 (n .result) (omega arith)),
+    let first = wrote-then l methodWord (slotText (a .slot)) (a .at) (wrote l methodWord (a .at) (c .before .before .before .before .before .before .before .before .before .before .before .before .before .before .before .before .before .before .before .put-bytes .ensures)) (c .before .before .before .before .before .before .before .before .before .before .before .before .before .before .before .put-slot .ensures .0) in
+    let name = wrote-then l slot (space ++ w) (a .at) first (c .before .before .before .before .before .before .before .before .before .before .before .put-name .ensures) in
+    let arguments = slot ++ (space ++ w) ++ (space ++ digitsOf (n .result)) in
+    let count = wrote-then l (slot ++ (space ++ w)) (space ++ digitsOf (n .result)) (a .at) name (wrote-label _ space (digitsOf (n .result)) _ (c .before .before .before .before .before .before .put-labelled .ensures)) in
+    let total = c .before .before .put-total in
+    let line = wrote-then l arguments ((space ++ slotText (a .total)) ++ newline) (a .at) count (total .ensures .0) in
+    let fits = method-fits (a .pool .now) (a .from) (q .result) (q .ensures) (c .before .before .before .before .before .before .before .before .before .before .before .before .before .before .before .before .before .before .before .before .before .before .before .before .before .before .pre .0) in (
+      record { each = λ m e h. wrote-as (method-text (a .slot) (a .total) m w (n .result) (q .ensures .each m e (h .0) (h .1) .word) (n .ensures .each m e (h .0))) line },
+      omega (arith, fits .1, total .ensures .1, c .before .before .before .before .before .before .before .before .before .before .before .before .before .before .before .before .before .before .before .put-bytes .ensures .0, c .before .before .before .before .before .before .before .before .before .before .before .before .before .before .before .put-slot .ensures .1, c .before .before .before .before .before .before .before .before .before .before .before .put-name .ensures .next, length-u64 (n .result) (omega arith)),
     )
 
 pub put-method-spec : {M : Type 1} → statement M
@@ -68,7 +69,6 @@ put-method-spec =
     put-name-requires
     (λ c. search needs)
     put-labelled-requires
-    (λ c. search needs)
-    put-bytes-requires-2
+    put-total-requires
     (λ c. search needs)
     returns)
