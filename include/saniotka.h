@@ -36,7 +36,7 @@ extern "C" {
 #endif
 
 /* Numbers that any answer fits in. */
-#define SANIOTKA_ROOM 5
+#define SANIOTKA_ROOM 8
 
 /* Bytes that any normal form and any link fit in; a longer file is none. */
 #define SANIOTKA_BUFFER 1048576
@@ -66,7 +66,7 @@ enum {
     SANIOTKA_PLAIN = 2
 };
 
-/* Whether the slot of a method that was found is known. */
+/* Whether the slot of a method that was found, and the total of slots, is known. */
 enum {
     SANIOTKA_SLOT_KNOWN = 0,
     SANIOTKA_SLOT_UNDETERMINED = 1
@@ -122,10 +122,11 @@ int saniotka_key(const uint8_t *file, size_t length, const uint8_t *space, size_
 /* Which method of this name and kind has the interface `index`, its own or an inherited one? An index of 0 or past the
  * last interface, and a kind that is none of the three, are malformed.
  *
- *     SANIOTKA_FOUND, owner, position, SANIOTKA_SLOT_KNOWN, slot
- *                                       the interface whose own method it is, its position there from 0, and its slot
- *     SANIOTKA_FOUND, owner, position, SANIOTKA_SLOT_UNDETERMINED, index
- *                                       the slot rests on this interface, which the file only names
+ *     SANIOTKA_FOUND, owner, position, SANIOTKA_SLOT_KNOWN, slot, distance, SANIOTKA_SLOT_KNOWN, total
+ *                                       the interface whose own method it is, its position there from 0, its slot, the
+ *                                       steps from `index` up to the owner (0 for itself), and the slots of `index`
+ *     SANIOTKA_FOUND, owner, position, SANIOTKA_SLOT_UNDETERMINED, index, distance, SANIOTKA_SLOT_UNDETERMINED, index
+ *                                       slot and total rest on this interface, which the file only names
  *     SANIOTKA_NONE
  *     SANIOTKA_UNDETERMINED, index      this interface, which the file only names, may have or inherit it
  *     SANIOTKA_REFUSED, number, place   the file's refusal, or else SANIOTKA_MALFORMED and 0

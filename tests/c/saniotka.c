@@ -7,7 +7,7 @@
 #include <string.h>
 
 /* More numbers than any answer has. */
-#define NUMBERS 8
+#define NUMBERS 11
 
 /* What the list and the buffer hold before each call. */
 #define UNTOUCHED 0x5e5ea1a10f0fc3c3u
@@ -112,18 +112,19 @@ static void interfaces(void) {
 
 static void members(void) {
     EXPECT(saniotka_method(FILE_OF(alarms), 3, TEXT("acknowledge"), SANIOTKA_PLAIN, list(), NUMBERS),
-           "0: [0] 0 [1] 3 [2] 2 [3] 0 [4] 10");
+           "0: [0] 0 [1] 3 [2] 2 [3] 0 [4] 10 [5] 0 [6] 0 [7] 16");
     EXPECT(saniotka_method(FILE_OF(alarms), 3, TEXT("acknowledge"), SANIOTKA_GETTER, list(), NUMBERS), "0: [0] 1");
     EXPECT(saniotka_method(FILE_OF(alarms), 3, TEXT("shift"), SANIOTKA_GETTER, list(), NUMBERS),
-           "0: [0] 0 [1] 2 [2] 2 [3] 0 [4] 5");
+           "0: [0] 0 [1] 2 [2] 2 [3] 0 [4] 5 [5] 1 [6] 0 [7] 16");
     EXPECT(saniotka_method(FILE_OF(alarms), 3, TEXT("shift"), SANIOTKA_SETTER, list(), NUMBERS),
-           "0: [0] 0 [1] 2 [2] 3 [3] 0 [4] 6");
+           "0: [0] 0 [1] 2 [2] 3 [3] 0 [4] 6 [5] 1 [6] 0 [7] 16");
     EXPECT(saniotka_method(FILE_OF(gas), 4, TEXT("acknowledgeLowOxygen"), SANIOTKA_PLAIN, list(), NUMBERS),
-           "0: [0] 0 [1] 4 [2] 0 [3] 1 [4] 2");
+           "0: [0] 0 [1] 4 [2] 0 [3] 1 [4] 2 [5] 0 [6] 1 [7] 2");
     EXPECT(saniotka_method(FILE_OF(gas), 4, TEXT("acknowledge"), SANIOTKA_PLAIN, list(), NUMBERS), "0: [0] 2 [1] 2");
     EXPECT(saniotka_method(FILE_OF(gas), 5, TEXT("acknowledge"), SANIOTKA_PLAIN, list(), NUMBERS),
            "0: [0] 3 [1] 20 [2] 0");
-    EXPECT(saniotka_slot(FILE_OF(alarms), 3, 2, list(), NUMBERS), "0: [0] 0 [1] 1 [2] 2 [3] 0 [4] 2");
+    EXPECT(saniotka_slot(FILE_OF(alarms), 3, 2, list(), NUMBERS),
+           "0: [0] 0 [1] 1 [2] 2 [3] 0 [4] 2 [5] 2 [6] 0 [7] 16");
     EXPECT(saniotka_slot(FILE_OF(alarms), 3, UINT64_MAX, list(), NUMBERS), "0: [0] 1");
     EXPECT(saniotka_slot(FILE_OF(gas), 4, 0, list(), NUMBERS), "0: [0] 2 [1] 2");
     EXPECT(saniotka_slot(FILE_OF(gas), 0, 0, list(), NUMBERS), "0: [0] 3 [1] 20 [2] 0");
@@ -172,7 +173,7 @@ static void links(void) {
     HOLD(untouched_from(786) && memcmp(out, again, 786) == 0);
     EXPECT(saniotka_check(again, 786, list(), NUMBERS), "0: [0] 0 [1] 5");
     EXPECT(saniotka_method(again, 786, 5, TEXT("acknowledgeLowOxygen"), SANIOTKA_PLAIN, list(), NUMBERS),
-           "0: [0] 0 [1] 5 [2] 0 [3] 0 [4] 16");
+           "0: [0] 0 [1] 5 [2] 0 [3] 0 [4] 16 [5] 0 [6] 0 [7] 18");
 }
 
 /* A list with too little room: every call says so, and neither the list nor the buffer changes. */
@@ -199,9 +200,10 @@ static void names(void) {
     HOLD(saniotka_check(FILE_OF(gas), list(), SANIOTKA_ROOM - 1) == SANIOTKA_TOO_SHORT);
     HOLD(saniotka_check(FILE_OF(gas), list(), SANIOTKA_ROOM) == SANIOTKA_ANSWERED);
     saniotka_slot(FILE_OF(alarms), 3, 2, list(), NUMBERS);
-    HOLD(answer[0] == SANIOTKA_FOUND && answer[3] == SANIOTKA_SLOT_KNOWN);
+    HOLD(answer[0] == SANIOTKA_FOUND && answer[3] == SANIOTKA_SLOT_KNOWN && answer[6] == SANIOTKA_SLOT_KNOWN);
     saniotka_method(FILE_OF(gas), 4, TEXT("worstArea"), SANIOTKA_GETTER, list(), NUMBERS);
-    HOLD(answer[0] == SANIOTKA_FOUND && answer[3] == SANIOTKA_SLOT_UNDETERMINED);
+    HOLD(answer[0] == SANIOTKA_FOUND && answer[3] == SANIOTKA_SLOT_UNDETERMINED &&
+         answer[6] == SANIOTKA_SLOT_UNDETERMINED);
     saniotka_slot(FILE_OF(gas), 4, 0, list(), NUMBERS);
     HOLD(answer[0] == SANIOTKA_UNDETERMINED);
     saniotka_slot(FILE_OF(alarms), 3, 100, list(), NUMBERS);

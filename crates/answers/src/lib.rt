@@ -6,12 +6,13 @@ ghost use Rattle.lookup.specs.Question.{askMethod, askSlot};
 ghost use Rattle.words.specs.Numbers.{numberOf};
 use lookup::Kind;
 use reading::Verdict;
+use sayings::ANSWER_ROOM;
 use sayings::Said;
 use words::Hex;
 use words::Number;
 
 // The check of a file.
-pub fn check(file: &[u8], line: &mut [u8; 128]) -> Said
+pub fn check(file: &[u8], line: &mut [u8; ANSWER_ROOM]) -> Said
     ensures { λ r. ⌜ Says (checkSaying (now (file .entry))) (now (line .entry)) r (now (line .exit)) ⌝ }
 {
     match reader::check(file) {
@@ -21,7 +22,7 @@ pub fn check(file: &[u8], line: &mut [u8; 128]) -> Said
 }
 
 // Interface by an IID's digits. Those of another length are asked as no bytes, which is malformed too.
-fn of_digits(file: &[u8], hex: &[u8], line: &mut [u8; 128]) -> Said
+fn of_digits(file: &[u8], hex: &[u8], line: &mut [u8; ANSWER_ROOM]) -> Said
     ensures { λ r. ⌜ Says (digitsSaying (now (file .entry)) (now (hex .entry))) (now (line .entry)) r (now (line .exit)) ⌝ }
 {
     let mut bytes = [0u8; 16];
@@ -36,7 +37,7 @@ fn of_digits(file: &[u8], hex: &[u8], line: &mut [u8; 128]) -> Said
 }
 
 // Interface by IID: its digits, or these with hyphens, bare or in braces.
-pub fn iid(file: &[u8], hex: &[u8], line: &mut [u8; 128]) -> Said
+pub fn iid(file: &[u8], hex: &[u8], line: &mut [u8; ANSWER_ROOM]) -> Said
     ensures { λ r. ⌜ Says (iidSaying (now (file .entry)) (now (hex .entry))) (now (line .entry)) r (now (line .exit)) ⌝ }
 {
     let mut digits = [0u8; 32];
@@ -47,7 +48,7 @@ pub fn iid(file: &[u8], hex: &[u8], line: &mut [u8; 128]) -> Said
 }
 
 // Interface by key; `-` is the default namespace, and so is an empty word.
-pub fn key(file: &[u8], space: &[u8], name: &[u8], line: &mut [u8; 128]) -> Said
+pub fn key(file: &[u8], space: &[u8], name: &[u8], line: &mut [u8; ANSWER_ROOM]) -> Said
     ensures { λ r. ⌜ Says (keySaying (now (file .entry)) (now (space .entry)) (now (name .entry))) (now (line .entry)) r (now (line .exit)) ⌝ }
 {
     if words::is_same(space, b"-") {
@@ -57,7 +58,7 @@ pub fn key(file: &[u8], space: &[u8], name: &[u8], line: &mut [u8; 128]) -> Said
 }
 
 // Method by index, name and kind, where the index is read.
-fn of_kind(file: &[u8], index: u64, name: &[u8], kind: &[u8], line: &mut [u8; 128]) -> Said
+fn of_kind(file: &[u8], index: u64, name: &[u8], kind: &[u8], line: &mut [u8; ANSWER_ROOM]) -> Said
     ensures { λ r. ⌜ Says (withKind (now (kind .entry)) (λ k. sayMethod (askMethod (decode (now (file .entry))) index (now (name .entry)) k))) (now (line .entry)) r (now (line .exit)) ⌝ }
 {
     if words::is_same(kind, b"getter") {
@@ -79,7 +80,13 @@ fn of_kind(file: &[u8], index: u64, name: &[u8], kind: &[u8], line: &mut [u8; 12
 }
 
 // Method by index, name and kind: `getter`, `setter` or `plain`.
-pub fn method(file: &[u8], index: &[u8], name: &[u8], kind: &[u8], line: &mut [u8; 128]) -> Said
+pub fn method(
+    file: &[u8],
+    index: &[u8],
+    name: &[u8],
+    kind: &[u8],
+    line: &mut [u8; ANSWER_ROOM],
+) -> Said
     ensures { λ r. ⌜ Says (methodSaying (now (file .entry)) (now (index .entry)) (now (name .entry)) (now (kind .entry))) (now (line .entry)) r (now (line .exit)) ⌝ }
 {
     match words::number_of(index) {
@@ -90,7 +97,7 @@ pub fn method(file: &[u8], index: &[u8], name: &[u8], kind: &[u8], line: &mut [u
 }
 
 // Method by index and slot, where the index is read.
-fn in_slot(file: &[u8], index: u64, slot: &[u8], line: &mut [u8; 128]) -> Said
+fn in_slot(file: &[u8], index: u64, slot: &[u8], line: &mut [u8; ANSWER_ROOM]) -> Said
     ensures { λ r. ⌜ Says (withSlot (numberOf (now (slot .entry))) (λ k. sayMethod (askSlot (decode (now (file .entry))) index k))) (now (line .entry)) r (now (line .exit)) ⌝ }
 {
     match words::number_of(slot) {
@@ -101,7 +108,7 @@ fn in_slot(file: &[u8], index: u64, slot: &[u8], line: &mut [u8; 128]) -> Said
 }
 
 // Method by index and slot.
-pub fn slot(file: &[u8], index: &[u8], slot: &[u8], line: &mut [u8; 128]) -> Said
+pub fn slot(file: &[u8], index: &[u8], slot: &[u8], line: &mut [u8; ANSWER_ROOM]) -> Said
     ensures { λ r. ⌜ Says (slotSaying (now (file .entry)) (now (index .entry)) (now (slot .entry))) (now (line .entry)) r (now (line .exit)) ⌝ }
 {
     match words::number_of(index) {
@@ -112,7 +119,7 @@ pub fn slot(file: &[u8], index: &[u8], slot: &[u8], line: &mut [u8; 128]) -> Sai
 }
 
 // Constant by index and name.
-pub fn constant(file: &[u8], index: &[u8], name: &[u8], line: &mut [u8; 128]) -> Said
+pub fn constant(file: &[u8], index: &[u8], name: &[u8], line: &mut [u8; ANSWER_ROOM]) -> Said
     ensures { λ r. ⌜ Says (constantSaying (now (file .entry)) (now (index .entry)) (now (name .entry))) (now (line .entry)) r (now (line .exit)) ⌝ }
 {
     match words::number_of(index) {

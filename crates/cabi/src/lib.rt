@@ -54,7 +54,7 @@ pub extern "C" fn saniotka_key(file: &[u8], space: &[u8], name: &[u8], answer: &
 }
 
 // Method by index, name and kind: 0 getter, 1 setter, 2 plain; a question with another kind is malformed.
-// Found: owner, position, and the slot: 0 and its number, or 1 and the unresolved ancestor's index.
+// Found: owner, position, the slot, the steps up to the owner, and the total of slots. Slot and total: 0 and the number, or 1 and the unresolved ancestor's index.
 #[no_mangle]
 pub extern "C" fn saniotka_method(
     file: &[u8],

@@ -3,6 +3,7 @@ use joining::Normalised;
 use link::Linked;
 use link::Which;
 use listed::Rest;
+use sayings::ANSWER_ROOM;
 use sayings::Said;
 use tasks::Mistake;
 use tasks::Task;
@@ -70,7 +71,7 @@ fn linked_whose(done: Linked) -> Which
 }
 
 // The command `normal`.
-fn normal(first: &[u8], out: &mut [u8], text: &mut [u8; 128]) -> Reply
+fn normal(first: &[u8], out: &mut [u8], text: &mut [u8; ANSWER_ROOM]) -> Reply
     ensures { λ r. ⌜ ((b : Bool) (ws : List (List ℕ)) (second : List ℕ) → Replies b (verbAnswer b verb.Normal ws (now (first .entry)) second (now (out .entry))) (now (first .entry)) (now (text .entry)) r (now (out .exit)) (now (text .exit))) ⌝ }
 {
     let done = link::normalise(first, out);
@@ -83,7 +84,7 @@ fn normal(first: &[u8], out: &mut [u8], text: &mut [u8; 128]) -> Reply
 }
 
 // The command `link`.
-fn link(first: &[u8], second: &[u8], out: &mut [u8], text: &mut [u8; 128]) -> Reply
+fn link(first: &[u8], second: &[u8], out: &mut [u8], text: &mut [u8; ANSWER_ROOM]) -> Reply
     ensures { λ r. ⌜ ((b : Bool) (ws : List (List ℕ)) → Replies b (verbAnswer b verb.Link ws (now (first .entry)) (now (second .entry)) (now (out .entry))) (now (first .entry)) (now (text .entry)) r (now (out .exit)) (now (text .exit))) ⌝ }
 {
     let done = link::link(first, second, out);
@@ -96,7 +97,7 @@ fn link(first: &[u8], second: &[u8], out: &mut [u8], text: &mut [u8; 128]) -> Re
 }
 
 // The command `list`.
-fn list(file: &[u8], in_batch: bool, text: &mut [u8; 128]) -> Reply
+fn list(file: &[u8], in_batch: bool, text: &mut [u8; ANSWER_ROOM]) -> Reply
     ensures { λ r. ⌜ ((ws : List (List ℕ)) (second out : List ℕ) → Replies «in_batch» (verbAnswer «in_batch» verb.List ws (now (file .entry)) second out) (now (file .entry)) (now (text .entry)) r out (now (text .exit))) ⌝ }
 {
     let opened = listed::open(file, in_batch, text);
@@ -118,7 +119,7 @@ fn run(
     first: &[u8],
     second: &[u8],
     out: &mut [u8],
-    text: &mut [u8; 128],
+    text: &mut [u8; ANSWER_ROOM],
 ) -> Reply
     ensures { λ r. ⌜ Replies (inBatch separator) (verbAnswer (inBatch separator) verb (wordsOf separator (now (line .entry))) (now (first .entry)) (now (second .entry)) (now (out .entry))) (now (first .entry)) (now (text .entry)) r (now (out .exit)) (now (text .exit)) ⌝ }
 {
@@ -138,7 +139,7 @@ pub fn answer(
     first: &[u8],
     second: &[u8],
     out: &mut [u8],
-    text: &mut [u8; 128],
+    text: &mut [u8; ANSWER_ROOM],
 ) -> Reply
     ensures { λ r. ⌜ Replies (inBatch separator) (answerOf separator (now (line .entry)) (now (first .entry)) (now (second .entry)) (now (out .entry))) (now (first .entry)) (now (text .entry)) r (now (out .exit)) (now (text .exit)) ⌝ }
 {

@@ -2,6 +2,7 @@
 use commands::Reply;
 use kept::Kept;
 use number::FILE_LIMIT;
+use sayings::ANSWER_ROOM;
 use store::Asked;
 use store::Loaded;
 use words::Span;
@@ -180,7 +181,7 @@ pub fn answer(
     rows: &[usize; 256],
     store: &[u8; 4210688],
     out: &mut [u8; FILE_LIMIT],
-    text: &mut [u8; 128],
+    text: &mut [u8; ANSWER_ROOM],
 ) -> Reply
     requires { ⌜ Tidy (now rows) kept × Held (filesOf (taskOf separator (now line))) (wordsOf separator (now line)) kept (now rows) (now store) ⌝ }
     ensures { λ r. ⌜ SavedIn fileLimit (r .save) × Replies (inBatch separator) (answerOf separator (now (line .entry)) (keptFile (argument 1 (wordsOf separator (now (line .entry)))) kept (now (rows .entry)) (now (store .entry))) (keptFile (argument 2 (wordsOf separator (now (line .entry)))) kept (now (rows .entry)) (now (store .entry))) (now (out .entry))) (keptFile (argument 1 (wordsOf separator (now (line .entry)))) kept (now (rows .entry)) (now (store .entry))) (now (text .entry)) r (now (out .exit)) (now (text .exit)) ⌝ }

@@ -17,7 +17,7 @@ unfoldable pub answerText : Question → List ℕ
 answerText Check = ascii "accepted and the number of interfaces, or refused with a number and a place"
 answerText Iid = ascii "found and the index of the interface with this IID, or none"
 answerText Key = ascii "found and the index of the interface of this name, or none; - is the default namespace"
-answerText Method = ascii "found, the index of the interface that has the method, its position there and its slot"
+answerText Method = ascii "found, the index of the interface that has the method, its position there, slot, distance and total"
 answerText Slot = ascii "the method in this slot, told in the same way"
 answerText Constant = ascii "found, the type of the constant and its value"
 

@@ -31,7 +31,7 @@ fn put_answer(question: Question, text: &mut [u8; ROOM], at: usize) -> usize
         Question::Method => text::put_bytes(
             text,
             at,
-            b"found, the index of the interface that has the method, its position there and its slot",
+            b"found, the index of the interface that has the method, its position there, slot, distance and total",
         ),
         Question::Slot => text::put_bytes(
             text,

@@ -10,7 +10,7 @@ use Rattle.number.specs.Choice.{if_then_else_, _<?_}
 
 -- how many numbers the longest answer has
 abbrev pub room : ℕ
-room = 5
+room = 8
 
 -- 0: answered; 1: the list has too little room for any answer, and nothing was written
 unfoldable pub returned : List ℕ → ℤ

@@ -1,6 +1,6 @@
 -- Verdicts and the answers to questions as numbers.
 -- Assumes nothing.
-use mathlib.Core.List.{List, [], _∷_}
+use mathlib.Core.List.{List, [], _∷_, _++_}
 use Prim.Native.Nat.{ℕ}
 use Rattle.reading.specs.declared.Refusal.{Refusal}
 use Rattle.reading.specs.declared.Verdict.{Verdict}
@@ -32,13 +32,14 @@ interfaceNumbers (interface.Found i) = 0 ∷ i ∷ []
 interfaceNumbers interface.None = 1 ∷ []
 interfaceNumbers (interface.Refused why) = refusalNumbers why
 
--- known, with its number; undetermined, with the unresolved ancestor's index
+-- a slot or a total: known, with its number; undetermined, with the unresolved ancestor's index
 unfoldable pub slotNumbers : Slot → List ℕ
 slotNumbers (slot.Known s) = 0 ∷ s ∷ []
 slotNumbers (slot.Undetermined r) = 1 ∷ r ∷ []
 
+-- owner, position and slot, the steps to the owner, the asked interface's total
 unfoldable pub foundNumbers : FoundMethod → List ℕ
-foundNumbers m = 0 ∷ m .owner ∷ m .position ∷ slotNumbers (m .slot)
+foundNumbers m = 0 ∷ m .owner ∷ m .position ∷ (slotNumbers (m .slot) ++ (m .distance ∷ slotNumbers (m .total)))
 
 unfoldable pub methodNumbers : MethodAnswer → List ℕ
 methodNumbers (method.Found m) = foundNumbers m

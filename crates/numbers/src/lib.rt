@@ -2,11 +2,11 @@
 // The first number of an answer to a question: 0 found, 1 none, 2 undetermined with the index, 3 refused with number and place.
 ghost use mathlib.Core.Path.{_≡_};
 ghost use mathlib.Core.List.{[], _∷_};
-ghost use Prim.Native.Nat.{_≤_};
+ghost use Prim.Native.Nat.{_+_, _≤_};
 ghost use lib.ListN.{length};
 ghost use lib.Seq.{sets};
 ghost use Rattle.numbers.specs.Call.{room};
-ghost use Rattle.numbers.specs.Numbers.{verdictNumbers, refusalNumbers, foundNumbers, valueNumbers, interfaceNumbers, methodNumbers, constantNumbers};
+ghost use Rattle.numbers.specs.Numbers.{verdictNumbers, refusalNumbers, slotNumbers, foundNumbers, valueNumbers, interfaceNumbers, methodNumbers, constantNumbers};
 use lookup::ConstantAnswer;
 use lookup::FoundMethod;
 use lookup::InterfaceAnswer;
@@ -17,7 +17,7 @@ use reading::Refusal;
 use reading::Verdict;
 
 // How many numbers the longest answer has.
-pub const ROOM: usize = 5;
+pub const ROOM: usize = 8;
 
 // The refusal's number and its place, or 0 and the number of interfaces for an accepted file.
 pub fn put_verdict(v: Verdict, answer: &mut [u64])
@@ -49,26 +49,38 @@ pub fn put_refusal(why: Refusal, answer: &mut [u64])
     answer[2] = place;
 }
 
+// A slot or a total of slots, from `at` on.
+fn put_slot(slot: Slot, answer: &mut [u64], at: usize)
+    requires { ⌜ at + 2 ≤ length (now answer) ⌝ }
+    ensures { λ _. ⌜ now (answer .exit) ≡ sets (now (answer .entry)) at (slotNumbers slot) ⌝ }
+{
+    match slot {
+        Slot::Known(s) => {
+            answer[at] = 0;
+            answer[at + 1] = s as u64;
+        }
+        Slot::Undetermined(r) => {
+            answer[at] = 1;
+            answer[at + 1] = r as u64;
+        }
+    }
+}
+
 fn put_found(m: FoundMethod, answer: &mut [u64])
     requires { ⌜ room ≤ length (now answer) ⌝ }
     ensures { λ _. ⌜ now (answer .exit) ≡ sets (now (answer .entry)) 0 (foundNumbers m) ⌝ }
 {
     let owner = m.owner as u64;
     let position = m.position as u64;
+    let distance = m.distance as u64;
     let slot = m.slot;
+    let total = m.total;
     answer[0] = 0;
     answer[1] = owner;
     answer[2] = position;
-    match slot {
-        Slot::Known(s) => {
-            answer[3] = 0;
-            answer[4] = s as u64;
-        }
-        Slot::Undetermined(r) => {
-            answer[3] = 1;
-            answer[4] = r as u64;
-        }
-    }
+    put_slot(slot, answer, 3);
+    answer[5] = distance;
+    put_slot(total, answer, 6);
 }
 
 fn put_pair(kind: u64, bits: u64, answer: &mut [u64])

@@ -12,6 +12,7 @@ use joining::Normalised;
 use link::LinkRefusal;
 use link::Linked;
 use link::Which;
+use sayings::ANSWER_ROOM;
 use sayings::Said;
 use sayings::Why;
 
@@ -27,7 +28,7 @@ pub fn which_number(which: Which) -> u64
 }
 
 // A link's refusal.
-fn link_refused(x: LinkRefusal, line: &mut [u8; 128]) -> Said
+fn link_refused(x: LinkRefusal, line: &mut [u8; ANSWER_ROOM]) -> Said
     ensures { λ r. ⌜ Says (sayLinked (linked.Refused x)) (now (line .entry)) r (now (line .exit)) ⌝ }
 {
     let which = x.which;
@@ -41,7 +42,7 @@ fn link_refused(x: LinkRefusal, line: &mut [u8; 128]) -> Said
 }
 
 // What normalising a file answered.
-pub fn normalised(n: Normalised, line: &mut [u8; 128]) -> Said
+pub fn normalised(n: Normalised, line: &mut [u8; ANSWER_ROOM]) -> Said
     ensures { λ r. ⌜ Says (sayNormalised n) (now (line .entry)) r (now (line .exit)) ⌝ }
 {
     match n {
@@ -51,7 +52,7 @@ pub fn normalised(n: Normalised, line: &mut [u8; 128]) -> Said
 }
 
 // What linking two files answered.
-pub fn linked(l: Linked, line: &mut [u8; 128]) -> Said
+pub fn linked(l: Linked, line: &mut [u8; ANSWER_ROOM]) -> Said
     ensures { λ r. ⌜ Says (sayLinked l) (now (line .entry)) r (now (line .exit)) ⌝ }
 {
     match l {

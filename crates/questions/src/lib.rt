@@ -3,10 +3,11 @@ ghost use Rattle.words.specs.Words.{wordsOf};
 ghost use Rattle.sayings.specs.Sayings.{Says};
 ghost use Rattle.questions.specs.Lines.{askedSaying};
 ghost use Rattle.verbs.specs.declared.Question.the-variants.{Iid, Key, Method, Slot, Constant};
+use sayings::ANSWER_ROOM;
 use sayings::Said;
 use verbs::Question;
 
-fn ask_iid(line: &[u8], separator: u8, file: &[u8], text: &mut [u8; 128]) -> Said
+fn ask_iid(line: &[u8], separator: u8, file: &[u8], text: &mut [u8; ANSWER_ROOM]) -> Said
     ensures { λ r. ⌜ Says (askedSaying Iid (now (file .entry)) (wordsOf separator (now (line .entry)))) (now (text .entry)) r (now (text .exit)) ⌝ }
 {
     let hex = words::word(line, separator, 2);
@@ -15,7 +16,7 @@ fn ask_iid(line: &[u8], separator: u8, file: &[u8], text: &mut [u8; 128]) -> Sai
     answers::iid(file, &line[from..end], text)
 }
 
-fn ask_key(line: &[u8], separator: u8, file: &[u8], text: &mut [u8; 128]) -> Said
+fn ask_key(line: &[u8], separator: u8, file: &[u8], text: &mut [u8; ANSWER_ROOM]) -> Said
     ensures { λ r. ⌜ Says (askedSaying Key (now (file .entry)) (wordsOf separator (now (line .entry)))) (now (text .entry)) r (now (text .exit)) ⌝ }
 {
     let space = words::word(line, separator, 2);
@@ -27,7 +28,7 @@ fn ask_key(line: &[u8], separator: u8, file: &[u8], text: &mut [u8; 128]) -> Sai
     answers::key(file, &line[a..b], &line[c..d], text)
 }
 
-fn ask_method(line: &[u8], separator: u8, file: &[u8], text: &mut [u8; 128]) -> Said
+fn ask_method(line: &[u8], separator: u8, file: &[u8], text: &mut [u8; ANSWER_ROOM]) -> Said
     ensures { λ r. ⌜ Says (askedSaying Method (now (file .entry)) (wordsOf separator (now (line .entry)))) (now (text .entry)) r (now (text .exit)) ⌝ }
 {
     let index = words::word(line, separator, 2);
@@ -42,7 +43,7 @@ fn ask_method(line: &[u8], separator: u8, file: &[u8], text: &mut [u8; 128]) -> 
     answers::method(file, &line[a..b], &line[c..d], &line[e..f], text)
 }
 
-fn ask_slot(line: &[u8], separator: u8, file: &[u8], text: &mut [u8; 128]) -> Said
+fn ask_slot(line: &[u8], separator: u8, file: &[u8], text: &mut [u8; ANSWER_ROOM]) -> Said
     ensures { λ r. ⌜ Says (askedSaying Slot (now (file .entry)) (wordsOf separator (now (line .entry)))) (now (text .entry)) r (now (text .exit)) ⌝ }
 {
     let index = words::word(line, separator, 2);
@@ -54,7 +55,7 @@ fn ask_slot(line: &[u8], separator: u8, file: &[u8], text: &mut [u8; 128]) -> Sa
     answers::slot(file, &line[a..b], &line[c..d], text)
 }
 
-fn ask_constant(line: &[u8], separator: u8, file: &[u8], text: &mut [u8; 128]) -> Said
+fn ask_constant(line: &[u8], separator: u8, file: &[u8], text: &mut [u8; ANSWER_ROOM]) -> Said
     ensures { λ r. ⌜ Says (askedSaying Constant (now (file .entry)) (wordsOf separator (now (line .entry)))) (now (text .entry)) r (now (text .exit)) ⌝ }
 {
     let index = words::word(line, separator, 2);
@@ -72,7 +73,7 @@ pub fn ask(
     line: &[u8],
     separator: u8,
     file: &[u8],
-    text: &mut [u8; 128],
+    text: &mut [u8; ANSWER_ROOM],
 ) -> Said
     ensures { λ r. ⌜ Says (askedSaying question (now (file .entry)) (wordsOf separator (now (line .entry)))) (now (text .entry)) r (now (text .exit)) ⌝ }
 {

@@ -10,6 +10,7 @@ use kept::Kept;
 use listed::Rest;
 use number::FILE_LIMIT;
 use saving::Saved;
+use sayings::ANSWER_ROOM;
 use sayings::Why;
 ghost use mathlib.Core.List.{List};
 ghost use Prim.Native.Nat.{ℕ, _≤_};
@@ -18,6 +19,7 @@ ghost use Rattle.number.specs.Limits.{fileLimit};
 ghost use Rattle.failures.specs.Room.{room, wordLimit};
 ghost use Rattle.words.specs.Words.{wordsOf};
 ghost use Rattle.tasks.specs.Tasks.{inBatch, argument, taskOf, filesOf};
+ghost use Rattle.sayings.specs.Sayings.{answerRoom};
 ghost use Rattle.kept.specs.Table.{Tidy};
 ghost use Rattle.kept.specs.Files.{keptFile};
 ghost use Rattle.listed.specs.Rest.{LeftIn};
@@ -77,11 +79,11 @@ fn put_rest(
 fn say_mistake(
     line: &[u8],
     separator: u8,
-    head: &[u8; 128],
+    head: &[u8; ANSWER_ROOM],
     n: usize,
     text: &mut [u8; ROOM],
 ) -> Told
-    requires { ⌜ n ≤ 128 ⌝ }
+    requires { ⌜ n ≤ answerRoom ⌝ }
 {
     let all: &[u8] = head;
     if tasks::files_of(tasks::task_of(line, separator)) == 0 {
@@ -100,13 +102,13 @@ fn say_why(
     line: &[u8],
     separator: u8,
     reply: Reply,
-    head: &[u8; 128],
+    head: &[u8; ANSWER_ROOM],
     kept: Kept,
     rows: &[usize; 256],
     store: &[u8; 4210688],
     text: &mut [u8; ROOM],
 ) -> Told
-    requires { ⌜ ((length (now line) ≤ wordLimit) × (reply .said .length ≤ 128)) × Tidy (now rows) kept ⌝ }
+    requires { ⌜ ((length (now line) ≤ wordLimit) × (reply .said .length ≤ answerRoom)) × Tidy (now rows) kept ⌝ }
 {
     let said = reply.said;
     let whose = reply.whose;
@@ -127,13 +129,13 @@ fn say_reply(
     line: &[u8],
     separator: u8,
     reply: Reply,
-    head: &[u8; 128],
+    head: &[u8; ANSWER_ROOM],
     kept: Kept,
     rows: &[usize; 256],
     store: &[u8; 4210688],
     text: &mut [u8; ROOM],
 ) -> Told
-    requires { ⌜ ((length (now line) ≤ wordLimit) × (reply .said .length ≤ 128)) × (Tidy (now rows) kept × ((rest : List ℕ) × LeftIn (inBatch separator) (keptFile (argument 1 (wordsOf separator (now line))) kept (now rows) (now store)) (reply .rest) rest)) ⌝ }
+    requires { ⌜ ((length (now line) ≤ wordLimit) × (reply .said .length ≤ answerRoom)) × (Tidy (now rows) kept × ((rest : List ℕ) × LeftIn (inBatch separator) (keptFile (argument 1 (wordsOf separator (now line))) kept (now rows) (now store)) (reply .rest) rest)) ⌝ }
 {
     let said = reply.said;
     let rest = reply.rest;
@@ -188,10 +190,10 @@ fn say_saved(
     separator: u8,
     saved: Saved,
     n: usize,
-    head: &[u8; 128],
+    head: &[u8; ANSWER_ROOM],
     text: &mut [u8; ROOM],
 ) -> Told
-    requires { ⌜ (length (now line) ≤ wordLimit) × (n ≤ 128) ⌝ }
+    requires { ⌜ (length (now line) ≤ wordLimit) × (n ≤ answerRoom) ⌝ }
 {
     if let Saved::Done = saved {
         return answered(streams::put(head, n));
@@ -207,7 +209,7 @@ fn reply_with(
     rows: &[usize; 256],
     store: &[u8; 4210688],
     out: &mut [u8; FILE_LIMIT],
-    head: &mut [u8; 128],
+    head: &mut [u8; ANSWER_ROOM],
     text: &mut [u8; ROOM],
 ) -> Told
     requires { ⌜ (length (now line) ≤ wordLimit) × (Tidy (now rows) kept × Held (filesOf (taskOf separator (now line))) (wordsOf separator (now line)) kept (now rows) (now store)) ⌝ }
@@ -236,7 +238,7 @@ fn reply(
 ) -> Told
     requires { ⌜ (length (now line) ≤ wordLimit) × (Tidy (now rows) kept × Held (filesOf (taskOf separator (now line))) (wordsOf separator (now line)) kept (now rows) (now store)) ⌝ }
 {
-    let mut head = [0u8; 128];
+    let mut head = [0u8; ANSWER_ROOM];
     reply_with(line, separator, kept, rows, store, out, &mut head, text)
 }
 

@@ -1,14 +1,16 @@
 // What standard output gets, each line in one write.
 use failures::ROOM;
 use listed::Rest;
+use sayings::ANSWER_ROOM;
 ghost use mathlib.Core.List.{List};
 ghost use Prim.Native.Nat.{ℕ, _≤_};
 ghost use Rattle.failures.specs.Room.{room};
+ghost use Rattle.sayings.specs.Sayings.{answerRoom};
 ghost use Rattle.listed.specs.Rest.{LeftIn};
 
 // The first bytes on standard output.
-pub fn put(head: &[u8; 128], n: usize) -> bool
-    requires { ⌜ n ≤ 128 ⌝ }
+pub fn put(head: &[u8; ANSWER_ROOM], n: usize) -> bool
+    requires { ⌜ n ≤ answerRoom ⌝ }
 {
     let all: &[u8] = head;
     io::write_all(1, &all[..n])

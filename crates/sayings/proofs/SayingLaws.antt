@@ -7,9 +7,9 @@ use native.Mathlib.Omega.{arith}
 use Rattle.printed.specs.Writing.{Wrote}
 use Rattle.sayings.specs.declared.Why.{Why}
 use Rattle.sayings.specs.declared.Said.{Said}
-use Rattle.sayings.specs.Sayings.{Saying, Says, saying}
+use Rattle.sayings.specs.Sayings.{answerRoom, Saying, Says, saying}
 
-pub says : (text : List ℕ) (why : Why) {before after : List ℕ} {r : Said} → Wrote before 0 text (r .length) after → r .why ≡ why → r .length ≤ 128 → Says (saying text why) before r after
+pub says : (text : List ℕ) (why : Why) {before after : List ℕ} {r : Said} → Wrote before 0 text (r .length) after → r .why ≡ why → r .length ≤ answerRoom → Says (saying text why) before r after
 says text why w e h = record { long = omega (arith, w .next); why = e; stored = w .stored; fits = h }
 
 pub says-as : {x y : Saying} {before after : List ℕ} {r : Said} → x ≡ y → Says x before r after → Says y before r after

@@ -19,6 +19,10 @@ use Rattle.sayings.specs.declared.Why.the-variants.{Answered, Refused, M
 use Rattle.sayings.specs.declared.Said.{Said}
 use Rattle.sayings.specs.Texts.{interfaceText, methodText, constantText}
 
+-- room that the line of any answer fits in
+abbrev pub answerRoom : ℕ
+answerRoom = 160
+
 -- a line, and why it is said
 pub record Saying : Type 0 where
   pub text : List ℕ
@@ -29,7 +33,7 @@ pub record Says (x : Saying) (before : List ℕ) (r : Said) (after : List ℕ) :
   pub long : r .length ≡ length (x .text)
   pub why : r .why ≡ x .why
   pub stored : after ≡ sets before 0 (x .text)
-  pub fits : r .length ≤ 128
+  pub fits : r .length ≤ answerRoom
 
 abbrev pub saying : List ℕ → Why → Saying
 saying text why = record { text = text; why = why }

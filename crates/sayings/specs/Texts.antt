@@ -17,7 +17,7 @@ use Rattle.lookup.specs.declared.MethodAnswer.{MethodAnswer}
 use Rattle.lookup.specs.declared.MethodAnswer.the-variants as method
 use Rattle.lookup.specs.declared.ConstantAnswer.{ConstantAnswer}
 use Rattle.lookup.specs.declared.ConstantAnswer.the-variants as constant
-use Rattle.printed.specs.Listing.{mark, valueText}
+use Rattle.printed.specs.Listing.{mark, slotText, valueText}
 
 -- ---- words of answers
 
@@ -36,6 +36,14 @@ undetermined = 117 ∷ 110 ∷ 100 ∷ 101 ∷ 116 ∷ 101 ∷ 114 ∷ 109 ∷ 1
 -- ` slot `, with its spaces
 abbrev pub inSlot : List ℕ
 inSlot = 32 ∷ 115 ∷ 108 ∷ 111 ∷ 116 ∷ 32 ∷ []
+
+-- ` distance `, with its spaces
+abbrev pub atDistance : List ℕ
+atDistance = 32 ∷ 100 ∷ 105 ∷ 115 ∷ 116 ∷ 97 ∷ 110 ∷ 99 ∷ 101 ∷ 32 ∷ []
+
+-- ` total `, with its spaces
+abbrev pub inTotal : List ℕ
+inTotal = 32 ∷ 116 ∷ 111 ∷ 116 ∷ 97 ∷ 108 ∷ 32 ∷ []
 
 -- ---- answers
 
@@ -66,9 +74,17 @@ unfoldable pub slotPart : Slot → List ℕ
 slotPart (slot.Known n) = inSlot ++ digitsOf n
 slotPart (slot.Undetermined r) = (inSlot ++ (mark ++ space)) ++ digitsOf r
 
--- `found OWNER POSITION` and the slot
+-- ` total T` or ` total ?`: the ancestor stands with the slot
+unfoldable pub totalPart : Slot → List ℕ
+totalPart t = inTotal ++ slotText t
+
+-- `found OWNER POSITION`, the slot, ` distance D` and the total
 unfoldable pub foundText : FoundMethod → List ℕ
-foundText m = (((found ++ digitsOf (m .owner)) ++ (space ++ digitsOf (m .position))) ++ slotPart (m .slot)) ++ newline
+foundText m =
+    ((((found ++ digitsOf (m .owner)) ++ (space ++ digitsOf (m .position))) ++ slotPart (m .slot))
+    ++ (atDistance ++ digitsOf (m .distance)))
+    ++ totalPart (m .total)
+    ++ newline
 
 -- that, `none`, `undetermined INDEX` or `refused NO PLACE`
 unfoldable pub methodText : MethodAnswer → List ℕ

@@ -9,8 +9,8 @@ ghost use Rattle.lookup.specs.declared.ConstantAnswer.the-variants as constant;
 ghost use Rattle.printed.specs.Listing.{signedText};
 ghost use Rattle.printed.specs.Writing.{Wrote};
 ghost use Rattle.sayings.specs.declared.Why.the-variants.{Answered, Refused};
-ghost use Rattle.sayings.specs.Texts.{numbered, placed, noneLine, refusedLine, slotPart, foundText, theIndex, notDecimalMistake, tooLargeMistake};
-ghost use Rattle.sayings.specs.Sayings.{Says, saying, mistaken, sayInterface, sayMethod, sayConstant};
+ghost use Rattle.sayings.specs.Texts.{numbered, placed, noneLine, refusedLine, slotPart, totalPart, foundText, theIndex, notDecimalMistake, tooLargeMistake};
+ghost use Rattle.sayings.specs.Sayings.{answerRoom, Says, saying, mistaken, sayInterface, sayMethod, sayConstant};
 use lookup::ConstantAnswer;
 use lookup::FoundMethod;
 use lookup::InterfaceAnswer;
@@ -18,6 +18,9 @@ use lookup::MethodAnswer;
 use lookup::Slot;
 use lookup::Value;
 use reading::Refusal;
+
+// Room that the line of any answer fits in.
+pub const ANSWER_ROOM: usize = 160;
 
 // Whether a command was answered, was refused, or had a mistake in its words.
 pub enum Why {
@@ -33,8 +36,8 @@ pub struct Said {
 }
 
 // A mistake in the words.
-pub fn mistake(text: &[u8], line: &mut [u8; 128]) -> Said
-    requires { ⌜ length (now text) ≤ 128 ⌝ }
+pub fn mistake(text: &[u8], line: &mut [u8; ANSWER_ROOM]) -> Said
+    requires { ⌜ length (now text) ≤ answerRoom ⌝ }
     ensures { λ r. ⌜ Says (mistaken (now (text .entry))) (now (line .entry)) r (now (line .exit)) ⌝ }
 {
     let length = text::put_bytes(line, 0, text);
@@ -45,21 +48,21 @@ pub fn mistake(text: &[u8], line: &mut [u8; 128]) -> Said
 }
 
 // The index is not decimal.
-pub fn index_not_decimal(line: &mut [u8; 128]) -> Said
+pub fn index_not_decimal(line: &mut [u8; ANSWER_ROOM]) -> Said
     ensures { λ r. ⌜ Says (mistaken (notDecimalMistake theIndex)) (now (line .entry)) r (now (line .exit)) ⌝ }
 {
     mistake(b"error the index is not decimal\n", line)
 }
 
 // The index does not fit 64 bits.
-pub fn index_too_large(line: &mut [u8; 128]) -> Said
+pub fn index_too_large(line: &mut [u8; ANSWER_ROOM]) -> Said
     ensures { λ r. ⌜ Says (mistaken (tooLargeMistake theIndex)) (now (line .entry)) r (now (line .exit)) ⌝ }
 {
     mistake(b"error the index does not fit 64 bits\n", line)
 }
 
 // An answer that is a label and a number.
-pub fn numbered(label: &[u8], n: u64, line: &mut [u8; 128]) -> Said
+pub fn numbered(label: &[u8], n: u64, line: &mut [u8; ANSWER_ROOM]) -> Said
     requires { ⌜ length (now label) ≤ 64 ⌝ }
     ensures { λ r. ⌜ Says (saying (numbered (now (label .entry)) n) Answered) (now (line .entry)) r (now (line .exit)) ⌝ }
 {
@@ -72,7 +75,7 @@ pub fn numbered(label: &[u8], n: u64, line: &mut [u8; 128]) -> Said
 }
 
 // The answer `none`.
-fn none(line: &mut [u8; 128]) -> Said
+fn none(line: &mut [u8; ANSWER_ROOM]) -> Said
     ensures { λ r. ⌜ Says (saying noneLine Answered) (now (line .entry)) r (now (line .exit)) ⌝ }
 {
     let length = text::put_bytes(line, 0, b"none\n");
@@ -83,9 +86,9 @@ fn none(line: &mut [u8; 128]) -> Said
 }
 
 // A label, a refusal's number and place, and a newline, from `at` on.
-pub fn put_refusal(label: &[u8], why: Refusal, line: &mut [u8; 128], at: usize) -> usize
+pub fn put_refusal(label: &[u8], why: Refusal, line: &mut [u8; ANSWER_ROOM], at: usize) -> usize
     requires { ⌜ at + length (now label) ≤ 64 ⌝ }
-    ensures { λ r. ⌜ Wrote (now (line .entry)) at (placed (now (label .entry)) why) r (now (line .exit)) × (r ≤ 128) ⌝ }
+    ensures { λ r. ⌜ Wrote (now (line .entry)) at (placed (now (label .entry)) why) r (now (line .exit)) × (r ≤ answerRoom) ⌝ }
 {
     let no = why.no as u64;
     let place = why.place as u64;
@@ -95,7 +98,7 @@ pub fn put_refusal(label: &[u8], why: Refusal, line: &mut [u8; 128], at: usize) 
 }
 
 // A refusal.
-pub fn refused(why: Refusal, line: &mut [u8; 128]) -> Said
+pub fn refused(why: Refusal, line: &mut [u8; ANSWER_ROOM]) -> Said
     ensures { λ r. ⌜ Says (saying (refusedLine why) (Refused why)) (now (line .entry)) r (now (line .exit)) ⌝ }
 {
     let length = put_refusal(b"refused ", why, line, 0);
@@ -106,7 +109,7 @@ pub fn refused(why: Refusal, line: &mut [u8; 128]) -> Said
 }
 
 // What an interface's index, or none, is said as.
-pub fn interface(a: InterfaceAnswer, line: &mut [u8; 128]) -> Said
+pub fn interface(a: InterfaceAnswer, line: &mut [u8; ANSWER_ROOM]) -> Said
     ensures { λ r. ⌜ Says (sayInterface a) (now (line .entry)) r (now (line .exit)) ⌝ }
 {
     match a {
@@ -117,7 +120,7 @@ pub fn interface(a: InterfaceAnswer, line: &mut [u8; 128]) -> Said
 }
 
 // A slot from `at` on: its number, or the unresolved ancestor.
-fn put_slot(slot: Slot, line: &mut [u8; 128], at: usize) -> usize
+fn put_slot(slot: Slot, line: &mut [u8; ANSWER_ROOM], at: usize) -> usize
     requires { ⌜ at ≤ 64 ⌝ }
     ensures { λ r. ⌜ Wrote (now (line .entry)) at (slotPart slot) r (now (line .exit)) × (r ≤ at + 28) ⌝ }
 {
@@ -127,16 +130,31 @@ fn put_slot(slot: Slot, line: &mut [u8; 128], at: usize) -> usize
     }
 }
 
+// A total of slots from `at` on, `?` for an unknown one.
+fn put_total(total: Slot, line: &mut [u8; ANSWER_ROOM], at: usize) -> usize
+    requires { ⌜ at ≤ 128 ⌝ }
+    ensures { λ r. ⌜ Wrote (now (line .entry)) at (totalPart total) r (now (line .exit)) × (r ≤ at + 27) ⌝ }
+{
+    match total {
+        Slot::Known(n) => text::put_labelled(line, at, b" total ", n as u64),
+        Slot::Undetermined(_) => text::put_bytes(line, at, b" total ?"),
+    }
+}
+
 // A method that was found.
-fn found(m: FoundMethod, line: &mut [u8; 128]) -> Said
+fn found(m: FoundMethod, line: &mut [u8; ANSWER_ROOM]) -> Said
     ensures { λ r. ⌜ Says (saying (foundText m) Answered) (now (line .entry)) r (now (line .exit)) ⌝ }
 {
     let owner = m.owner as u64;
     let position = m.position as u64;
+    let distance = m.distance as u64;
+    let slot = m.slot;
+    let total = m.total;
     let space = text::put_labelled(line, 0, b"found ", owner);
     let at = text::put_labelled(line, space, b" ", position);
-    let slot = m.slot;
-    let end = put_slot(slot, line, at);
+    let far = put_slot(slot, line, at);
+    let many = text::put_labelled(line, far, b" distance ", distance);
+    let end = put_total(total, line, many);
     let length = text::put_bytes(line, end, b"\n");
     Said {
         length,
@@ -144,7 +162,7 @@ fn found(m: FoundMethod, line: &mut [u8; 128]) -> Said
     }
 }
 
-pub fn method(a: MethodAnswer, line: &mut [u8; 128]) -> Said
+pub fn method(a: MethodAnswer, line: &mut [u8; ANSWER_ROOM]) -> Said
     ensures { λ r. ⌜ Says (sayMethod a) (now (line .entry)) r (now (line .exit)) ⌝ }
 {
     match a {
@@ -156,7 +174,7 @@ pub fn method(a: MethodAnswer, line: &mut [u8; 128]) -> Said
 }
 
 // An answer that is a label and a number in two's complement, where `half` is 2^k and the number has k + 1 bits.
-fn complement(label: &[u8], half: u64, v: u64, line: &mut [u8; 128]) -> Said
+fn complement(label: &[u8], half: u64, v: u64, line: &mut [u8; ANSWER_ROOM]) -> Said
     requires { ⌜ (length (now label) ≤ 64) × ((v < half + half) × (half < 4294967296)) ⌝ }
     ensures { λ r. ⌜ ((k : ℕ) → half ≡ 2 ^ k → Says (saying ((now (label .entry) ++ signedText (signed k v)) ++ newline) Answered) (now (line .entry)) r (now (line .exit))) ⌝ }
 {
@@ -170,7 +188,7 @@ fn complement(label: &[u8], half: u64, v: u64, line: &mut [u8; 128]) -> Said
 }
 
 // A constant's value, with its kind.
-fn value(v: Value, line: &mut [u8; 128]) -> Said
+fn value(v: Value, line: &mut [u8; ANSWER_ROOM]) -> Said
     ensures { λ r. ⌜ Says (sayConstant (constant.Found v)) (now (line .entry)) r (now (line .exit)) ⌝ }
 {
     match v {
@@ -181,7 +199,7 @@ fn value(v: Value, line: &mut [u8; 128]) -> Said
     }
 }
 
-pub fn constant(a: ConstantAnswer, line: &mut [u8; 128]) -> Said
+pub fn constant(a: ConstantAnswer, line: &mut [u8; ANSWER_ROOM]) -> Said
     ensures { λ r. ⌜ Says (sayConstant a) (now (line .entry)) r (now (line .exit)) ⌝ }
 {
     match a {

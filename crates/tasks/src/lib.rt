@@ -1,5 +1,6 @@
 // What a line asks for: a command with its words, or a mistake. Words are parted by a separator, which is a space in a batch and a zero byte between
 // arguments.
+use sayings::ANSWER_ROOM;
 use sayings::Said;
 use verbs::Question;
 use verbs::Verb;
@@ -164,7 +165,7 @@ pub fn output(line: &[u8], separator: u8) -> Span
 }
 
 // The words of a question.
-fn question_usage(question: Question, text: &mut [u8; 128]) -> Said
+fn question_usage(question: Question, text: &mut [u8; ANSWER_ROOM]) -> Said
     ensures { λ r. ⌜ Says (mistaken (usageText (Ask question))) (now (text .entry)) r (now (text .exit)) ⌝ }
 {
     match question {
@@ -184,7 +185,7 @@ fn question_usage(question: Question, text: &mut [u8; 128]) -> Said
 }
 
 // The words that a command takes.
-fn usage(verb: Verb, text: &mut [u8; 128]) -> Said
+fn usage(verb: Verb, text: &mut [u8; ANSWER_ROOM]) -> Said
     ensures { λ r. ⌜ Says (mistaken (usageText verb)) (now (text .entry)) r (now (text .exit)) ⌝ }
 {
     match verb {
@@ -200,7 +201,7 @@ fn usage(verb: Verb, text: &mut [u8; 128]) -> Said
 }
 
 // The line that tells a mistake.
-pub fn tell(what: Mistake, text: &mut [u8; 128]) -> Said
+pub fn tell(what: Mistake, text: &mut [u8; ANSWER_ROOM]) -> Said
     ensures { λ r. ⌜ Says (mistaken (mistakeText what)) (now (text .entry)) r (now (text .exit)) ⌝ }
 {
     match what {

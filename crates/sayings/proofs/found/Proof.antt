@@ -1,4 +1,4 @@
--- `sayings::found` meets its contract. Three numbers of 64 bits have at most 60 digits, so the line fits.
+-- `sayings::found` meets its contract. Five numbers of 64 bits have at most 100 digits, so the line fits.
 -- Assumes nothing.
 use mathlib.Core.List.{_++_}
 use Rattle.number.proofs.Tools.{refl, arith, needs}
@@ -6,7 +6,7 @@ use Rattle.decimal.specs.Digits.{digitsOf}
 use Rattle.decimal.proofs.Laws.{length-u64}
 use Rattle.text.specs.Line.{space, newline}
 use Rattle.printed.proofs.WritingLaws.{wrote, wrote-label, wrote-then}
-use Rattle.sayings.specs.Texts.{found, slotPart, foundText}
+use Rattle.sayings.specs.Texts.{found, atDistance, slotPart, totalPart, foundText}
 use Rattle.sayings.proofs.SayingLaws.{says}
 use Rattle.sayings.proofs.found.Statement.{statement}
 use Rattle.sayings.proofs.found.Tie as tie
@@ -20,20 +20,30 @@ put-labelled-requires-2 c κs = omega (arith, c .before .before .put-labelled .k
 put-slot-requires : tie.Need-put-slot-requires
 put-slot-requires c κs = omega (arith, length-u64 (c .before .before .before .before .before .before .before .args .m .owner) (omega arith), length-u64 (c .before .before .before .before .before .before .before .args .m .position) (omega arith))
 
+put-labelled-requires-3 : tie.Need-put-labelled-requires-3
+put-labelled-requires-3 c κs = omega (arith, length-u64 (c .before .before .before .before .before .before .before .before .before .before .args .m .owner) (omega arith), length-u64 (c .before .before .before .before .before .before .before .before .before .before .args .m .position) (omega arith), length-u64 (c .before .before .before .before .before .before .before .before .before .before .args .m .distance) (omega arith))
+
+put-total-requires : tie.Need-put-total-requires
+put-total-requires c κs = omega (arith, length-u64 (c .before .before .before .before .before .before .before .before .before .before .before .before .args .m .owner) (omega arith), length-u64 (c .before .before .before .before .before .before .before .before .before .before .before .before .args .m .position) (omega arith), length-u64 (c .before .before .before .before .before .before .before .before .before .before .before .before .args .m .distance) (omega arith))
+
 put-bytes-requires : tie.Need-put-bytes-requires
-put-bytes-requires c κs = omega (arith, length-u64 (c .before .before .before .before .before .before .before .before .before .before .args .m .owner) (omega arith), length-u64 (c .before .before .before .before .before .before .before .before .before .before .args .m .position) (omega arith))
+put-bytes-requires c κs = omega (arith, length-u64 (c .before .before .before .before .before .before .before .before .before .before .before .before .before .before .before .args .m .owner) (omega arith), length-u64 (c .before .before .before .before .before .before .before .before .before .before .before .before .before .before .before .args .m .position) (omega arith), length-u64 (c .before .before .before .before .before .before .before .before .before .before .before .before .before .before .before .args .m .distance) (omega arith))
 
 returns : tie.Need-returns
 unfolding foundText
 returns c =
-    let m = c .before .before .before .before .before .before .before .before .before .before .before .args .m in
-    let l = c .before .before .before .before .before .before .before .before .before .before .before .args .line .now in
+    let m = c .before .before .before .before .before .before .before .before .before .before .before .before .before .before .before .before .args .m in
+    let l = c .before .before .before .before .before .before .before .before .before .before .before .before .before .before .before .before .args .line .now in
+    let g = c .before .before .before .before .before .before .before .before .before .before .before .before .before .before .before .before .good .0 in
     let owner = found ++ digitsOf (m .owner) in
     let position = space ++ digitsOf (m .position) in
-    let one = wrote-label l found (digitsOf (m .owner)) 0 (c .before .before .before .before .before .before .before .before .put-labelled .ensures) in
-    let two = wrote-then l owner position 0 one (wrote-label _ space (digitsOf (m .position)) _ (c .before .before .before .before .before .put-labelled2 .ensures)) in
-    let three = wrote-then l (owner ++ position) (slotPart (m .slot)) 0 two (c .before .before .before .put-slot .ensures .0) in
-    says _ _ (wrote-then l ((owner ++ position) ++ slotPart (m .slot)) newline 0 three (wrote _ newline _ (c .put-bytes .ensures))) refl (omega (arith, length-u64 (m .owner) (omega arith), length-u64 (m .position) (omega arith)))
+    let distance = atDistance ++ digitsOf (m .distance) in
+    let one = wrote-label l found (digitsOf (m .owner)) 0 (c .before .before .before .before .before .before .before .before .before .before .before .before .before .put-labelled .ensures) in
+    let two = wrote-then l owner position 0 one (wrote-label _ space (digitsOf (m .position)) _ (c .before .before .before .before .before .before .before .before .before .before .put-labelled2 .ensures)) in
+    let three = wrote-then l (owner ++ position) (slotPart (m .slot)) 0 two (c .before .before .before .before .before .before .before .before .put-slot .ensures .0) in
+    let four = wrote-then l ((owner ++ position) ++ slotPart (m .slot)) distance 0 three (wrote-label _ atDistance (digitsOf (m .distance)) _ (c .before .before .before .before .before .put-labelled3 .ensures)) in
+    let five = wrote-then l (((owner ++ position) ++ slotPart (m .slot)) ++ distance) (totalPart (m .total)) 0 four (c .before .before .before .put-total .ensures .0) in
+    says _ _ (wrote-then l ((((owner ++ position) ++ slotPart (m .slot)) ++ distance) ++ totalPart (m .total)) newline 0 five (wrote _ newline _ (c .put-bytes .ensures))) refl (omega (arith, length-u64 (m .owner) (omega (arith, g)), length-u64 (m .position) (omega (arith, g)), length-u64 (m .distance) (omega (arith, g))))
 
 pub found-spec : {M : Type 1} → statement M
 found-spec =
@@ -44,6 +54,9 @@ found-spec =
     (λ c. search needs)
     put-labelled-requires-2
     put-slot-requires
+    (λ c. search needs)
+    put-labelled-requires-3
+    put-total-requires
     (λ c. search needs)
     put-bytes-requires
     returns)
