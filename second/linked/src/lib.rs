@@ -12,6 +12,9 @@ use std::panic::{catch_unwind, AssertUnwindSafe};
 pub const LIBRARY: Program =
     Program { check, iid, key, method, slot, constant, normalise, link, on_list };
 
+/// Both sides know how long a list must be.
+const _: () = assert!(saniotka::ROOM == second::library::lists::ROOM);
+
 /// Stands for an answer that the library's interface does not have: no program refuses with it,
 /// so that it shows as a difference.
 pub const NONSENSE: Refusal = Refusal { number: u32::MAX, place: usize::MAX };
@@ -36,12 +39,12 @@ fn lookup<T, U>(call: impl FnOnce() -> Told<T>, found: impl FnOnce(T) -> U) -> L
 }
 
 fn found(method: saniotka::Method) -> Method {
-    let saniotka::Method { owner, position, slot } = method;
+    let saniotka::Method { owner, position, slot, distance, total } = method;
     let slot = match slot {
         saniotka::Slot::Known(slot) => Slot::Known(slot),
         saniotka::Slot::Undetermined(index) => Slot::Undetermined(index),
     };
-    Method { owner, position, slot }
+    Method { owner, position, slot, distance, total }
 }
 
 fn check(file: &[u8]) -> Answer {

@@ -7,25 +7,19 @@ use super::questions::{self, Found, Question, Reply};
 use super::{Program, Session, OWN};
 use crate::making::{builder::Typelib, damage, generate, model, rng::Rng};
 use crate::program::check::check;
-use crate::program::questions::{of, Constant, Kind, Lookup, Slot, MALFORMED};
+use crate::program::questions::{of, Constant, Kind, Lookup, Method, Slot, MALFORMED};
 use crate::tally::{hash, Came};
 use std::fmt;
 
 /// Numbers that any answer fits in.
-pub const ROOM: usize = 5;
+pub const ROOM: usize = 8;
 
 // This program's answers as numbers.
 
 fn found(found: Found) -> Vec<u64> {
     match found {
         Found::Interface(index) => vec![0, index as u64],
-        Found::Method(method) => {
-            let (known, slot) = match method.slot {
-                Slot::Known(slot) => (0, slot),
-                Slot::Undetermined(index) => (1, index as u64),
-            };
-            vec![0, method.owner as u64, method.position as u64, known, slot]
-        }
+        Found::Method(found) => method(found),
         Found::Constant(value) => {
             let (kind, bits) = match value {
                 Constant::I16(value) => (1, u64::from(value as u16)),
@@ -36,6 +30,17 @@ fn found(found: Found) -> Vec<u64> {
             vec![0, kind, bits]
         }
     }
+}
+
+/// A total that is not known is told as the slot is, by the same interface.
+fn method(found: Method) -> Vec<u64> {
+    let (known, slot) = match found.slot {
+        Slot::Known(slot) => (0, slot),
+        Slot::Undetermined(index) => (1, index as u64),
+    };
+    let [owner, position, distance] =
+        [found.owner, found.position, found.distance].map(|number| number as u64);
+    vec![0, owner, position, known, slot, distance, known, found.total.unwrap_or(slot)]
 }
 
 fn reply(reply: Reply) -> Vec<u64> {
@@ -179,7 +184,7 @@ fn ask(session: &mut Session, rng: &mut Rng, bytes: &[u8], [own, lib]: [&Typelib
         asked.push(if files.len() == 1 { Asked::Normal(length) } else { Asked::Link(length) });
     }
     for asked in asked {
-        for room in [0, 1, 2, 3, 4, ROOM + rng.below(4)] {
+        for room in (0..ROOM).chain([ROOM + rng.below(4)]) {
             one(session, &asked, &[bytes, &second], room, came);
         }
     }

@@ -172,9 +172,7 @@ fn method_question(lib: &Typelib, rng: &mut Rng) -> Made {
 
 fn slot_question(lib: &Typelib, rng: &mut Rng) -> Made {
     let index = rng.range(1, lib.entries.len());
-    let (resolved, _) = model::chain(lib, index);
-    let count = |i: &usize| model::descriptor(lib, *i).methods.len() as u64;
-    let total: u64 = resolved.iter().map(count).sum();
+    let total = model::total(lib, index).unwrap_or(rng.below(8) as u64);
     let below = rng.below(total.max(1) as usize) as u64;
     let (what, slot) = match rng.below(12) {
         0 => ("the total", total),
@@ -294,7 +292,14 @@ fn count(tally: &mut Tally, file: &File, made: &'static str, question: &Question
         }
         Lookup::Found(found) => {
             count_found(&mut row, question, found);
-            steps(file.lib, question, found).into_iter().for_each(|up| row(UP[up.min(3)], None));
+            let up = steps(file.lib, question, found);
+            up.into_iter().for_each(|up| row(UP[up.min(3)], None));
+            // The model knows these too.
+            if let (Found::Method(place), Some(index)) = (found, asked) {
+                let total = model::total(file.lib, index as usize);
+                assert_eq!((Some(place.distance), place.total), (up, total), "{question:?}");
+                row(if total.is_some() { "total known" } else { "total unknown" }, total);
+            }
         }
     }
     row(made, None);

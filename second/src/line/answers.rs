@@ -135,14 +135,15 @@ pub fn written(files: &[&[u8]]) -> Outcome {
 pub fn asked(file: &[u8], question: &Question) -> Outcome {
     let (what, text) = match OWN.ask(file, question) {
         Lookup::Found(Found::Interface(index)) => ("found", format!("found {index}")),
-        Lookup::Found(Found::Method(Method { owner, position, slot })) => match slot {
-            Slot::Known(slot) => {
-                ("found, slot known", format!("found {owner} {position} slot {slot}"))
-            }
-            Slot::Undetermined(index) => {
-                ("found, slot unknown", format!("found {owner} {position} slot ? {index}"))
-            }
-        },
+        Lookup::Found(Found::Method(Method { owner, position, slot, distance, total })) => {
+            let (what, slot) = match slot {
+                Slot::Known(slot) => ("found, slot known", slot.to_string()),
+                Slot::Undetermined(index) => ("found, slot unknown", format!("? {index}")),
+            };
+            let total = total.map_or("?".to_string(), |total| total.to_string());
+            let from = format!("distance {distance} total {total}");
+            (what, format!("found {owner} {position} slot {slot} {from}"))
+        }
         Lookup::Found(Found::Constant(value)) => {
             let what = match value {
                 Constant::I16(_) => "found i16",

@@ -76,6 +76,13 @@ pub fn chain(lib: &Typelib, index: usize) -> (Vec<usize>, Option<usize>) {
     (resolved, None)
 }
 
+/// The methods of an entry's chain; nothing where it is incomplete.
+pub fn total(lib: &Typelib, index: usize) -> Option<u64> {
+    let (resolved, unresolved) = chain(lib, index);
+    let methods = resolved.iter().map(|i| descriptor(lib, *i).methods.len() as u64).sum();
+    unresolved.is_none().then_some(methods)
+}
+
 /// The descriptor of a resolved entry.
 pub fn descriptor(lib: &Typelib, index: usize) -> &Descriptor {
     &lib.descriptors[lib.entries[index - 1].descriptor.unwrap()]

@@ -60,7 +60,11 @@ impl Accepted<'_> {
                 None => page.text(b"M ?"),
             };
             let name = walk.identifier(name);
-            page.text(b" ").text(name).text(b" ").number(arguments.into()).end_line()?;
+            page.text(b" ").text(name).text(b" ").number(arguments.into());
+            match totals[index] {
+                Some(total) => page.text(b" ").number(total).end_line()?,
+                None => page.text(b" ?").end_line()?,
+            }
         }
         for _ in 0..walk.pair() {
             let (name, kind, bits) = walk.constant();

@@ -67,6 +67,10 @@ pub struct Method {
     /// From 0, among the owner's methods.
     pub position: usize,
     pub slot: Slot,
+    /// The steps up from the asked interface to the owner.
+    pub distance: usize,
+    /// All slots of the asked interface, known exactly when the slot is.
+    pub total: Option<u64>,
 }
 
 #[derive(Clone, Copy, Debug, PartialEq, Eq)]
@@ -142,19 +146,23 @@ impl Accepted<'_> {
         };
         let (mask, bits) = kind.mask();
         let mut chain = self.chain(index);
+        let (mut distance, mut below) = (0, 0);
         while let Some((owner, descriptor)) = chain.next() {
             let mut walk = self.walk(descriptor);
-            for position in 0..walk.pair() {
+            let own = walk.pair();
+            below += u64::from(own);
+            for position in 0..own {
                 let (flags, its_name, _) = walk.method();
                 if flags & mask == bits && walk.is(its_name, name) {
                     let position = usize::from(position);
-                    let slot = match chain.count_methods() {
-                        Ok(above) => Slot::Known(above + position as u64),
-                        Err(unresolved) => Slot::Undetermined(unresolved),
+                    let (slot, total) = match chain.count_methods() {
+                        Ok(above) => (Slot::Known(above + position as u64), Some(above + below)),
+                        Err(unresolved) => (Slot::Undetermined(unresolved), None),
                     };
-                    return Lookup::Found(Method { owner, position, slot });
+                    return Lookup::Found(Method { owner, position, slot, distance, total });
                 }
             }
+            distance += 1;
         }
         not_found(chain.unresolved)
     }
@@ -163,19 +171,21 @@ impl Accepted<'_> {
         let Some(index) = self.index(index) else {
             return Lookup::Refused(MALFORMED);
         };
-        let mut end = match self.chain(index).count_methods() {
+        let total = match self.chain(index).count_methods() {
             Ok(total) => total,
             Err(unresolved) => return Lookup::Undetermined(unresolved),
         };
+        let mut end = total;
         if slot >= end {
             return Lookup::None;
         }
         // Own methods stand after those of all ancestors.
-        for (owner, descriptor) in self.chain(index) {
+        for (distance, (owner, descriptor)) in self.chain(index).enumerate() {
             let start = end - u64::from(self.method_count(descriptor));
             if slot >= start {
                 let position = (slot - start) as usize;
-                return Lookup::Found(Method { owner, position, slot: Slot::Known(slot) });
+                let (slot, total) = (Slot::Known(slot), Some(total));
+                return Lookup::Found(Method { owner, position, slot, distance, total });
             }
             end = start;
         }

@@ -7,7 +7,7 @@ pub mod lists;
 use lists::ANSWERED;
 
 /// Numbers that any answer fits in.
-pub const ROOM: usize = 5;
+pub const ROOM: usize = 8;
 
 /// Bytes that any normal form and any link fit in.
 pub const BUFFER: usize = 1_048_576;
@@ -52,6 +52,10 @@ pub struct Method {
     /// From 0, among the owner's methods.
     pub position: usize,
     pub slot: Slot,
+    /// The steps up from the asked interface to the owner.
+    pub distance: usize,
+    /// All slots of the asked interface, known exactly when the slot is.
+    pub total: Option<u64>,
 }
 
 #[derive(Clone, Copy, Debug, PartialEq, Eq)]
@@ -75,8 +79,8 @@ pub fn check(file: &[u8]) -> Result<usize, Refusal> {
     told(
         |list| lists::check(file, list),
         |numbers| match *numbers {
-            [0, n, KEPT, KEPT, KEPT] => Some(Ok(n as usize)),
-            [number, place, KEPT, KEPT, KEPT] => Some(Err(refusal(number, place)?)),
+            [0, n] => Some(Ok(n as usize)),
+            [number, place] => Some(Err(refusal(number, place)?)),
             _ => None,
         },
     )
@@ -113,8 +117,8 @@ pub fn normalise(file: &[u8], out: &mut [u8]) -> Result<usize, Refusal> {
     told(
         |list| lists::normal(file, out, list),
         |numbers| match *numbers {
-            [0, length, KEPT, KEPT, KEPT] => Some(Ok(length as usize)),
-            [3, number, place, KEPT, KEPT] => Some(Err(refusal(number, place)?)),
+            [0, length] => Some(Ok(length as usize)),
+            [3, number, place] => Some(Err(refusal(number, place)?)),
             _ => None,
         },
     )
@@ -125,8 +129,8 @@ pub fn link(first: &[u8], second: &[u8], out: &mut [u8]) -> Result<usize, (Which
     told(
         |list| lists::link(first, second, out, list),
         |numbers| match *numbers {
-            [0, length, KEPT, KEPT, KEPT] => Some(Ok(length as usize)),
-            [3, which, number, place, KEPT] => Some(Err((file(which)?, refusal(number, place)?))),
+            [0, length] => Some(Ok(length as usize)),
+            [3, which, number, place] => Some(Err((file(which)?, refusal(number, place)?))),
             _ => None,
         },
     )
@@ -137,13 +141,15 @@ pub fn link(first: &[u8], second: &[u8], out: &mut [u8]) -> Result<usize, (Which
 /// What a list holds before a call: numbers that the answer has no use for keep it.
 const KEPT: u64 = 0x5e5e_a1a1_0f0f_c3c3;
 
-type Numbers = [u64; ROOM];
+/// The numbers of an answer, without those that were kept.
+type Numbers = [u64];
 
 /// Makes a call and reads its answer. The library is proved to give one of those that are read.
 fn told<T>(call: impl FnOnce(&mut Numbers) -> i32, read: impl Fn(&Numbers) -> Option<T>) -> T {
     let mut numbers = [KEPT; ROOM];
     let returned = call(&mut numbers);
-    let answer = if returned == ANSWERED { read(&numbers) } else { None };
+    let used = numbers.iter().rposition(|number| *number != KEPT).map_or(0, |last| last + 1);
+    let answer = if returned == ANSWERED { read(&numbers[..used]) } else { None };
     answer.unwrap_or_else(|| panic!("no answer of the library: {returned}, {numbers:x?}"))
 }
 
@@ -154,9 +160,9 @@ fn asked<T>(
 ) -> Answer<T> {
     told(call, |numbers| match *numbers {
         [0, ..] => found(numbers).map(Answer::Found),
-        [1, KEPT, KEPT, KEPT, KEPT] => Some(Answer::None),
-        [2, index, KEPT, KEPT, KEPT] => Some(Answer::Undetermined(index as usize)),
-        [3, number, place, KEPT, KEPT] => Some(Answer::Refused(refusal(number, place)?)),
+        [1] => Some(Answer::None),
+        [2, index] => Some(Answer::Undetermined(index as usize)),
+        [3, number, place] => Some(Answer::Refused(refusal(number, place)?)),
         _ => None,
     })
 }
@@ -167,23 +173,26 @@ fn refusal(number: u64, place: u64) -> Option<Refusal> {
 
 fn interface(numbers: &Numbers) -> Option<usize> {
     match *numbers {
-        [_, index, KEPT, KEPT, KEPT] => Some(index as usize),
+        [_, index] => Some(index as usize),
         _ => None,
     }
 }
 
 fn method(numbers: &Numbers) -> Option<Method> {
-    let [_, owner, position, known, slot] = *numbers;
-    let slot = match known {
-        0 => Slot::Known(slot),
-        1 => Slot::Undetermined(slot as usize),
+    let (slot, distance, total) = match *numbers {
+        [_, _, _, 0, slot, distance, 0, total] => (Slot::Known(slot), distance, Some(total)),
+        [_, _, _, 1, index, distance, 1, same] if index == same => {
+            (Slot::Undetermined(index as usize), distance, None)
+        }
         _ => return None,
     };
-    Some(Method { owner: owner as usize, position: position as usize, slot })
+    let [owner, position, distance] =
+        [numbers[1], numbers[2], distance].map(|number| number as usize);
+    Some(Method { owner, position, slot, distance, total })
 }
 
 fn constant(numbers: &Numbers) -> Option<Constant> {
-    let [_, kind, bits, KEPT, KEPT] = *numbers else { return None };
+    let [_, kind, bits] = *numbers else { return None };
     match kind {
         1 => Some(Constant::I16(u16::try_from(bits).ok()? as i16)),
         2 => Some(Constant::I32(u32::try_from(bits).ok()? as i32)),
