@@ -7,15 +7,14 @@ use mathlib.Core.Logic.{_⊎_, inl, inr}
 use Prim.Native.Nat.{ℕ, _+_, _-_, _≤_, _<_}
 use native.Mathlib.Decide.{decLe}
 use native.Mathlib.Omega.{arith}
-use lib.ListN.{length, getD}
+use lib.ListN.{length, getD, take}
+use lib.Seq.{length-take-le, getD-take}
 use Rattle.number.specs.Choice.{if_then_else_}
 use Rattle.number.specs.Number.{be}
-use Rattle.number.specs.Scan.{scan}
 use Rattle.number.specs.Part.{part}
 use Rattle.number.proofs.Choice.{from-not-lt, from-not-le, from-not-eq, from-yes-eq, not-lt}
 use Rattle.number.proofs.Choice as choice
-use Rattle.number.proofs.Scans.{below, scan-range}
-use Rattle.number.proofs.Parts.{length-part}
+use Rattle.number.proofs.Scans.{below}
 use Rattle.reading.specs.Got.{got, next, field, stepOf}
 use Rattle.reading.specs.declared.Context.{Context}
 use Rattle.reading.specs.declared.Step.{Step}
@@ -24,52 +23,85 @@ use Rattle.reading.proofs.Steps.{refused, at-end-as, at-bad, is-true, is-false,
 use Rattle.reading.proofs.Facts.{Facts, fact, f-bad, f-got, f-if, f-unless, f-next, f-field, f-self}
 use Rattle.key.specs.Word.{wordEnd, wordAt, Leads}
 use Rattle.key.specs.Key.{spaceAt}
-use Rattle.key.proofs.Ends.{word-from, word-to, word-zero, end-is, word-is}
-use Rattle.name.specs.Name.{offLetter, isIdentifier, searchEnd, readIdentifier, follow, followSpace, readName}
-use Rattle.name.proofs.Words.{identifier-long, identifier-nonzero, letters-off, judge-none, judge-start, judge-stop, judge-done, search-range, search-most, search-full, nonzero-before, letter-none, letters-rest}
+use Rattle.key.proofs.Ends.{word-from, word-to, word-zero, end-is, word-is, length-word}
+use Rattle.name.specs.Name.{lettersEnd, isDash, isIdentifier, searchEnd, readIdentifier, follow, followSpace, readName}
+use Rattle.name.proofs.Letters.{ends-range, ends-bytes}
+use Rattle.name.proofs.Words.{identifier-nonzero, identifier-made, identifier-empty, identifier-long, identifier-dash, identifier-off, part-ends, search-range, search-most, search-full}
 
 -- ---- the ways out of the search, as steps
 
-module _ (s : List ℕ) (p stop end : ℕ) (l : p ≤ length s) (a : stop ≡ searchEnd s p) (b : end ≡ scan (offLetter s) (stop - p) p) where
+module _ (s : List ℕ) (p stop end : ℕ) (l : p ≤ length s) (a : stop ≡ searchEnd s p) (b : end ≡ lettersEnd (stop - p) (take stop s) p) where
   pub end-range : (p ≤ end) × (end ≤ stop) × (stop ≤ length s)
-  end-range = let r = search-range s p l in omega (arith, scan-range (offLetter s) (stop - p) p)
+  end-range =
+      let r = search-range s p l in
+      let t = length-take-le stop s (omega arith) in
+      omega (arith, ends-range (take stop s) (stop - p) p (omega arith))
+
+  -- no byte before it is zero
+  nonzero-before : (j : ℕ) → p ≤ j → j < end → getD s j 0 ≡ 0 → ⊥
+  nonzero-before j h k z =
+      let r = end-range in
+      omega (arith, z, getD-take stop s j 0 (omega arith), ends-bytes (take stop s) (stop - p) p j h (omega arith) .above)
 
   -- the word does not end among its letters
   end-after : end ≤ wordEnd s p
   end-after = elim (decLe end (wordEnd s p)) [
     | yes h ↦ h
-    | no h ↦ absurd (let r = end-range in nonzero-before s p stop end b (wordEnd s p) (word-from s p) (omega arith) (word-zero s p (omega arith)))
+    | no h ↦ absurd (let r = end-range in nonzero-before (wordEnd s p) (word-from s p) (omega arith) (word-zero s p (omega arith)))
   ]
+
+  -- a word that ends before the search does: its letters end there too
+  word-stops : wordEnd s p < stop → p + lettersEnd (length (wordAt s p)) (wordAt s p) 0 ≡ end
+  unfolding wordAt
+  word-stops h =
+      let r = end-range in
+      part-ends s p (wordEnd s p) stop (word-from s p) (omega arith) (omega arith) (getD-take stop s (wordEnd s p) 0 h ∙ word-zero s p (omega arith)) ∙ sym b
+
+  -- one that does not is too long
+  word-long : stop ≤ wordEnd s p → wordEnd s p < length s → isIdentifier (wordAt s p) ≡ false
+  word-long h k = identifier-long (wordAt s p) (omega (arith, search-full s p (omega arith), length-word s p))
 
   -- a byte that is no letter is in it, or it has none
-  not-identifier : end < stop → (end ≡ p) ⊎ (getD s end 0 ≡ 0 → ⊥) → wordEnd s p < length s → isIdentifier (part s p (wordEnd s p)) ≡ false
-  not-identifier h w k = elim (below end (wordEnd s p) end-after) [
-    | inl q ↦ elim w [
-      | inl z ↦ sym (judge-none s p (wordEnd s p) (omega arith) (omega arith))
-      | inr z ↦ absurd (z (ap (λ (x : ℕ). getD s x 0) q ∙ word-zero s p k))
-    ]
-    | inr q ↦ (
-        let r = end-range in
-        letters-off (part s p (wordEnd s p))
-        (letters-rest s p stop end b (wordEnd s p) (omega arith) (omega arith) (r .0) ∙ sym (judge-stop s end (wordEnd s p) (omega arith) q (letter-none s p stop end b (omega arith) h))))
+  not-identifier : end < stop → (end ≡ p) ⊎ (getD s end 0 ≡ 0 → ⊥) → wordEnd s p < length s → isIdentifier (wordAt s p) ≡ false
+  not-identifier h w k = elim (decLe stop (wordEnd s p)) [
+    | yes q ↦ word-long q k
+    | no q ↦ (
+        let n = length-word s p in
+        let f = word-from s p in
+        elim (below end (wordEnd s p) end-after) [
+          | inl e ↦ elim w [
+            | inl z ↦ identifier-empty (wordAt s p) (omega arith)
+            | inr z ↦ absurd (z (ap (λ (x : ℕ). getD s x 0) e ∙ word-zero s p k))
+          ]
+          | inr e ↦ identifier-off (wordAt s p) (λ z. omega (arith, word-stops (omega arith)))
+        ])
   ]
 
-module _ (s : List ℕ) (place p stop end : ℕ) (l : p ≤ length s) (a : stop ≡ searchEnd s p) (b : end ≡ scan (offLetter s) (stop - p) p) where
-  -- a zero byte after one letter or more
-  pub step-good : end < stop → (end ≡ p → ⊥) → getD s end 0 ≡ 0 → End (end + 1) ≡ stepOf (readIdentifier s place p)
+module _ (s : List ℕ) (place p stop end : ℕ) (l : p ≤ length s) (a : stop ≡ searchEnd s p) (b : end ≡ lettersEnd (stop - p) (take stop s) p) where
+  -- a zero byte after the letters is the word's end
+  zero-ends : end < stop → getD s end 0 ≡ 0 → wordEnd s p ≡ end
+  zero-ends h z = let r = end-range s p stop end l a b in end-is s p end (r .0) (omega arith) z (nonzero-before s p stop end l a b)
+
+  -- it stands after one letter or more, which are not a lone `-`
+  pub step-good : end < stop → (end ≡ p → ⊥) → getD s end 0 ≡ 0 → isDash (part s p end) ≡ false → End (end + 1) ≡ stepOf (readIdentifier s place p)
   unfolding readIdentifier wordAt
-  step-good h n z =
+  step-good h n z d =
       let r = end-range s p stop end l a b in
-      let e : wordEnd s p ≡ end = end-is s p end (r .0) (omega arith) z (nonzero-before s p stop end b) in
-      let t : isIdentifier (part s p end) ≡ true =
-      judge-start s p end (omega arith) (λ q. n (omega arith)) (omega (arith, search-most s p l))
-      ∙ letters-rest s p stop end b end (omega arith) (omega arith) (r .0)
-      ∙ sym (judge-done s end end (omega arith) (omega arith)) in
-      no-le _ _ _ _ (omega arith) (is-true _ _ _ (ap (λ (n : ℕ). isIdentifier (part s p n)) e ∙ t) (at-end-as _ _ (omega arith)))
+      let e = zero-ends h z in
+      let m = length-word s p in
+      let t = identifier-made (wordAt s p) (elim (below p end (r .0)) [ inl q ↦ absurd (n (sym q)) | inr q ↦ omega arith ]) (omega (arith, search-most s p l)) (ap (λ (x : ℕ). isDash (part s p x)) e ∙ d) (omega (arith, word-stops s p stop end l a b (omega arith))) in
+      no-le _ _ _ _ (omega arith) (is-true _ _ _ t (at-end-as _ _ (omega arith)))
+
+  pub step-dash : end < stop → getD s end 0 ≡ 0 → isDash (part s p end) ≡ true → refused 11 place ≡ stepOf (readIdentifier s place p)
+  unfolding readIdentifier wordAt
+  step-dash h z d =
+      let r = end-range s p stop end l a b in
+      let e = zero-ends h z in
+      no-le _ _ _ _ (omega arith) (is-false _ _ _ (identifier-dash (part s p (wordEnd s p)) (ap (λ (x : ℕ). isDash (part s p x)) e ∙ d)) (at-bad _ _ _))
 
   -- no letter, or another byte than zero after them
   pub step-wrong : end < stop → (end ≡ p) ⊎ (getD s end 0 ≡ 0 → ⊥) → refused 11 place ≡ stepOf (readIdentifier s place p)
-  unfolding readIdentifier wordAt
+  unfolding readIdentifier
   step-wrong h w = elim (below (wordEnd s p) (length s) (word-to s p l)) [
     | inl q ↦ is-le _ _ _ _ (omega arith) (at-bad _ _ _)
     | inr q ↦ no-le _ _ _ _ (omega arith) (is-false _ _ _ (not-identifier s p stop end l a b h w q) (at-bad _ _ _))
@@ -77,16 +109,12 @@ module _ (s : List ℕ) (place p stop end : ℕ) (l : p ≤ length s) (a : stop 
 
   -- letters only: the pool ends first, or the word has more than 255 bytes
   pub step-unfinished : stop ≤ end → refused 11 place ≡ stepOf (readIdentifier s place p)
-  unfolding readIdentifier wordAt
+  unfolding readIdentifier
   step-unfinished h =
-      let r = end-range s p stop end l a b in
       let y = end-after s p stop end l a b in
       elim (below (wordEnd s p) (length s) (word-to s p l)) [
         | inl q ↦ is-le _ _ _ _ (omega arith) (at-bad _ _ _)
-        | inr q ↦ (
-            let f = search-full s p (omega arith) in
-            let n = length-part s p (wordEnd s p) (omega arith) in
-            no-le _ _ _ _ (omega arith) (is-false _ _ _ (identifier-long (part s p (wordEnd s p)) (omega arith)) (at-bad _ _ _)))
+        | inr q ↦ no-le _ _ _ _ (omega arith) (is-false _ _ _ (word-long s p stop end l a b (omega arith) q) (at-bad _ _ _))
       ]
 
 -- ---- what an identifier that was read says

@@ -1,19 +1,21 @@
--- Identifiers: what callers may use of the rule, how it is judged byte by byte, and where the letters end.
+-- Identifiers: what callers may use of the rule, how it is judged, and how far the end of one is looked for.
 -- Assumes nothing.
 use mathlib.Core.Path.{_≡_, refl, sym, ap, _∙_}
 use mathlib.Core.Bool.{Bool, true, false}
-use mathlib.Core.List.{List, [], _∷_}
-use Prim.Native.Nat.{ℕ, zero, suc, _+_, _-_, _%_, _≤_, _<_}
-use native.Mathlib.Decide.{decLe, ℕ-discrete}
+use mathlib.Core.List.{List}
+use Prim.Native.Nat.{ℕ, _+_, _-_, _≤_, _<_}
+use native.Mathlib.Decide.{ℕ-discrete}
+use native.Mathlib.Nat.{add-zero}
 use native.Mathlib.Omega.{arith}
-use lib.ListN.{length, getD}
-use Rattle.number.specs.Choice.{if_then_else_, _<?_, _=?_}
-use Rattle.number.specs.Scan.{scan}
+use lib.ListN.{length, getD, take, List·getD-eq-default}
+use lib.Seq.{length-take-le, getD-take}
+use Rattle.number.specs.Choice.{if_then_else_, _=?_}
 use Rattle.number.specs.Part.{part}
-use Rattle.number.proofs.Choice.{both, is-true, is-false, is-lt, no-lt, is-eq, no-eq, from-yes-lt, from-not-lt, from-not-eq, yes-lt, not-lt, yes-eq, not-eq}
-use Rattle.number.proofs.Scans.{clash, scan-found, scan-before}
-use Rattle.number.proofs.Parts.{part-none, part-cons, length-part}
-use Rattle.name.specs.Name.{letter, letters, offLetter, isIdentifier, searchEnd}
+use Rattle.number.proofs.Choice.{both, is-true, is-false, from-yes-lt, from-not-lt, from-yes-eq, from-not-eq, yes-eq, not-eq, not-lt}
+use Rattle.number.proofs.Scans.{clash}
+use Rattle.number.proofs.Parts.{length-part, getD-part}
+use Rattle.name.specs.Name.{lettersEnd, isDash, isIdentifier, searchEnd}
+use Rattle.name.proofs.Letters.{Lettered, ends-enough, ends-bytes, word-ends}
 
 -- ---- the rule
 
@@ -22,12 +24,6 @@ kept : (t u : Bool) → (if t then false else u) ≡ true → (t ≡ false) × (
 unfolding if_then_else_
 kept true u h = clash false h refl
 kept false u h = (refl, h)
-
--- one that asks for more
-asked : (t u : Bool) → (if t then u else false) ≡ true → (t ≡ true) × (u ≡ true)
-unfolding if_then_else_
-asked true u h = (refl, h)
-asked false u h = clash false h refl
 
 module _ (w : List ℕ) (h : isIdentifier w ≡ true) where
   pub identifier-some : 1 ≤ length w
@@ -38,113 +34,91 @@ module _ (w : List ℕ) (h : isIdentifier w ≡ true) where
   unfolding isIdentifier
   identifier-short = from-not-lt _ _ (kept _ _ (kept _ _ h .1) .0)
 
-  pub identifier-letters : letters w ≡ true
+  pub identifier-alone : isDash w ≡ false
   unfolding isIdentifier
-  identifier-letters = kept _ _ (kept _ _ h .1) .1
+  identifier-alone = kept _ _ (kept _ _ (kept _ _ h .1) .1) .0
 
-pub letter-nonzero : letter 0 ≡ false
-unfolding letter
-letter-nonzero = sym (is-true _ _ _ (yes-lt 0 48 (omega arith)) refl)
+  pub identifier-ends : lettersEnd (length w) w 0 ≡ length w
+  unfolding isIdentifier
+  identifier-ends = from-yes-eq _ _ (kept _ _ (kept _ _ (kept _ _ h .1) .1) .1)
 
-letters-nonzero : (w : List ℕ) → letters w ≡ true → (i : ℕ) → i < length w → getD w i 0 ≡ 0 → ⊥
-unfolding letters
-letters-nonzero [] h i l e = omega arith
-letters-nonzero (b ∷ w) h zero l e = clash (letter b) (asked _ _ h .0) (ap letter e ∙ letter-nonzero)
-letters-nonzero (b ∷ w) h (suc i) l e = letters-nonzero w (asked _ _ h .1) i (omega arith) e
+  pub identifier-lettered : (i : ℕ) → i < length w → Lettered (getD w i 0)
+  identifier-lettered i l = ends-bytes w (length w) 0 i (omega arith) (rw identifier-ends l)
 
-pub identifier-nonzero : (w : List ℕ) → isIdentifier w ≡ true → (i : ℕ) → i < length w → getD w i 0 ≡ 0 → ⊥
-identifier-nonzero w h = letters-nonzero w (identifier-letters w h)
+  pub identifier-nonzero : (i : ℕ) → i < length w → getD w i 0 ≡ 0 → ⊥
+  identifier-nonzero i l e = omega (arith, identifier-lettered i l .above)
 
--- more than 255 bytes are none
-pub identifier-long : (w : List ℕ) → 255 < length w → isIdentifier w ≡ false
-identifier-long w l = go (isIdentifier w) refl
+pub identifier-made : (w : List ℕ) → 1 ≤ length w → length w ≤ 255 → isDash w ≡ false → lettersEnd (length w) w 0 ≡ length w → isIdentifier w ≡ true
+unfolding isIdentifier
+identifier-made w a b d e =
+    sym (is-false _ _ _ (not-eq _ _ (λ z. omega arith)) (is-false _ _ _ (not-lt _ _ b) (is-false _ _ _ d (sym (yes-eq _ _ e)))))
+
+-- what is none, is judged so
+identifier-not : (w : List ℕ) → (isIdentifier w ≡ true → ⊥) → isIdentifier w ≡ false
+identifier-not w f = go (isIdentifier w) refl
   where
     go : (b : Bool) → isIdentifier w ≡ b → isIdentifier w ≡ false
-    go true e = absurd (let k = identifier-short w e in omega arith)
+    go true e = absurd (f e)
     go false e = e
 
--- bytes of which one is no letter are none
-pub letters-off : (w : List ℕ) → letters w ≡ false → isIdentifier w ≡ false
-letters-off w l = go (isIdentifier w) refl
-  where
-    go : (b : Bool) → isIdentifier w ≡ b → isIdentifier w ≡ false
-    go true e = clash (letters w) (identifier-letters w e) l
-    go false e = e
+module _ (w : List ℕ) where
+  pub identifier-empty : length w ≡ 0 → isIdentifier w ≡ false
+  identifier-empty l = identifier-not w (λ e. omega (arith, identifier-some w e))
 
--- ---- a byte
+  pub identifier-long : 255 < length w → isIdentifier w ≡ false
+  identifier-long l = identifier-not w (λ e. omega (arith, identifier-short w e))
 
-module _ (b : ℕ) where
-  -- a byte from 64 on, by its low five bits
-  pub high-none : 64 ≤ b → b % 32 ≡ 0 → false ≡ letter b
-  unfolding letter
-  high-none h z = no-lt _ _ _ _ (omega arith) (no-lt _ _ _ _ (omega arith) (elim (decLe b 64) [
-    | yes a ↦ is-lt _ _ _ _ (omega arith) refl
-    | no a ↦ no-lt _ _ _ _ (omega arith) (no-lt _ _ _ _ (omega arith) (no-eq _ _ _ _ (λ e. omega arith) (elim (decLe b 96) [
-      | yes d ↦ is-lt _ _ _ _ (omega arith) refl
-      | no d ↦ no-lt _ _ _ _ (omega arith) (sym (not-lt b 123 (omega arith)))
-    ])))
-  ]))
+  pub identifier-dash : isDash w ≡ true → isIdentifier w ≡ false
+  identifier-dash d = identifier-not w (λ e. clash (isDash w) d (identifier-alone w e))
 
-  module _ {r : Bool} where
-    pub high-letter : 64 ≤ b → 1 ≤ b % 32 → b % 32 < 27 → r ≡ (b <? 128) → r ≡ letter b
-    unfolding letter
-    high-letter h z l q = no-lt _ _ _ _ (omega arith) (no-lt _ _ _ _ (omega arith) (no-lt _ _ _ _ (omega arith) (elim (decLe b 90) [
-      | yes a ↦ is-lt _ _ _ _ (omega arith) (q ∙ yes-lt b 128 (omega arith))
-      | no a ↦ no-lt _ _ _ _ (omega arith) (no-eq _ _ _ _ (λ e. omega arith) (no-lt _ _ _ _ (omega arith) (elim (decLe b 122) [
-        | yes d ↦ q ∙ yes-lt b 128 (omega arith) ∙ sym (yes-lt b 123 (omega arith))
-        | no d ↦ q ∙ not-lt b 128 (omega arith) ∙ sym (not-lt b 123 (omega arith))
-      ])))
-    ])))
+  pub identifier-off : (lettersEnd (length w) w 0 ≡ length w → ⊥) → isIdentifier w ≡ false
+  identifier-off f = identifier-not w (λ e. f (identifier-ends w e))
 
-    pub high-other : 64 ≤ b → 27 ≤ b % 32 → r ≡ (b =? 95) → r ≡ letter b
-    unfolding letter
-    high-other h z q = no-lt _ _ _ _ (omega arith) (no-lt _ _ _ _ (omega arith) (no-lt _ _ _ _ (omega arith) (no-lt _ _ _ _ (omega arith) (elim (ℕ-discrete b 95) [
-      | yes e ↦ is-eq _ _ _ _ e (q ∙ yes-eq b 95 e)
-      | no e ↦ no-eq _ _ _ _ e (elim (decLe b 96) [
-        | yes d ↦ is-lt _ _ _ _ (omega arith) (q ∙ not-eq b 95 e)
-        | no d ↦ no-lt _ _ _ _ (omega arith) (q ∙ not-eq b 95 e ∙ sym (not-lt b 123 (omega arith)))
-      ])
-    ]))))
+-- ---- a part of a list, up to a zero byte or to the end of what is looked at
 
-    -- a byte from 48 to 63
-    pub low-letter : 48 ≤ b → b < 64 → r ≡ (b <? 58) → r ≡ letter b
-    unfolding letter
-    low-letter h l q = no-lt _ _ _ _ (omega arith) (elim (decLe b 57) [
-      | yes a ↦ is-lt _ _ _ _ (omega arith) (q ∙ yes-lt b 58 (omega arith))
-      | no a ↦ no-lt _ _ _ _ (omega arith) (is-lt _ _ _ _ (omega arith) (q ∙ not-lt b 58 (omega arith)))
-    ])
+pub part-ends : (s : List ℕ) (at e stop : ℕ) → at ≤ e → e ≤ stop → stop ≤ length s → getD (take stop s) e 0 ≡ 0 → at + lettersEnd (length (part s at e)) (part s at e) 0 ≡ lettersEnd (stop - at) (take stop s) at
+part-ends s at e stop a b c z =
+    let w : List ℕ = part s at e in
+    let n : length w ≡ e - at = length-part s at e (omega arith) in
+    let t = length-take-le stop s c in
+    let x : at + length w ≡ e = omega arith in
+    let same : (i : ℕ) → i < length w → getD w i 0 ≡ getD (take stop s) (at + i) 0 = λ i l. getD-part s at e i (omega arith) ∙ sym (getD-take stop s (at + i) 0 (omega arith)) in
+    ap (λ (k : ℕ). at + k) (ends-enough w (length w) (stop - at) 0 (omega arith) (omega arith))
+    ∙ word-ends (take stop s) w at (omega arith) same (rw x z) (stop - at) 0 (omega arith)
+    ∙ ap (lettersEnd (stop - at) (take stop s)) (add-zero at)
 
--- ---- the rule, byte by byte
-
-module _ (s : List ℕ) (at end : ℕ) (l : end ≤ length s) where
+module _ (s : List ℕ) (at end : ℕ) (a : at ≤ end) (l : end ≤ length s) where
   pub judge-none : end - at ≡ 0 → false ≡ isIdentifier (part s at end)
-  unfolding isIdentifier
-  judge-none h = is-true _ _ _ (yes-eq _ _ (length-part s at end l ∙ h)) refl
+  judge-none h = sym (identifier-empty (part s at end) (length-part s at end l ∙ h))
 
   pub judge-long : 255 < end - at → false ≡ isIdentifier (part s at end)
   judge-long h = sym (identifier-long (part s at end) (omega (arith, length-part s at end l)))
 
-  pub judge-start : (end - at ≡ 0 → ⊥) → end - at ≤ 255 → isIdentifier (part s at end) ≡ letters (part s at end)
-  unfolding isIdentifier
-  judge-start h k =
-      let e = length-part s at end l in
-      sym (is-false _ _ _ (not-eq _ _ (λ z. h (omega arith))) (is-false _ _ _ (not-lt _ _ (omega arith)) refl))
+  -- the letters end there or before
+  pub judge-letters : (r : ℕ) → (end - at ≡ 0 → ⊥) → end - at ≤ 255 → isDash (part s at end) ≡ false → r ≡ lettersEnd (end - at) (take end s) at → (r =? end) ≡ isIdentifier (part s at end)
+  judge-letters r h k d e =
+      let w : List ℕ = part s at end in
+      let n = length-part s at end l in
+      let t = length-take-le end s l in
+      let q = part-ends s at end end a (omega arith) l (List·getD-eq-default (take end s) 0 {n = end} (omega arith)) in
+      elim (ℕ-discrete r end) [
+        | yes z ↦ yes-eq r end z ∙ sym (identifier-made w (omega arith) (omega arith) d (omega arith))
+        | no z ↦ not-eq r end z ∙ sym (identifier-off w (λ y. z (omega arith)))
+      ]
 
-  pub judge-next : at < end → letter (getD s at 0) ≡ true → letters (part s at end) ≡ letters (part s (at + 1) end)
-  unfolding letters
-  judge-next h t = rw (part-cons s at end h l) (sym (is-true _ _ _ t refl))
+  -- a lone `-`
+  pub dash-one : end - at ≡ 1 → (getD s at 0 =? 0x2d) ≡ isDash (part s at end)
+  unfolding isDash
+  dash-one h =
+      let e : getD (part s at end) 0 0 ≡ getD s at 0 = getD-part s at end 0 (omega arith) ∙ ap (λ (i : ℕ). getD s i 0) (add-zero at) in
+      is-true _ _ _ (yes-eq _ _ (length-part s at end l ∙ h)) (ap (λ (b : ℕ). b =? 0x2d) (sym e))
 
-  pub judge-stop : at < end → letter (getD s at 0) ≡ false → false ≡ letters (part s at end)
-  unfolding letters
-  judge-stop h t = rw (part-cons s at end h l) (is-false _ _ _ t refl)
+  pub dash-else : (end - at ≡ 1 → ⊥) → false ≡ isDash (part s at end)
+  unfolding isDash
+  dash-else h = is-false _ _ _ (not-eq _ _ (λ z. h (sym (length-part s at end l) ∙ z))) refl
 
-  pub judge-done : end ≤ at → true ≡ letters (part s at end)
-  unfolding letters
-  judge-done h = rw (part-none s at end h)
+-- ---- how far the end is looked for
 
--- ---- the end of the letters
-
--- where an identifier's end is looked for
 pub search-range : (s : List ℕ) (p : ℕ) → p ≤ length s → (p ≤ searchEnd s p) × (searchEnd s p ≤ length s)
 unfolding searchEnd
 search-range s p h =
@@ -159,42 +133,3 @@ search-most s p h = both (λ (n : ℕ). n ≤ p + 256) _ _ _ (λ _. omega arith)
 pub search-full : (s : List ℕ) (p : ℕ) → searchEnd s p < length s → searchEnd s p ≡ p + 256
 unfolding searchEnd
 search-full s p = both (λ (n : ℕ). n < length s → n ≡ p + 256) _ _ _ (λ _ _. refl) (λ _ l. absurd (omega arith))
-
--- a byte that is a letter, or none
-pub on-letter : (t : Bool) → t ≡ true → (if t then false else true) ≡ false
-on-letter t e = sym (is-true t false true e refl)
-
-pub off-letter : (t : Bool) → t ≡ false → (if t then false else true) ≡ true
-off-letter t e = sym (is-false t false true e refl)
-
-from-on : (t : Bool) → (if t then false else true) ≡ false → t ≡ true
-unfolding if_then_else_
-from-on true h = refl
-from-on false h = clash true refl h
-
-from-off : (t : Bool) → (if t then false else true) ≡ true → t ≡ false
-unfolding if_then_else_
-from-off true h = clash false h refl
-from-off false h = refl
-
-module _ (s : List ℕ) (p stop end : ℕ) (b : end ≡ scan (offLetter s) (stop - p) p) where
-  -- the bytes before it are letters
-  pub letters-before : (j : ℕ) → p ≤ j → j < end → letter (getD s j 0) ≡ true
-  unfolding offLetter
-  letters-before j h l = from-on (letter (getD s j 0)) (scan-before (offLetter s) (stop - p) p j h (omega arith))
-
-  pub nonzero-before : (j : ℕ) → p ≤ j → j < end → getD s j 0 ≡ 0 → ⊥
-  nonzero-before j h l e = clash (letter (getD s j 0)) (letters-before j h l) (ap letter e ∙ letter-nonzero)
-
-  -- it is none
-  pub letter-none : p ≤ stop → end < stop → letter (getD s end 0) ≡ false
-  unfolding offLetter
-  letter-none h l = rw b (from-off (letter (getD s (scan (offLetter s) (stop - p) p) 0)) (scan-found (offLetter s) (stop - p) p (omega arith)))
-
-  -- so that all up to e are letters where those from it on are
-  pub letters-rest : (e : ℕ) → end ≤ e → e ≤ length s → p ≤ end → letters (part s p e) ≡ letters (part s end e)
-  letters-rest e h k l = go (end - p) p (omega arith) (omega arith)
-    where
-      go : (n q : ℕ) → p ≤ q → q + n ≡ end → letters (part s q e) ≡ letters (part s end e)
-      go zero q a z = let w : q ≡ end = omega arith in ap (λ (x : ℕ). letters (part s x e)) w
-      go (suc n) q a z = judge-next s q e k (omega arith) (letters-before q a (omega arith)) ∙ go n (q + 1) (omega arith) (omega arith)

@@ -2,45 +2,45 @@
 -- Assumes nothing.
 use mathlib.Core.Bool.{Bool, true, false}
 use mathlib.Core.List.{List, [], _∷_}
-use Prim.Native.Nat.{ℕ, _+_, _-_}
+use Prim.Native.Nat.{ℕ, zero, suc, _+_, _-_}
 use lib.ListN.{length, getD}
 use Rattle.number.specs.Limits.{nameLimit}
 use Rattle.number.specs.Choice.{if_then_else_, _<?_, _≤?_, _=?_}
+use Rattle.utf8.specs.Utf8.{lowest, highest, outside, offSecond, offTail, sizeAfter, sizeOf, charSize}
 use Rattle.reading.specs.Got.{Got, got, bad, next, field}
 use Rattle.reading.specs.declared.Context.{Context}
 use Rattle.key.specs.Word.{wordEnd, wordAt}
 
--- an ASCII letter, a digit or _
-unfoldable pub letter : ℕ → Bool
-letter b =
-    if b <? 48 then false else
-    if b <? 58 then true else
-    if b <? 65 then false else
-    if b <? 91 then true else
-    if b =? 95 then true else
-    if b <? 97 then false else
-    b <? 123
+-- The size of the character at p of s, or 0 where none stands that an identifier may hold; such characters are called letters here.
+-- Bytes up to 0x20 and 0x7f are excluded, and stand in no character of several bytes.
+unfoldable pub letterSize : List ℕ → ℕ → ℕ
+letterSize s p =
+    if getD s p 0 ≤? 0x20 then 0 else
+    if getD s p 0 =? 0x7f then 0 else
+    charSize s p
 
-unfoldable pub letters : List ℕ → Bool
-letters [] = true
-letters (b ∷ w) = if letter b then letters w else false
+-- where the letters from p on end, at most f of them
+unfoldable pub lettersEnd : ℕ → List ℕ → ℕ → ℕ
+lettersEnd zero s p = p
+lettersEnd (suc f) s p = if letterSize s p =? 0 then p else lettersEnd f s (p + letterSize s p)
 
--- Document 01, "Identifier", of the bytes before the zero byte: 1 to 255 letters. The rule is asked of all of them at once.
+-- a lone `-`
+unfoldable pub isDash : List ℕ → Bool
+isDash w = if length w =? 1 then getD w 0 0 =? 0x2d else false
+
+-- Request #103, of the bytes before the zero byte: 1 to 255 of them, letters up to their end, and not a lone `-`. The rule is asked of all of them at once.
 -- Whoever unfolds it unfolds the letters with it: no crate above names them.
 unfoldable pub isIdentifier : List ℕ → Bool
-unfolding letter letters
+unfolding lowest highest outside offSecond offTail sizeAfter sizeOf charSize letterSize lettersEnd isDash
 isIdentifier w =
     if length w =? 0 then false else
     if nameLimit <? length w then false else
-    letters w
+    if isDash w then false else
+    lettersEnd (length w) w 0 =? length w
 
 -- how far the end of an identifier at p is looked for: 256 bytes, or up to the end of s
 unfoldable pub searchEnd : List ℕ → ℕ → ℕ
 searchEnd s p = if (nameLimit + 1) <? length s - p then p + (nameLimit + 1) else length s
-
--- byte i of s is no letter
-unfoldable pub offLetter : List ℕ → ℕ → Bool
-offLetter s i = if letter (getD s i 0) then false else true
 
 -- the identifier at p; a fault is that of the pointer field at `place`
 unfoldable pub readIdentifier : List ℕ → ℕ → ℕ → Got (List ℕ)

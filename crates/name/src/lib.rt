@@ -1,43 +1,59 @@
 // Identifiers, and the pool pointers that lead to them.
 ghost use mathlib.Core.Path.{_≡_};
-ghost use Prim.Native.Nat.{_+_, _-_, _≤_};
-ghost use lib.ListN.{length};
+ghost use Prim.Native.Nat.{_+_, _-_, _≤_, _<_};
+ghost use lib.ListN.{length, take};
 ghost use Rattle.number.specs.Limits.{fileLimit};
-ghost use Rattle.number.specs.Scan.{scan};
 ghost use Rattle.number.specs.Part.{part};
 ghost use Rattle.reading.specs.Got.{stepOf};
-ghost use Rattle.name.specs.Name.{letter, offLetter, isIdentifier, searchEnd, readIdentifier, follow, followSpace, readName};
+ghost use Rattle.name.specs.Name.{letterSize, lettersEnd, isDash, isIdentifier, searchEnd, readIdentifier, follow, followSpace, readName};
 use number::NAME_LIMIT;
 use reading::Context;
 use reading::Refusal;
 use reading::Step;
 
-// Whether a byte from 64 on is an ASCII letter or _. Upper and lower case go one way, as their low five bits are the same.
-fn is_high_letter(b: u8) -> bool
-    requires { ⌜ 64 ≤ b ⌝ }
-    ensures { λ r. ⌜ r ≡ letter b ⌝ }
+// The size of the letter at `p` that lies wholly before `stop`, or 0 where none stands.
+fn letter_size(s: &[u8], p: usize, stop: usize) -> usize
+    requires { ⌜ (p < stop) × (stop ≤ length (now s)) ⌝ }
+    ensures { λ r. ⌜ r ≡ letterSize (take stop (now (s .entry))) p ⌝ }
 {
-    let t = b % 32;
-    if t == 0 {
-        return false;
+    let b = s[p];
+    if b < 33 {
+        return 0;
     }
-    if t < 27 {
-        return b < 128;
+    if b < 127 {
+        return 1;
     }
-    b == 95
+    if b == 127 {
+        return 0;
+    }
+    utf8::char_size(s, p, stop)
 }
 
-// Whether a byte is an ASCII letter, a digit or _.
-pub fn is_letter(b: u8) -> bool
-    ensures { λ r. ⌜ r ≡ letter b ⌝ }
+// Where the letters from `at` on end, before `stop`.
+fn letters_end(s: &[u8], at: usize, stop: usize) -> usize
+    requires { ⌜ (at ≤ stop) × (stop ≤ length (now s)) ⌝ }
+    ensures { λ r. ⌜ r ≡ lettersEnd (stop - at) (take stop (now (s .entry))) at ⌝ }
 {
-    if 64 <= b {
-        return is_high_letter(b);
+    let mut i = at;
+    while i < stop {
+        let k = letter_size(s, i, stop);
+        if k == 0 {
+            return i;
+        }
+        i += k;
     }
-    if b < 48 {
-        return false;
+    i
+}
+
+// Whether the bytes from `at` up to `end` are a lone `-`.
+fn is_dash(s: &[u8], at: usize, end: usize) -> bool
+    requires { ⌜ (at ≤ end) × (end ≤ length (now s)) ⌝ }
+    ensures { λ r. ⌜ r ≡ isDash (part (now (s .entry)) at end) ⌝ }
+{
+    if end - at == 1 {
+        return s[at] == 45;
     }
-    b < 58
+    false
 }
 
 // Whether the bytes from `at` up to `end` are an identifier.
@@ -51,15 +67,10 @@ pub fn is_identifier(s: &[u8], at: usize, end: usize) -> bool
     if NAME_LIMIT < end - at {
         return false;
     }
-    let mut i = at;
-    while i < end {
-        if is_letter(s[i]) {
-            i += 1;
-        } else {
-            return false;
-        }
+    if is_dash(s, at, end) {
+        return false;
     }
-    true
+    letters_end(s, at, end) == end
 }
 
 // How far the end of an identifier is looked for: 255 bytes and the zero byte are the most that it takes.
@@ -71,22 +82,6 @@ fn search_end(pool: &[u8], at: usize) -> usize
         return at + 256;
     }
     pool.len()
-}
-
-// The first byte from `at` on that is no letter, or `stop` where there is none before it.
-fn letters_end(pool: &[u8], at: usize, stop: usize) -> usize
-    requires { ⌜ (at ≤ stop) × (stop ≤ length (now pool)) ⌝ }
-    ensures { λ r. ⌜ r ≡ scan (offLetter (now (pool .entry))) (stop - at) at ⌝ }
-{
-    let mut i = at;
-    while i < stop {
-        if is_letter(pool[i]) {
-            i += 1;
-        } else {
-            return i;
-        }
-    }
-    i
 }
 
 // The identifier at `at`; its pointer field is at `place`. As a zero byte is no letter, its letters and its end are found at once.
@@ -102,10 +97,13 @@ pub fn read_identifier(pool: &[u8], place: usize, at: usize) -> Step
     if end == at {
         return Step::Refused(Refusal { no: 11, place });
     }
-    if pool[end] == 0 {
-        return Step::End(end + 1);
+    if pool[end] != 0 {
+        return Step::Refused(Refusal { no: 11, place });
     }
-    Step::Refused(Refusal { no: 11, place })
+    if is_dash(pool, at, end) {
+        return Step::Refused(Refusal { no: 11, place });
+    }
+    Step::End(end + 1)
 }
 
 // The identifier that the pool pointer `q` leads to; the pointer field is at `place`.

@@ -23,21 +23,10 @@ use Rattle.typelib.specs.Entry.{Entry, entry, entryKey, entryIid, entryDescript
 use Rattle.typelib.proofs.EntryLaws.{entryWith, entries-length, entries-at}
 use Rattle.rules.specs.Shows.{Bytes, ShowsWord, ShowsSpace, ShowsOwn, ShowsDescriptor, ShowsEntry, ShowsEntries}
 use Rattle.rules.specs.Rules.{All, Identifier, SpaceRule, DescriptorRule, OwnRule, EntryRule, iidOf, InOrder}
+use Rattle.rules.proofs.Alls.{all-at, at-all}
 use Rattle.rules.proofs.Names.{follow-facts, shows-follow, space-facts, shows-space}
 use Rattle.rules.proofs.Order.{in-order, order-in}
 use Rattle.rules.proofs.Descriptors.{descriptor-facts, shows-descriptor}
-
--- ---- elements by index
-
-module _ {X : Type 0} (P : X → Type 0) (d : X) where
-  pub all-at : (xs : List X) → ((k : ℕ) → k < length xs → P (getD xs k d)) → All P xs
-  all-at [] f = tt
-  all-at (x ∷ xs) f = (f 0 (omega arith), all-at xs (λ k l. f (suc k) (omega arith)))
-
-  pub at-all : (xs : List X) → All P xs → (k : ℕ) → k < length xs → P (getD xs k d)
-  at-all [] a k l = absurd (omega arith)
-  at-all (x ∷ xs) a zero l = a .0
-  at-all (x ∷ xs) a (suc k) l = at-all xs (a .1) k (omega arith)
 
 -- f 0, f 1, ..: n of them
 table : {X : Type 0} → (ℕ → X) → ℕ → List X

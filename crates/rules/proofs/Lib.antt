@@ -1,5 +1,7 @@
+pub mod Alls
 pub mod Runs
 pub mod Names
+pub mod OlderWords
 pub mod Keys
 pub mod Pairs
 pub mod Order

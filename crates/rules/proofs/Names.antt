@@ -1,109 +1,74 @@
 -- Identifiers, words and the pointers to them: what is read is shown and obeys the rules, and what is shown and obeys them is read.
 -- Assumes nothing.
-use mathlib.Core.Path.{_≡_, refl, ap}
-use mathlib.Core.Bool.{Bool, true, false}
+use mathlib.Core.Path.{_≡_, refl, ap, _∙_}
+use mathlib.Core.Bool.{true, false}
 use mathlib.Core.Logic.{_↔_, inl, inr}
 use mathlib.Core.List.{List, [], _∷_}
-use Prim.Native.Nat.{ℕ, zero, suc, _+_, _-_, _<_}
+use Prim.Native.Nat.{ℕ, _+_, _-_, _<_}
+use native.Mathlib.Decide.{decLe}
 use native.Mathlib.Omega.{arith}
-use lib.ListN.{length, getD}
-use Rattle.number.specs.Choice.{_<?_, _=?_}
+use lib.ListN.{length, getD, List·getD-eq-default}
+use Rattle.number.specs.Choice.{if_then_else_, _=?_}
 use Rattle.number.specs.Number.{be}
 use Rattle.number.specs.Part.{part}
-use Rattle.number.proofs.Choice.{both, yes-lt, not-lt, yes-eq, not-eq, from-yes-lt, from-not-lt, from-yes-eq}
+use Rattle.number.proofs.Choice.{yes-eq, not-eq, from-yes-eq}
 use Rattle.number.proofs.Scans.{clash}
+use Rattle.utf8.proofs.Chars.{chars-range}
 use Rattle.reading.specs.Got.{got}
 use Rattle.reading.specs.declared.Context.{Context}
 use Rattle.reading.proofs.Facts.{Facts, fact, f-got, f-if, f-self}
 use Rattle.reading.proofs.Passes.{pass-true, pass-false}
 use Rattle.key.specs.Word.{wordEnd, wordAt}
 use Rattle.key.proofs.Ends.{word-from, word-zero, length-word}
-use Rattle.name.specs.Name.{letter, letters, isIdentifier, follow, followSpace, readName}
-use Rattle.name.proofs.Words.{identifier-some, identifier-short, identifier-letters}
+use Rattle.name.specs.Name.{isDash, isIdentifier, follow, followSpace, readName}
+use Rattle.name.proofs.Letters.{ends-chars, chars-end}
+use Rattle.name.proofs.Words.{identifier-some, identifier-short, identifier-alone, identifier-ends, identifier-lettered, identifier-made}
 use Rattle.name.proofs.NameLaws.{Named, space-none, follow-back, space-back, name-back}
 use Rattle.name.proofs.NameLaws as name
 use Rattle.rules.specs.Shows.{ShowsWord, ShowsName, ShowsSpace}
-use Rattle.rules.specs.Rules.{All, Letter, Identifier, SpaceRule}
+use Rattle.rules.specs.Rules.{Identifier, SpaceRule}
+use Rattle.rules.proofs.Alls.{all-at, at-all}
 
 -- ---- identifiers
 
--- what follows a test that failed
-never : {X : Type 0} → false ≡ true → X
-never e = clash false e refl
+-- a lone `-`, by the test
+dash-is : isDash (0x2d ∷ []) ≡ true
+unfolding isDash if_then_else_ _=?_
+dash-is = refl
 
-pub letter-is : (b : ℕ) → letter b ≡ true → Letter b
-unfolding letter
-letter-is b =
-    both Q (b <? 48) _ _ (λ _ e. never e) (λ c.
-    both Q (b <? 58) _ _ (λ d _. inl (from-not-lt b 48 c, omega (arith, from-yes-lt b 58 d))) (λ _.
-    both Q (b <? 65) _ _ (λ _ e. never e) (λ c.
-    both Q (b <? 91) _ _ (λ d _. inr (inl (from-not-lt b 65 c, omega (arith, from-yes-lt b 91 d)))) (λ _.
-    both Q (b =? 95) _ _ (λ d _. inr (inr (inl (from-yes-eq b 95 d)))) (λ _.
-    both Q (b <? 97) _ _ (λ _ e. never e) (λ c e.
-    inr (inr (inr (from-not-lt b 97 c, omega (arith, from-yes-lt b 123 e))))))))))
-  where
-    Q : Bool → Type 0
-    Q t = t ≡ true → Letter b
-
-pub is-letter : (b : ℕ) → Letter b → letter b ≡ true
-unfolding letter
-is-letter b l = elim l [
-  | inl h ↦
-      pass-false _ _ _ (not-lt b 48 (omega arith)) (pass-true _ _ _ (yes-lt b 58 (omega arith)) refl)
-  | inr (inl h) ↦
-      pass-false _ _ _ (not-lt b 48 (omega arith)) (pass-false _ _ _ (not-lt b 58 (omega arith)) (
-      pass-false _ _ _ (not-lt b 65 (omega arith)) (pass-true _ _ _ (yes-lt b 91 (omega arith)) refl)))
-  | inr (inr (inl h)) ↦
-      pass-false _ _ _ (not-lt b 48 (omega arith)) (pass-false _ _ _ (not-lt b 58 (omega arith)) (
-      pass-false _ _ _ (not-lt b 65 (omega arith)) (pass-false _ _ _ (not-lt b 91 (omega arith)) (
-      pass-true _ _ _ (yes-eq b 95 h) refl))))
-  | inr (inr (inr h)) ↦
-      pass-false _ _ _ (not-lt b 48 (omega arith)) (pass-false _ _ _ (not-lt b 58 (omega arith)) (
-      pass-false _ _ _ (not-lt b 65 (omega arith)) (pass-false _ _ _ (not-lt b 91 (omega arith)) (
-      pass-false _ _ _ (not-eq b 95 (omega arith)) (pass-false _ _ _ (not-lt b 97 (omega arith)) (yes-lt b 123 (omega arith)))))))
-]
-
-pub letters-are : (w : List ℕ) → letters w ≡ true → All Letter w
-unfolding letters
-letters-are [] = λ e. tt
-letters-are (b ∷ w) =
-    both (λ (t : Bool). t ≡ true → Letter b × All Letter w) (letter b) (letters w) false
-    (λ l e. (letter-is b l, letters-are w e)) (λ _ e. never e)
-
-pub are-letters : (w : List ℕ) → All Letter w → letters w ≡ true
-unfolding letters
-are-letters [] a = refl
-are-letters (b ∷ w) a = pass-true _ _ _ (is-letter b (a .0)) (are-letters w (a .1))
+dash-not : (w : List ℕ) → (w ≡ 0x2d ∷ [] → ⊥) → isDash w ≡ false
+unfolding isDash
+dash-not [] f = pass-false _ _ _ (not-eq 0 1 (λ e. omega arith)) refl
+dash-not (b ∷ []) f = pass-true _ _ _ (yes-eq 1 1 refl) (not-eq b 0x2d (λ e. f (ap (λ (x : ℕ). x ∷ []) e)))
+dash-not (a ∷ b ∷ w) f = pass-false _ _ _ (not-eq _ 1 (λ e. omega arith)) refl
 
 pub identifier-is : (w : List ℕ) → isIdentifier w ≡ true → Identifier w
-identifier-is w h = record { some = identifier-some w h; few = identifier-short w h; letters = letters-are w (identifier-letters w h) }
+identifier-is w h =
+    let c = ends-chars w (length w) 0 in
+    record {
+      some = identifier-some w h;
+      few = identifier-short w h;
+      visible = all-at _ 0 w (λ i l. (let b = identifier-lettered w h i l in (b .above, b .shown)));
+      formed = (c .0, rw (identifier-ends w h) at (c .1));
+      alone = λ e. clash (isDash w) (ap isDash e ∙ dash-is) (identifier-alone w h);
+    }
 
 pub is-identifier : (w : List ℕ) → Identifier w → isIdentifier w ≡ true
-unfolding isIdentifier
 is-identifier w i =
-    pass-false _ _ _ (not-eq (length w) 0 (omega arith))
-    (pass-false _ _ _ (not-lt 255 (length w) (i .few)) (are-letters w (i .letters)))
+    let c = i .formed in
+    let n = chars-range w 0 (c .0) (length w) (c .1) (omega arith) in
+    identifier-made w (i .some) (i .few) (dash-not w (i .alone)) (chars-end w (c .0) (length w) 0 (omega arith) (c .1) (at-all _ 0 w (i .visible)))
 
 -- the test and the rule say the same
 pub identifier-exactly : (w : List ℕ) → (isIdentifier w ≡ true) ↔ Identifier w
 identifier-exactly w = (identifier-is w, is-identifier w)
 
-letter-byte : (b : ℕ) → Letter b → b < 256
-letter-byte b l = elim l [
-  | inl h ↦ omega arith
-  | inr (inl h) ↦ omega arith
-  | inr (inr (inl h)) ↦ omega arith
-  | inr (inr (inr h)) ↦ omega arith
-]
-
-letters-bytes : (w : List ℕ) → All Letter w → (i : ℕ) → getD w i 0 < 256
-letters-bytes [] a i = omega arith
-letters-bytes (b ∷ w) a zero = letter-byte b (a .0)
-letters-bytes (b ∷ w) a (suc i) = letters-bytes w (a .1) i
-
 -- an identifier is of bytes
 pub identifier-bytes : (w : List ℕ) → Identifier w → (i : ℕ) → getD w i 0 < 256
-identifier-bytes w h = letters-bytes w (h .letters)
+identifier-bytes w h i = elim (decLe (length w) i) [
+  | yes l ↦ omega (arith, List·getD-eq-default w 0 l)
+  | no l ↦ omega (arith, identifier-lettered w (is-identifier w h) i (omega arith) .below)
+]
 
 -- ---- words
 

@@ -1,5 +1,5 @@
--- Files of minor 0 and 1 are read as they were while 1 was the newest minor: the minor is known, each tag has the class it had, and a prefix
--- obeys the rule exactly when it did. No other rule has changed, so what was accepted stays accepted, and tags 23 to 25 stay refused there.
+-- #106 left files of minor 0 and 1 as they were: the minor is known, each tag has the class it had, and a prefix obeys the rule exactly when it did.
+-- It changed no other rule, so what was accepted stays accepted, and tags 23 to 25 stay refused there (of names and texts, which #103 changed: OlderWords).
 -- Minor 2 is minor 1 and these tags, with pointer: no other rule tells minors over 0 apart.
 -- Assumes nothing.
 use mathlib.Core.Path.{_≡_, refl, ap}

@@ -1,4 +1,4 @@
--- Tags as they were while 1 was the newest minor, for the law that files of minor 0 and 1 are read as they were (proofs/Older).
+-- Tags as they were while 1 was the newest minor, for the laws that #106 left files of minor 0 and 1 as they were (`older-class`, `older-prefix` in proofs/Older).
 -- Assumes nothing.
 use mathlib.Core.Path.{_≡_}
 use Prim.Native.Nat.{ℕ, _≤_}

@@ -1,4 +1,4 @@
--- The rules of document 01 on a decoded file, each as a predicate that can be read by itself; none is a test of the reader.
+-- The rules of document 01 and its requests on a decoded file, each as a predicate that can be read by itself; none is a test of the reader.
 -- `minor` is the file's minor version, n its number of interfaces.
 -- Assumes nothing.
 use mathlib.Core.Path.{_≡_}
@@ -9,10 +9,11 @@ use Prim.Native.Nat.{ℕ, zero, suc, _+_, _*_, _%_, _≤_, _<_}
 use lib.ListN.{length, getD}
 use Rattle.number.specs.Limits.{fileLimit, entryLimit, ownLimit, nameLimit, entryWidth}
 use Rattle.number.specs.Bits.{bit, bitsBelow}
+use Rattle.utf8.specs.Utf8.{WellFormed}
 use Rattle.key.specs.Key.{Key, key}
 use Rattle.head.specs.declared.Header.{Header}
 use Rattle.head.specs.Header.{newest}
-use Rattle.head.specs.Shows.{PlainNotes}
+use Rattle.head.specs.Shows.{NotesRule}
 use Rattle.types.specs.Prefix.{pointerBit, uniqueBit, referenceBit, tagOf, uint32Tag, voidTag, iidTag, astringTag, StringTag, stringsMinor}
 use Rattle.types.specs.Types.{Ty, simple, interface, interfaceIs, array, sized, prefix}
 use Rattle.method.specs.Flags.{getterBit, setterBit, notXpcomBit, constructorBit, inBit, outBit, retvalBit, dipperBit, lowestFlag}
@@ -31,14 +32,13 @@ All P (x ∷ xs) = P x × All P xs
 
 -- ---- identifiers
 
--- an ASCII letter, a digit or _
-abbrev pub Letter : ℕ → Type 0
-Letter b = ((48 ≤ b) × (b ≤ 57)) ⊎ (((65 ≤ b) × (b ≤ 90)) ⊎ ((b ≡ 95) ⊎ ((97 ≤ b) × (b ≤ 122))))
-
+-- well-formed UTF-8 of 1 to 255 bytes, none of them up to 0x20 nor 0x7f, and not a lone `-`
 pub record Identifier (w : List ℕ) : Type 0 where
   pub some : 1 ≤ length w
   pub few : length w ≤ nameLimit
-  pub letters : All Letter w
+  pub visible : All (λ b. (0x20 < b) × (b ≡ 0x7f → ⊥)) w
+  pub formed : WellFormed w
+  pub alone : w ≡ 0x2d ∷ [] → ⊥
 
 -- ---- types
 
@@ -232,4 +232,4 @@ pub record PositionRule (len : ℕ) (h : Header) : Type 0 where
 
 -- of a file of `len` bytes
 abbrev pub TypelibRule : ℕ → Typelib → Type 0
-TypelibRule len (typelib h notes es) = PositionRule len h × PlainNotes notes × EntriesRule (h .minor) (h .count) es
+TypelibRule len (typelib h notes es) = PositionRule len h × NotesRule notes × EntriesRule (h .minor) (h .count) es

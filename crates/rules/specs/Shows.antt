@@ -1,5 +1,5 @@
 -- These bytes show this value: layout only. Where each field lies, where pointers lead, how many records there are; no rule on a value
--- (but one: a namespace that is present is not empty), no order of tests.
+-- (but two: a namespace that is present is not empty, and a text is well-formed, as its length counts characters), no order of tests.
 -- `s` is the pool, but in the definitions on entries and files it is the file; a record stands at p and ends before e.
 -- Assumes nothing.
 use mathlib.Core.Path.{_≡_}
