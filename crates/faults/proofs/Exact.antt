@@ -19,7 +19,7 @@ use Rattle.reading.proofs.Steps.{parts}
 use Rattle.key.specs.Key.{Key}
 use Rattle.head.specs.declared.Header.{Header}
 use Rattle.head.specs.Header.{readPositions, readFields, readHeader}
-use Rattle.head.specs.Annotation.{Annotation, readText, readBody, readAnnotation, annotationsWithin, readAnnotations, annotationLimit}
+use Rattle.head.specs.Annotation.{Annotation, readChar, readText, readBody, readAnnotation, annotationsWithin, readAnnotations, annotationLimit}
 use Rattle.head.proofs.HeaderLaws.{fault-cases, header-at}
 use Rattle.directory.specs.Directory.{Row, readRow, readDirectory}
 use Rattle.directory.proofs.DirectoryLaws.{row-size}
@@ -32,7 +32,7 @@ use Rattle.reader.specs.Reader.Laws.{checked}
 use Rattle.broken.specs.Stop.{isBad}
 use Rattle.faults.specs.declared.Fault.{Fault}
 use Rattle.faults.specs.Fault.{noFault, refusedOwn, firstRefused, ownFault, entryAt, faultWith, faultIn, faultOf}
-use Rattle.faults.proofs.Refusals.{Refusals, refusal, r-got, r-bad, r-if, r-unless, r-next, r-more, follow-refusals, space-refusals, next-bad, First, many-bad}
+use Rattle.faults.proofs.Refusals.{Refusals, refusal, r-got, r-bad, r-if, r-unless, r-next, r-many, r-more, follow-refusals, space-refusals, next-bad, First, many-bad}
 use Rattle.faults.proofs.Places.{Pooled, descriptor-places}
 
 -- numbers of the header and the annotations
@@ -64,9 +64,13 @@ abbrev pub Nine : ℕ → ℕ → Type 0
 Nine n q = n ≡ 9
 
 module _ (limit : ℕ) (s : List ℕ) where
+  char-low : (place p : ℕ) → Refusals Nine (readChar place limit s p)
+  unfolding readChar
+  char-low place p = r-unless _ _ _ _ _ (omega arith) (r-got _ _ _)
+
   text-low : (place p : ℕ) → Refusals Nine (readText place limit s p)
   unfolding readText
-  text-low place p = r-unless _ _ _ _ _ (omega arith) (r-unless _ _ _ _ _ (omega arith) (r-unless _ _ _ _ _ (omega arith) (r-got _ _ _)))
+  text-low place p = r-unless _ _ _ _ _ (omega arith) (r-next _ _ _ (r-many _ _ (char-low place) _ _) (λ xs e. r-got _ _ _))
 
   note-low : (p : ℕ) → Refusals Nine (readAnnotation limit s p)
   unfolding readAnnotation readBody

@@ -14,7 +14,7 @@ use Rattle.key.specs.Key.{thenBy, compareKeys, sameKey}
 use Rattle.key.specs.First.{sameAs, firstSame}
 use Rattle.name.specs.Name.{isIdentifier, readIdentifier, follow, followSpace, readName}
 use Rattle.head.specs.Header.{offMagic, magicEnd, unknownMinor, lengthFault, misplacedPool, misplacedDirectory, readPositions, readFields, readHeader}
-use Rattle.head.specs.Annotation.{offAscii, asciiEnd, readText, readBody, readAnnotation, annotationsWithin, readAnnotations, annotationLimit}
+use Rattle.head.specs.Annotation.{readText, readBody, readAnnotation, annotationsWithin, readAnnotations, annotationLimit}
 use Rattle.directory.specs.Directory.{falls, outOfOrder, lacksIid, readRow, readDirectory}
 use Rattle.types.specs.Types.{prefix, classOf, isReserved, needsPointer, lacksPointer, readIndex, readRest, typeWith, readArray, readType}
 use Rattle.method.specs.Parameter.{paramFlags, paramType, reservedParam, wrongParam, readParam}
@@ -82,16 +82,16 @@ table =
 
 -- these are their refusals
 pub refused : map (λ (c : Case). readTypelib (c .file)) table ≡ map (λ (c : Case). bad (c .why .no) (c .why .place)) table
-unfolding table case withMethods plain taking P1 P3 if_then_else_ _<?_ _≤?_ _=?_ _≠?_ be scan one tally part next many byte field zeroByte wordEnd wordAt compareWords isSame sameWord thenBy compareKeys sameKey sameAs firstSame isIdentifier readIdentifier follow followSpace readName offMagic magicEnd unknownMinor lengthFault misplacedPool misplacedDirectory readPositions readFields readHeader offAscii asciiEnd readText readBody readAnnotation annotationsWithin readAnnotations annotationLimit falls outOfOrder lacksIid readRow readDirectory prefix classOf isReserved needsPointer lacksPointer readIndex readRest typeWith readArray readType paramFlags paramType reservedParam wrongParam readParam prefixes wrongIid wrongSize wrongSizes wrongNumbers wrongArguments wrongResult methodFlags methodName ruleSignature readSignature readMethod noMethod valueSize readConstant isConstructor manyConstructors isGetter isSetter strayPair strayGetter strayPairs parentOf indexed readParent readCounted reservedInterface readFlags flagsIn namesIn readDescriptor entryKey entryDescriptor readOwn entriesOf noEntry keysIn descriptorIn repeated firstRepeated parentIndex above aboveIn chainEnds circles firstCircling readAcross poolOf contextOf readListed readFront readDescriptors headerOf readBehind readTypelib
+unfolding table case withMethods plain taking P1 P3 if_then_else_ _<?_ _≤?_ _=?_ _≠?_ be scan one tally part next many byte field zeroByte wordEnd wordAt compareWords isSame sameWord thenBy compareKeys sameKey sameAs firstSame isIdentifier readIdentifier follow followSpace readName offMagic magicEnd unknownMinor lengthFault misplacedPool misplacedDirectory readPositions readFields readHeader readText readBody readAnnotation annotationsWithin readAnnotations annotationLimit falls outOfOrder lacksIid readRow readDirectory prefix classOf isReserved needsPointer lacksPointer readIndex readRest typeWith readArray readType paramFlags paramType reservedParam wrongParam readParam prefixes wrongIid wrongSize wrongSizes wrongNumbers wrongArguments wrongResult methodFlags methodName ruleSignature readSignature readMethod noMethod valueSize readConstant isConstructor manyConstructors isGetter isSetter strayPair strayGetter strayPairs parentOf indexed readParent readCounted reservedInterface readFlags flagsIn namesIn readDescriptor entryKey entryDescriptor readOwn entriesOf noEntry keysIn descriptorIn repeated firstRepeated parentIndex above aboveIn chainEnds circles firstCircling readAcross poolOf contextOf readListed readFront readDescriptors headerOf readBehind readTypelib
 refused = refl
 
 -- and these what they are of
 pub found : map (λ (c : Case). faultOf (c .file) (c .why)) table ≡ map (λ (c : Case). c .fault) table
-unfolding table case withMethods plain taking P1 P3 isBad stopHere stopFrom stopOf positionRule ruleRead paramRule stopRule numberRule signatureRule methodRule memberRule tableRule descriptorRule ownRule noFault refusedOwn firstRefused ownFault entryAt faultWith faultIn faultOf ownPointer if_then_else_ _<?_ _≤?_ _=?_ _≠?_ be scan one tally part next many byte field zeroByte wordEnd wordAt compareWords isSame sameWord thenBy compareKeys sameKey sameAs firstSame isIdentifier readIdentifier follow followSpace readName offMagic magicEnd unknownMinor lengthFault misplacedPool misplacedDirectory readPositions readFields readHeader offAscii asciiEnd readText readBody readAnnotation annotationsWithin readAnnotations annotationLimit falls outOfOrder lacksIid readRow readDirectory prefix classOf isReserved needsPointer lacksPointer readIndex readRest typeWith readArray readType paramFlags paramType reservedParam wrongParam readParam prefixes wrongIid wrongSize wrongSizes wrongNumbers wrongArguments wrongResult methodFlags methodName ruleSignature readSignature readMethod noMethod valueSize readConstant isConstructor manyConstructors isGetter isSetter strayPair strayGetter strayPairs parentOf indexed readParent readCounted reservedInterface readFlags flagsIn namesIn readDescriptor entryKey entryDescriptor readOwn entriesOf noEntry keysIn descriptorIn repeated firstRepeated parentIndex above aboveIn chainEnds circles firstCircling readAcross poolOf contextOf readListed readFront readDescriptors headerOf readBehind readTypelib
+unfolding table case withMethods plain taking P1 P3 isBad stopHere stopFrom stopOf positionRule ruleRead paramRule stopRule numberRule signatureRule methodRule memberRule tableRule descriptorRule ownRule noFault refusedOwn firstRefused ownFault entryAt faultWith faultIn faultOf ownPointer if_then_else_ _<?_ _≤?_ _=?_ _≠?_ be scan one tally part next many byte field zeroByte wordEnd wordAt compareWords isSame sameWord thenBy compareKeys sameKey sameAs firstSame isIdentifier readIdentifier follow followSpace readName offMagic magicEnd unknownMinor lengthFault misplacedPool misplacedDirectory readPositions readFields readHeader readText readBody readAnnotation annotationsWithin readAnnotations annotationLimit falls outOfOrder lacksIid readRow readDirectory prefix classOf isReserved needsPointer lacksPointer readIndex readRest typeWith readArray readType paramFlags paramType reservedParam wrongParam readParam prefixes wrongIid wrongSize wrongSizes wrongNumbers wrongArguments wrongResult methodFlags methodName ruleSignature readSignature readMethod noMethod valueSize readConstant isConstructor manyConstructors isGetter isSetter strayPair strayGetter strayPairs parentOf indexed readParent readCounted reservedInterface readFlags flagsIn namesIn readDescriptor entryKey entryDescriptor readOwn entriesOf noEntry keysIn descriptorIn repeated firstRepeated parentIndex above aboveIn chainEnds circles firstCircling readAcross poolOf contextOf readListed readFront readDescriptors headerOf readBehind readTypelib
 found = refl
 
 -- P3 whose name is its own namespace, and pointers that lead to none
 pub keys : map textOf (readKey P2 1 ∷ readKey (set P3 51 0) 1 ∷ readKey (set P3 59 1) 1 ∷ readKey P3 0 ∷ readKey P3 2 ∷ readKey (set P3 59 2) 1 ∷ readKey (take 81 P3) 1 ∷ [])
     ≡ ascii "Tank" ∷ ascii "A" ∷ ascii "A.A" ∷ [] ∷ [] ∷ [] ∷ [] ∷ []
-unfolding P2 P3 keyText pointedKey keyAs readKey textOf if_then_else_ _<?_ _≤?_ _=?_ _≠?_ be scan one tally part next many byte field zeroByte wordEnd wordAt compareWords isSame sameWord thenBy compareKeys sameKey sameAs firstSame isIdentifier readIdentifier follow followSpace readName offMagic magicEnd unknownMinor lengthFault misplacedPool misplacedDirectory readPositions readFields readHeader offAscii asciiEnd readText readBody readAnnotation annotationsWithin readAnnotations annotationLimit falls outOfOrder lacksIid readRow readDirectory prefix classOf isReserved needsPointer lacksPointer readIndex readRest typeWith readArray readType paramFlags paramType reservedParam wrongParam readParam prefixes wrongIid wrongSize wrongSizes wrongNumbers wrongArguments wrongResult methodFlags methodName ruleSignature readSignature readMethod noMethod valueSize readConstant isConstructor manyConstructors isGetter isSetter strayPair strayGetter strayPairs parentOf indexed readParent readCounted reservedInterface readFlags flagsIn namesIn readDescriptor entryKey entryDescriptor readOwn entriesOf noEntry keysIn descriptorIn repeated firstRepeated parentIndex above aboveIn chainEnds circles firstCircling readAcross poolOf contextOf readListed readFront readDescriptors headerOf readBehind readTypelib
+unfolding P2 P3 keyText pointedKey keyAs readKey textOf if_then_else_ _<?_ _≤?_ _=?_ _≠?_ be scan one tally part next many byte field zeroByte wordEnd wordAt compareWords isSame sameWord thenBy compareKeys sameKey sameAs firstSame isIdentifier readIdentifier follow followSpace readName offMagic magicEnd unknownMinor lengthFault misplacedPool misplacedDirectory readPositions readFields readHeader readText readBody readAnnotation annotationsWithin readAnnotations annotationLimit falls outOfOrder lacksIid readRow readDirectory prefix classOf isReserved needsPointer lacksPointer readIndex readRest typeWith readArray readType paramFlags paramType reservedParam wrongParam readParam prefixes wrongIid wrongSize wrongSizes wrongNumbers wrongArguments wrongResult methodFlags methodName ruleSignature readSignature readMethod noMethod valueSize readConstant isConstructor manyConstructors isGetter isSetter strayPair strayGetter strayPairs parentOf indexed readParent readCounted reservedInterface readFlags flagsIn namesIn readDescriptor entryKey entryDescriptor readOwn entriesOf noEntry keysIn descriptorIn repeated firstRepeated parentIndex above aboveIn chainEnds circles firstCircling readAcross poolOf contextOf readListed readFront readDescriptors headerOf readBehind readTypelib
 keys = refl

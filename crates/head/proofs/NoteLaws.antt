@@ -12,8 +12,9 @@ use Rattle.reading.specs.declared.Step.{Step}
 use Rattle.reading.specs.declared.Step.the-variants.{End}
 use Rattle.reading.specs.Got.{Got, got, next, stepOf}
 use Rattle.reading.proofs.Steps.{refused, told, at-end, is-le, no-le, next-end, next-refused, next-last}
-use Rattle.reading.proofs.Facts.{Facts, fact, f-bad, f-got, f-if, f-unless, f-next}
+use Rattle.reading.proofs.Facts.{Facts, fact, f-bad, f-got, f-if, f-unless, f-next, f-read}
 use Rattle.head.specs.Annotation.{Annotation, readText, readBody, readAnnotation, annotationsWithin, readAnnotations}
+use Rattle.head.proofs.TextLaws.{chars-end}
 
 -- an end lies from lo to hi
 abbrev pub Ends : {X : Type 0} → ℕ → ℕ → Got X → Type 0
@@ -26,7 +27,9 @@ ends lo hi g f q h = fact _ g f (told g (sym q ∙ h) .1)
 pub text-ends : (place limit : ℕ) (s : List ℕ) (p : ℕ) → Ends (p + 2) limit (readText place limit s p)
 unfolding readText
 text-ends place limit s p =
-    f-unless _ _ _ _ _ (λ _. f-unless _ _ _ _ _ (λ t. f-unless _ _ _ _ _ (λ _. f-got _ _ _ (omega (arith, from-not-lt limit (p + 2 + be 2 s p) t)))))
+    f-unless _ _ _ _ _
+    (λ t. f-next _ _ _ _ (f-read _ _ (λ xs e h. chars-end place limit s (be 2 s p) (p + 2) (from-not-lt limit (p + 2) t) h))
+    (λ x e w. f-got _ _ _ w))
 
 pub body-ends : (place limit : ℕ) (s : List ℕ) (tag p : ℕ) → p ≤ limit → Ends p limit (readBody place limit s tag p)
 unfolding readBody

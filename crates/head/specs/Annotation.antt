@@ -1,14 +1,13 @@
--- Document 01, "Annotations": refusal 9, at an annotation's first byte.
+-- Document 01, "Annotations", with texts of request #103: refusal 9, at an annotation's first byte.
 -- Assumes nothing.
-use mathlib.Core.Bool.{Bool}
 use mathlib.Core.List.{List, [], _∷_}
-use Prim.Native.Nat.{ℕ, zero, suc, _+_, _-_, _%_}
-use lib.ListN.{getD}
+use Prim.Native.Nat.{ℕ, zero, suc, _+_, _%_}
+use lib.ListN.{getD, take}
 use Rattle.number.specs.Choice.{if_then_else_, _<?_, _≤?_, _=?_, _≠?_}
 use Rattle.number.specs.Number.{be}
-use Rattle.number.specs.Scan.{scan}
 use Rattle.number.specs.Part.{part}
-use Rattle.reading.specs.Got.{Got, got, bad, next}
+use Rattle.utf8.specs.Utf8.{lowest, highest, outside, offSecond, offTail, sizeAfter, sizeOf, charSize}
+use Rattle.reading.specs.Got.{Got, got, bad, next, many}
 use Rattle.head.specs.declared.Header.{Header}
 
 -- tag 0 is empty; tag 1 has two texts
@@ -16,20 +15,18 @@ pub data Annotation : Type 0 where
   empty : Annotation
   texts : List ℕ → List ℕ → Annotation
 
-unfoldable pub offAscii : List ℕ → ℕ → Bool
-offAscii s i = 128 ≤? getD s i 0
+-- a character of the annotation at `place`, wholly before the limit; what counts is its end
+unfoldable pub readChar : ℕ → ℕ → List ℕ → ℕ → Got ℕ
+readChar place limit s p = if charSize (take limit s) p =? 0 then bad 9 place else got p (p + charSize (take limit s) p)
 
--- the first byte from i on, before j, that is not below 0x80, or j
-unfoldable pub asciiEnd : List ℕ → ℕ → ℕ → ℕ
-asciiEnd s i j = scan (offAscii s) (j - i) i
-
--- a text of the annotation at `place`: a 2-byte length and that many bytes below 0x80, before the limit
+-- A text of that annotation: a 2-byte length, and that many characters, whichever they are.
+-- Whoever unfolds it unfolds the characters with it: no crate above names them.
 unfoldable pub readText : ℕ → ℕ → List ℕ → ℕ → Got (List ℕ)
+unfolding lowest highest outside offSecond offTail sizeAfter sizeOf charSize readChar
 readText place limit s p =
     if limit <? p + 2 then bad 9 place else
-    if limit <? p + 2 + be 2 s p then bad 9 place else
-    if asciiEnd s (p + 2) (p + 2 + be 2 s p) <? p + 2 + be 2 s p then bad 9 place else
-    got (part s (p + 2) (p + 2 + be 2 s p)) (p + 2 + be 2 s p)
+    next (many (readChar place limit s) (be 2 s p) (p + 2)) λ _ e.
+    got (part s (p + 2) e) e
 
 -- what follows an annotation's first byte
 unfoldable pub readBody : ℕ → ℕ → List ℕ → ℕ → ℕ → Got Annotation

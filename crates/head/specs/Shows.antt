@@ -1,4 +1,4 @@
--- Annotations as bytes: where they stand, apart from what is allowed in them.
+-- Annotations as bytes: where they stand. That their texts are well-formed is said here alone: a text's length counts its characters.
 -- Assumes nothing.
 use mathlib.Core.Path.{_≡_}
 use mathlib.Core.List.{List, [], _∷_}
@@ -6,11 +6,12 @@ use Prim.Native.Nat.{ℕ, _+_, _%_, _≤_, _<_}
 use lib.ListN.{length, getD}
 use Rattle.number.specs.Number.{be}
 use Rattle.number.specs.Part.{part}
+use Rattle.utf8.specs.Utf8.{Chars}
 use Rattle.head.specs.Annotation.{Annotation, empty, texts}
 
--- a text: its length in 2 bytes, then its bytes
+-- a text: the number of its characters in 2 bytes, then their bytes
 pub record ShowsText (s : List ℕ) (p : ℕ) (x : List ℕ) (e : ℕ) : Type 0 where
-  pub size : be 2 s p ≡ length x
+  pub size : Chars x 0 (be 2 s p) (length x)
   pub ends : e ≡ p + 2 + length x
   pub bytes : part s (p + 2) e ≡ x
 
@@ -29,19 +30,6 @@ unfoldable pub ShowsNotes : List ℕ → ℕ → List Annotation → ℕ → Typ
 ShowsNotes s p [] e = e ≡ p
 ShowsNotes s p (a ∷ more) e = Marks more (getD s p 0) × ((m : ℕ) × ShowsNote s p a m × ShowsNotes s m more e)
 
--- every byte of a text is below 0x80
-abbrev pub PlainText : List ℕ → Type 0
-PlainText x = (i : ℕ) → i < length x → getD x i 0 < 128
-
-unfoldable pub PlainNote : Annotation → Type 0
-PlainNote empty = Unit {0}
-PlainNote (texts x y) = PlainText x × PlainText y
-
-unfoldable pub AllPlain : List Annotation → Type 0
-AllPlain [] = Unit {0}
-AllPlain (a ∷ more) = PlainNote a × AllPlain more
-
--- the rule on annotations: there is at least one, and their texts are below 0x80
-pub record PlainNotes (notes : List Annotation) : Type 0 where
+-- the rule on annotations: there is at least one
+pub record NotesRule (notes : List Annotation) : Type 0 where
   pub some : 0 < length notes
-  pub plain : AllPlain notes

@@ -3,25 +3,28 @@ ghost use mathlib.Core.Path.{_≡_};
 ghost use Prim.Native.Nat.{_≤_};
 ghost use lib.ListN.{length};
 ghost use Rattle.number.specs.Limits.{fileLimit};
-ghost use Rattle.reading.specs.Got.{stepOf};
-ghost use Rattle.head.specs.Annotation.{asciiEnd, readText, readBody, readAnnotation, readAnnotations, annotationLimit};
+ghost use Rattle.reading.specs.Got.{stepOf, many};
+ghost use Rattle.head.specs.Annotation.{readChar, readText, readBody, readAnnotation, readAnnotations, annotationLimit};
 use super::Header;
 use reading::Refusal;
 use reading::Step;
 
-// The first byte from `from` on, before `to`, that is not below 0x80, or `to`.
-fn ascii_end(file: &[u8], from: usize, to: usize) -> usize
-    requires { ⌜ (from ≤ to) × (to ≤ length (now file)) ⌝ }
-    ensures { λ r. ⌜ r ≡ asciiEnd (now (file .entry)) from to ⌝ }
+// `n` characters of a text of the annotation at `place`.
+fn read_chars(file: &[u8], place: usize, limit: usize, from: usize, n: usize) -> Step
+    requires { ⌜ (from ≤ limit) × (limit ≤ length (now file)) ⌝ }
+    ensures { λ r. ⌜ r ≡ stepOf (many (readChar place limit (now (file .entry))) n from) ⌝ }
 {
-    let mut i = from;
-    while i < to {
-        if 128 <= file[i] {
-            return i;
+    let mut at = from;
+    let mut k: usize = 0;
+    while k < n {
+        let size = utf8::char_size(file, at, limit);
+        if size == 0 {
+            return Step::Refused(Refusal { no: 9, place });
         }
-        i += 1;
+        at += size;
+        k += 1;
     }
-    i
+    Step::End(at)
 }
 
 // A text of the annotation at `place`.
@@ -33,14 +36,8 @@ fn read_text(file: &[u8], place: usize, limit: usize, at: usize) -> Step
     if limit < from {
         return Step::Refused(Refusal { no: 9, place });
     }
-    let end = from + number::u16_at(file, at) as usize;
-    if limit < end {
-        return Step::Refused(Refusal { no: 9, place });
-    }
-    if ascii_end(file, from, end) < end {
-        return Step::Refused(Refusal { no: 9, place });
-    }
-    Step::End(end)
+    let n = number::u16_at(file, at) as usize;
+    read_chars(file, place, limit, from, n)
 }
 
 // What follows the first byte of the annotation at `place`.

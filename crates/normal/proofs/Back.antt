@@ -9,7 +9,7 @@ use lib.ListN.{length}
 use Rattle.key.specs.Key.{Key}
 use Rattle.reading.specs.Got.{Got, got, bad}
 use Rattle.reader.specs.Values.{Entry, Header, empty, Typelib, typelib, entriesIn}
-use Rattle.reader.specs.Records.{Bytes, ShowsTypelib, PlainNotes, PlainNote, AllPlain}
+use Rattle.reader.specs.Records.{Bytes, ShowsTypelib, NotesRule}
 use Rattle.reader.specs.Rules.{All, InDirectory, EntryRule, PositionRule, TypelibRule}
 use Rattle.reader.specs.Reader.{decode}
 use Rattle.reader.specs.Reader.Laws.{shown-accepted}
@@ -106,9 +106,8 @@ module _ (us : List (Entry Key)) (enc : Encodable us) where
       }
 
 -- one empty annotation
-plain-note : PlainNotes (empty ∷ [])
-unfolding PlainNote AllPlain
-plain-note = record { some = omega arith; plain = (tt, tt) }
+one-note : NotesRule (empty ∷ [])
+one-note = record { some = omega arith }
 
 -- ---- and read
 
@@ -117,7 +116,7 @@ module _ (us : List (Entry Key)) (r : Readable us) where
   unfolding normalTypelib
   rules-back = (
     position-back us (r .encodable),
-    plain-note,
+    one-note,
     rw (header-minor us, header-count us) (record { each = encodable-rules us (r .encodable); order = r .order; keys = r .keys; chains = r .chains }),
   )
 

@@ -53,7 +53,7 @@ unfolding normalLength sum tank parentRef
 readable-none = readable-one [] (omega arith) tank (λ i. refl) (record { few = omega arith; short = omega arith; each = tt; closed = tt })
 
 sound-tank : Sound tank
-unfolding tank mapEntry mapOwn isIdentifier if_then_else_ _<?_ _=?_ IsLe
+unfolding tank mapEntry mapOwn isIdentifier if_then_else_ _<?_ _≤?_ _=?_ IsLe
 sound-tank = record {
   rule = (
     identifier-exactly (0x54 ∷ 0x61 ∷ 0x6e ∷ 0x6b ∷ []) .0 refl,
@@ -72,7 +72,7 @@ readable-tank = readable-one (tank ∷ []) (omega arith) tank parents (record { 
     parents (suc i) = refl
 
 sound-constant : Sound withConstant
-unfolding withConstant mapEntry mapOwn mapDescriptor mapParent valueWidth isIdentifier if_then_else_ _<?_ _=?_ IsLe
+unfolding withConstant mapEntry mapOwn mapDescriptor mapParent valueWidth isIdentifier if_then_else_ _<?_ _≤?_ _=?_ IsLe
 sound-constant = record {
   rule = (
     identifier-exactly (0x41 ∷ []) .0 refl,

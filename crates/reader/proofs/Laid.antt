@@ -15,7 +15,7 @@ use Rattle.typelib.specs.Entry.{Entry, entry, entryKey, entryDescriptor, noEntr
 use Rattle.typelib.specs.Typelib.{Typelib, typelib, poolOf, entriesIn}
 use Rattle.rules.specs.Shows.{ShowsSpace, ShowsOwn, ShowsEntry, ShowsTypelib}
 use Rattle.rules.specs.Rules.{SpaceRule, EntryRule, PositionRule, TypelibRule}
-use Rattle.rules.proofs.Entries.{at-all}
+use Rattle.rules.proofs.Alls.{at-all}
 use Rattle.reader.specs.declared.Layout.{Layout}
 use Rattle.reader.specs.Reader.{decode}
 use Rattle.reader.specs.Reader.Laws.{accepted-shows, accepted-obeys}

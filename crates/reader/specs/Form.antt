@@ -1,4 +1,4 @@
--- What stands after the prefix of a type: the one way in which the crates above tell types apart.
+-- What stands after the prefix of a type: the way in which the crates above tell types apart, but for the tags that a minor brought, which have their names.
 -- Assumes nothing.
 use Prim.Native.Nat.{ℕ}
 use Rattle.types.specs.Prefix.{tagOf}

@@ -8,6 +8,7 @@ use Rattle.reading.specs.declared.Verdict.{Verdict}
 pub mod Laws
 pub mod Chains
 pub mod Marked
+pub mod Texts
 
 -- what a file says, or its refusal
 pub decode : List ℕ → Got Typelib

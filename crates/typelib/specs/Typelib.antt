@@ -1,4 +1,4 @@
--- A whole file, in the order of document 01: 1 to 8; annotations; the directory; descriptors; 18; 19.
+-- A whole file, in the order of document 01: 1 to 8, with 29 and 30 for 6; annotations; the directory; descriptors; 18; 19.
 -- Assumes nothing.
 use mathlib.Core.Path.{_≡_}
 use mathlib.Core.List.{List}

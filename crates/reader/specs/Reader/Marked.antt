@@ -15,7 +15,7 @@ use Rattle.key.specs.Key.{key, thenBy, compareKeys, sameKey}
 use Rattle.key.specs.First.{sameAs, firstSame}
 use Rattle.name.specs.Name.{isIdentifier, readIdentifier, follow, followSpace, readName}
 use Rattle.head.specs.Header.{magic, offMagic, magicEnd, unknownMinor, lengthFault, misplacedPool, misplacedDirectory, readPositions, readFields, readHeader}
-use Rattle.head.specs.Annotation.{empty, offAscii, asciiEnd, readText, readBody, readAnnotation, annotationsWithin, readAnnotations, annotationLimit}
+use Rattle.head.specs.Annotation.{empty, readText, readBody, readAnnotation, annotationsWithin, readAnnotations, annotationLimit}
 use Rattle.directory.specs.Directory.{falls, outOfOrder, lacksIid, readRow, readDirectory}
 use Rattle.types.specs.Types.{prefix, classOf, isReserved, needsPointer, lacksPointer, readIndex, readRest, typeWith, readArray, readType}
 use Rattle.method.specs.Parameter.{paramFlags, paramType, reservedParam, wrongParam, readParam}
@@ -149,7 +149,7 @@ table =
     ∷ []
 
 pub marked : map (λ (c : Case). decode (c .file)) table ≡ map (λ (c : Case). c .decoded) table
-unfolding table P1 P2 P3 P4 P5 P6 P7 P8 P9 P10 P11 P13 P3newer says1 says2 says3 says13 says3newer decode if_then_else_ _<?_ _≤?_ _=?_ _≠?_ be scan one tally part next many byte field zeroByte wordEnd wordAt compareWords isSame sameWord thenBy compareKeys sameKey sameAs firstSame isIdentifier readIdentifier follow followSpace readName offMagic magicEnd unknownMinor lengthFault misplacedPool misplacedDirectory readPositions readFields readHeader offAscii asciiEnd readText readBody readAnnotation annotationsWithin readAnnotations annotationLimit falls outOfOrder lacksIid readRow readDirectory prefix classOf isReserved needsPointer lacksPointer readIndex readRest typeWith readArray readType paramFlags paramType reservedParam wrongParam readParam prefixes wrongIid wrongSize wrongSizes wrongNumbers wrongArguments wrongResult methodFlags methodName ruleSignature readSignature readMethod noMethod valueSize readConstant isConstructor manyConstructors isGetter isSetter strayPair strayGetter strayPairs parentOf indexed readParent readCounted reservedInterface readFlags flagsIn namesIn readDescriptor entryKey entryDescriptor readOwn entriesOf noEntry keysIn descriptorIn repeated firstRepeated parentIndex above aboveIn chainEnds circles firstCircling readAcross poolOf contextOf readListed readFront readDescriptors headerOf readBehind readTypelib verdictOf
+unfolding table P1 P2 P3 P4 P5 P6 P7 P8 P9 P10 P11 P13 P3newer says1 says2 says3 says13 says3newer decode if_then_else_ _<?_ _≤?_ _=?_ _≠?_ be scan one tally part next many byte field zeroByte wordEnd wordAt compareWords isSame sameWord thenBy compareKeys sameKey sameAs firstSame isIdentifier readIdentifier follow followSpace readName offMagic magicEnd unknownMinor lengthFault misplacedPool misplacedDirectory readPositions readFields readHeader readText readBody readAnnotation annotationsWithin readAnnotations annotationLimit falls outOfOrder lacksIid readRow readDirectory prefix classOf isReserved needsPointer lacksPointer readIndex readRest typeWith readArray readType paramFlags paramType reservedParam wrongParam readParam prefixes wrongIid wrongSize wrongSizes wrongNumbers wrongArguments wrongResult methodFlags methodName ruleSignature readSignature readMethod noMethod valueSize readConstant isConstructor manyConstructors isGetter isSetter strayPair strayGetter strayPairs parentOf indexed readParent readCounted reservedInterface readFlags flagsIn namesIn readDescriptor entryKey entryDescriptor readOwn entriesOf noEntry keysIn descriptorIn repeated firstRepeated parentIndex above aboveIn chainEnds circles firstCircling readAcross poolOf contextOf readListed readFront readDescriptors headerOf readBehind readTypelib verdictOf
 marked = refl
 
 -- what the k-th file of the table decodes to, counted from 0

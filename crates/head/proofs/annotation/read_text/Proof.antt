@@ -1,22 +1,23 @@
 -- `head::annotation::read_text` meets its contract.
 -- Assumes nothing.
 use Rattle.number.proofs.Tools.{needs, arith}
-use Rattle.reading.proofs.Steps.{at-end-as, at-bad, is-lt, no-lt}
+use Rattle.reading.proofs.Steps.{at-bad, is-lt}
 use Rattle.head.specs.Annotation.{readText}
+use Rattle.head.proofs.TextLaws.{text-step}
 use Rattle.head.proofs.annotation.read_text.Statement.{statement}
 use Rattle.head.proofs.annotation.read_text.Tie as tie
 
-pub read-text-spec : {M : Type 1} → statement M
+returns : tie.Need-returns
 unfolding readText
+returns c = is-lt _ _ _ _ (omega arith) (at-bad _ _ _)
+
+pub read-text-spec : {M : Type 1} → statement M
 read-text-spec =
     tie.close
     (tie.spec
     (λ c. search needs)
-    (λ c. is-lt _ _ _ _ (omega arith) (at-bad _ _ _))
+    returns
     (λ c κs. search needs)
     (λ c. search needs)
-    (λ c. search needs)
-    (λ c. no-lt _ _ _ _ (omega arith) (is-lt _ _ _ _ (omega arith) (at-bad _ _ _)))
     (λ c κs. search needs)
-    (λ c. no-lt _ _ _ _ (omega arith) (no-lt _ _ _ _ (omega arith) (is-lt _ _ _ _ (rw (← c .before .before .before .u16-at .ensures) (omega arith)) (at-bad _ _ _))))
-    (λ c. no-lt _ _ _ _ (omega arith) (no-lt _ _ _ _ (omega arith) (no-lt _ _ _ _ (rw (← c .before .before .before .u16-at .ensures) (omega arith)) (at-end-as _ _ (omega arith))))))
+    (λ c. text-step _ _ _ _ _ (omega arith) (c .before .u16-at .ensures) (c .read-chars .ensures)))
