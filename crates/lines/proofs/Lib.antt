@@ -4,4 +4,4 @@ pub mod PieceLaws
 pub mod FillLaws
 pub mod BeginLaws
 pub mod PrintLaws
-pub mod BarLaws
+pub mod TabLaws

@@ -1,2 +1,2 @@
 pub mod Cursor
-pub mod Bars
+pub mod Tabs

@@ -1,7 +1,7 @@
 // The listing of a typelib, made piece by piece into a lent buffer: it can be far longer than the file.
-pub mod bars;
 mod base;
 mod pieces;
+pub mod tabs;
 
 use lookup::Slot;
 use reader::Layout;

@@ -15,7 +15,7 @@ use Rattle.reader.specs.declared.Layout.{Layout}
 use Rattle.lines.specs.declared.Cursor.{Cursor}
 use Rattle.lines.specs.declared.Cursor.the-variants.{Done, AtEntry, AtMethods, AtConstants}
 use Rattle.lines.specs.declared.Filled.{Filled}
-use Rattle.lines.specs.Bars.{bar, barred}
+use Rattle.lines.specs.Tabs.{tab, tabbed}
 use Rattle.lines.specs.Cursor.{Left, isDone, turns, Onward, Filling}
 use Rattle.lines.proofs.FillLaws.{falls}
 use Rattle.printed.proofs.WritingLaws.{wrote-length}
@@ -25,21 +25,21 @@ use Rattle.listed.specs.declared.More.{More}
 use Rattle.listed.specs.Text.{shown, closing}
 use Rattle.listed.specs.Rest as rest
 
-pub shown-bars : (b : Bool) (l ys : List ℕ) (n : ℕ) → b ≡ true → ys ≡ barred (take n l) → ys ++ drop n l ≡ shown b (take n l) ++ drop n l
+pub shown-tabs : (b : Bool) (l ys : List ℕ) (n : ℕ) → b ≡ true → ys ≡ tabbed (take n l) → ys ++ drop n l ≡ shown b (take n l) ++ drop n l
 unfolding shown
-shown-bars b l ys n t e = rw (t, e) refl
+shown-tabs b l ys n t e = rw (t, e) refl
 
 pub shown-plain : (b : Bool) (l : List ℕ) (n : ℕ) → b ≡ false → l ≡ shown b (take n l) ++ drop n l
 unfolding shown
 shown-plain b l n t = rw t (sym (take-append-drop n l))
 
 pub shown-both : (b : Bool) (x y : List ℕ) → shown b (x ++ y) ≡ shown b x ++ shown b y
-unfolding shown barred
-shown-both true x y = map-append bar x y
+unfolding shown tabbed
+shown-both true x y = map-append tab x y
 shown-both false x y = refl
 
 pub length-shown : (b : Bool) (x : List ℕ) → length (shown b x) ≡ length x
-unfolding shown barred
+unfolding shown tabbed
 length-shown true [] = refl
 length-shown true (b ∷ x) = ap suc (length-shown true x)
 length-shown false x = refl
@@ -65,7 +65,7 @@ shown-sets b l bytes after n e h s =
 -- what is left at a cursor, and behind its last line
 module _ (b : Bool) (s : List ℕ) (l : Layout) (inside : l .pool ≤ length s) where
   pub rest-left : (c : Cursor) (lines : List ℕ) → Left s l c lines → rest.LeftIn b s (rest.restOf l b c) (shown b lines ++ closing b)
-  unfolding rest.restOf rest.afterLines shown barred closing isDone if_then_else_
+  unfolding rest.restOf rest.afterLines shown tabbed closing isDone if_then_else_
   rest-left Done lines h = done b lines h
     where
       done : (b : Bool) (lines : List ℕ) → lines ≡ [] → rest.LeftAt b s l (rest.afterLines b) (shown b lines ++ closing b)

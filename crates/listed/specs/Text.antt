@@ -8,12 +8,12 @@ use Rattle.reader.specs.Values.{Typelib}
 use Rattle.reader.specs.Reader.{decode, checkOf}
 use Rattle.text.specs.Line.{newline}
 use Rattle.printed.specs.Listing.{listingOf}
-use Rattle.lines.specs.Bars.{barred}
+use Rattle.lines.specs.Tabs.{tabbed}
 use Rattle.sayings.specs.Sayings.{Saying, saying, verdictWhy}
 
 -- a text as it is answered, in a batch or not
 unfoldable pub shown : Bool → List ℕ → List ℕ
-shown true s = barred s
+shown true s = tabbed s
 shown false s = s
 
 -- the newline that ends an answer of a batch

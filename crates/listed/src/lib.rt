@@ -63,13 +63,13 @@ pub fn is_over(rest: Rest) -> bool
     }
 }
 
-// In a batch the newlines among the first bytes are bars.
-fn bar(buffer: &mut [u8], n: usize, in_batch: bool)
+// In a batch the newlines among the first bytes are tabs.
+fn tab(buffer: &mut [u8], n: usize, in_batch: bool)
     requires { ⌜ n ≤ length (now buffer) ⌝ }
     ensures { λ _. ⌜ now (buffer .exit) ≡ shown «in_batch» (take n (now (buffer .entry))) ++ drop n (now (buffer .entry)) ⌝ }
 {
     if in_batch {
-        lines::bars::bar_newlines(&mut buffer[..n]);
+        lines::tabs::tab_newlines(&mut buffer[..n]);
     }
 }
 
@@ -106,7 +106,7 @@ pub fn open(file: &[u8], in_batch: bool, text: &mut [u8; ANSWER_ROOM]) -> Opened
         },
         Verdict::Accepted(n) => {
             let said = sayings::numbered(b"accepted ", n as u64, text);
-            bar(text, said.length, in_batch);
+            tab(text, said.length, in_batch);
             let rest = rest_of(reader::layout_of(file), Cursor::AtEntry(0), in_batch);
             Opened { said, rest }
         }
@@ -121,7 +121,7 @@ fn fill(file: &[u8], l: Layout, c: Cursor, in_batch: bool, out: &mut [u8; 65536]
     let filled = lines::fill(file, l, c, out);
     let length = filled.length;
     let cursor = filled.cursor;
-    bar(out, length, in_batch);
+    tab(out, length, in_batch);
     More {
         length,
         rest: rest_of(l, cursor, in_batch),

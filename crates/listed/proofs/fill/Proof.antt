@@ -14,7 +14,7 @@ returns : tie.Need-returns
 returns c =
     let a = c .before .before .before .before .before .before .args in
     let f = c .before .before .before .fill in
-    filled-shown (a .in-batch) (a .file .now) (a .l) (a .c) _ (a .out .now) _ (f .result) (c .rest-of .result) _ (c .before .before .before .before .before .before .pre .1) (f .ensures) (c .before .bar .ensures) (c .rest-of .ensures)
+    filled-shown (a .in-batch) (a .file .now) (a .l) (a .c) _ (a .out .now) _ (f .result) (c .rest-of .result) _ (c .before .before .before .before .before .before .pre .1) (f .ensures) (c .before .tab .ensures) (c .rest-of .ensures)
 
 pub fill-spec : {M : Type 1} → statement M
 fill-spec = tie.close (tie.spec fill-requires (λ c κs. c .before .fill .ensures .inside) (λ c κs. search needs) returns)

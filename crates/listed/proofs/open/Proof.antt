@@ -26,7 +26,7 @@ returns-2 c =
     let e = sym (c .before .before .before .before .before .before .before .before .before .before .check .ensures .0) ∙ n .1 in
     let r = accepted-decodes (a .file .now) e in
     let said = c .before .before .before .before .numbered in
-    opens-accepted (a .in-batch) (a .file .now) (a .text .now) (said .result) (r .0) (r .1) (n .0 .0) (c .before .layout-of .result) _ (c .rest-of .result) _ (omega (arith, c .before .before .before .bar-arg)) e (r .2) (r .3) (c .before .layout-of .ensures (r .0) (r .1) (r .2)) (said .ensures) (c .before .before .bar .ensures) (c .rest-of .ensures)
+    opens-accepted (a .in-batch) (a .file .now) (a .text .now) (said .result) (r .0) (r .1) (n .0 .0) (c .before .layout-of .result) _ (c .rest-of .result) _ (omega (arith, c .before .before .before .tab-arg)) e (r .2) (r .3) (c .before .layout-of .ensures (r .0) (r .1) (r .2)) (said .ensures) (c .before .before .tab .ensures) (c .rest-of .ensures)
 
 pub open-spec : {M : Type 1} → statement M
 open-spec =
