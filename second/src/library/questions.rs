@@ -32,17 +32,19 @@ type What = &'static str;
 type Made = (What, Question);
 
 /// What is wrong with a name, and with a namespace.
-const BAD: [[&str; 2]; 4] = [
+const BAD: [[&str; 2]; 6] = [
     ["20: name empty"; 2],
     ["20: name too long", "20: namespace too long"],
     ["20: name with a zero byte", "20: namespace with a zero byte"],
     ["20: name with a bad byte", "20: namespace with a bad byte"],
+    ["20: name malformed", "20: namespace malformed"],
+    ["20: name a lone -", "20: namespace a lone -"],
 ];
 
 /// A name that is not an identifier, and what is wrong with it.
 fn bad_name(rng: &mut Rng, good: &[u8]) -> ([&'static str; 2], Vec<u8>) {
     let mut name = good.to_vec();
-    let how = rng.below(4);
+    let how = rng.below(6);
     match how {
         0 => name.clear(),
         1 => name.resize((MAX_IDENTIFIER + 1) * (1 + rng.below(2)), b'a'),
@@ -50,10 +52,16 @@ fn bad_name(rng: &mut Rng, good: &[u8]) -> ([&'static str; 2], Vec<u8>) {
             name.truncate(MAX_IDENTIFIER - 1);
             name.insert(rng.below(name.len() + 1), 0);
         }
-        _ => {
+        3 => {
             let at = rng.below(name.len());
-            name[at] = *rng.pick(b" -.:/@[`{\x7f\x80\xc3\xff\x01");
+            name[at] = *rng.pick(b" \x01\t\x1f\x7f\xc0\xf5\xff");
         }
+        4 => {
+            let starts: Vec<usize> = (0..name.len()).filter(|i| name[*i] & 0xc0 != 0x80).collect();
+            let at = *rng.pick(&starts);
+            name.splice(at..at, rng.pick(generate::MALFORMED).iter().copied());
+        }
+        _ => name = b"-".to_vec(),
     }
     (BAD[how], name)
 }
@@ -73,15 +81,16 @@ fn bad_index(rng: &mut Rng, n: u64) -> u64 {
 
 /// Another name that is easily taken for this one.
 fn near_name(rng: &mut Rng, name: &[u8]) -> Vec<u8> {
-    let mut near = name.to_vec();
+    let mut near: Vec<char> = String::from_utf8_lossy(name).chars().collect();
     let at = rng.below(near.len());
-    match rng.below(4) {
-        0 if near.len() < MAX_IDENTIFIER => near.push(*rng.pick(b"a0_Z")),
+    match rng.below(5) {
+        0 if name.len() < MAX_IDENTIFIER => near.push(*rng.pick(&['a', '0', '_', 'Z', '-'])),
         1 if near.len() > 1 => _ = near.pop(),
         2 if near.len() > 1 => _ = near.remove(at),
-        _ => near[at] = *rng.pick(b"abcXYZ019_"),
+        3 => near[at] = *rng.pick(generate::CHARACTERS),
+        _ => near[at] = char::from(*rng.pick(b"abcXYZ019_")),
     }
-    near
+    String::from_iter(near).into_bytes()
 }
 
 fn iid_question(lib: &Typelib, rng: &mut Rng) -> Made {

@@ -15,7 +15,7 @@ pub type Words = Vec<Vec<u8>>;
 #[derive(Default)]
 pub struct Outcome {
     /// What stands on standard output before a newline. Nothing where any error will do. Lines
-    /// of a listing have their newlines; in a batch they are bars.
+    /// of a listing have their newlines; in a batch they are tabs.
     pub text: Option<Vec<u8>>,
     /// Whether one line that starts with `error ` will do: where it cannot be asked, and where the
     /// papers leave open whether it can.
@@ -52,7 +52,7 @@ impl Outcome {
         let is_error = self.or_error && printed.starts_with(b"error ");
         let text = self.text.as_ref().filter(|_| !is_error).map(|text| match alone {
             true => text.strip_suffix(b"\n").unwrap_or(text).to_vec(),
-            false => text.iter().map(|byte| if *byte == b'\n' { b'|' } else { *byte }).collect(),
+            false => text.iter().map(|byte| if *byte == b'\n' { b'\t' } else { *byte }).collect(),
         });
         let end = match &text {
             Some(text) => printed.starts_with(text).then_some(text.len())?,

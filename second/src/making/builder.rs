@@ -142,7 +142,7 @@ impl Descriptor {
         writer.bytes.len()
     }
 
-    fn names(&self) -> Vec<&[u8]> {
+    pub fn names(&self) -> Vec<&[u8]> {
         let methods = self.methods.iter().map(|m| &m.name[..]);
         methods.chain(self.constants.iter().map(|c| &c.name[..])).collect()
     }
@@ -522,7 +522,9 @@ impl Typelib {
             let last = if i + 1 == self.annotations.len() { 0x80 } else { 0 };
             writer.put(AnnotationByte, &[last | u8::from(annotation.is_some())], 0);
             for text in annotation.iter().flatten() {
-                writer.put(AnnotationLength, &(text.len() as u16).to_be_bytes(), 0);
+                // All bytes of a character but the first are from 0x80 to 0xbf.
+                let characters = text.iter().filter(|byte| **byte & 0xc0 != 0x80).count();
+                writer.put(AnnotationLength, &(characters as u16).to_be_bytes(), 0);
                 writer.put(AnnotationText, text, 0);
             }
         }

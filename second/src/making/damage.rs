@@ -382,6 +382,78 @@ fn short_annotations(sink: &mut Sink) {
     }
 }
 
+/// The number of characters, each of which is written as its number is, if there are no others.
+fn characters(bytes: &[u8]) -> Option<usize> {
+    let Some(first) = bytes.first() else { return Some(0) };
+    let ones = first.leading_ones();
+    let length = (ones as usize).max(1);
+    let bits = |sum: u32, byte: &u8| sum << 6 | u32::from(byte & 0x3f);
+    let start = u32::from(*first) & (0x7f >> ones);
+    let number = bytes.get(1..length)?.iter().fold(start, bits);
+    let mut again = [0; 4];
+    let written = char::from_u32(number)?.encode_utf8(&mut again).as_bytes();
+    (written == &bytes[..length]).then(|| characters(&bytes[length..]))?.map(|rest| rest + 1)
+}
+
+/// Sequences of up to four bytes, good and bad: as identifiers of each kind, alone or with a letter
+/// before them, and as texts.
+fn sequences(sink: &mut Sink) {
+    let mut all: Vec<Vec<u8>> = (1..=255).map(|first| vec![first]).collect();
+    let seconds = [b' ', b'A', 0x7f, 0x80, 0x8f, 0x90, 0x9f, 0xa0, 0xbf, 0xc0, 0xff];
+    all.extend(both(0x80..=255, seconds).map(|(a, b)| vec![a, b]));
+    let thirds = both(both(0xdf..=255, seconds), [b'-', 0x80, 0xbf, 0xc0]);
+    all.extend(thirds.clone().map(|((a, b), c)| vec![a, b, c]));
+    let fourths = both(thirds, [b'!', 0x80, 0xbf]).filter(|(((a, _), _), _)| *a >= 0xef);
+    all.extend(fourths.map(|(((a, b), c), d)| vec![a, b, c, d]));
+    let methods = vec![Method::plain(0, b"m")];
+    let constants = vec![Constant::new(b"k", 1, 7)];
+    let mut lib = Typelib::single(Descriptor { methods, constants, ..Descriptor::default() });
+    lib.entries[0].namespace = Some(b"n".to_vec());
+    let roles = [Field::EntryName, Field::EntryNamespace, Field::MethodName, Field::ConstantName];
+    for (k, (bytes, before)) in both(&all, [&b""[..], b"a"]).enumerate() {
+        let name = [before, bytes].concat();
+        let has_bad = name.iter().any(|byte| *byte <= 0x20 || *byte == 0x7f);
+        let is_good = characters(&name).is_some() && !has_bad && name != b"-";
+        // Every sequence in another role than the one before it.
+        let role = (k / 2 + k) % 4;
+        let old = std::mem::replace(names(&mut lib)[role], name);
+        let built = lib.build();
+        let at = built.spots.iter().find(|spot| spot.field == roles[role]).unwrap().at;
+        let fault = (!is_good).then_some((refusal::IDENTIFIER, at));
+        sink.built(&built, fault, "a sequence in an identifier");
+        *names(&mut lib)[role] = old;
+    }
+    for (k, (bytes, before)) in both(&all, [&b""[..], b"a\0"]).enumerate() {
+        let text = [before, bytes].concat();
+        let length = characters(&text);
+        let bad = length.is_none().then_some((refusal::ANNOTATION, HEADER));
+        let plain = Typelib::plain(k % 3);
+        let mut built =
+            Typelib { annotations: vec![Some([text.clone(), vec![]])], ..plain }.build();
+        // If it has a bad character so many are enough to meet it.
+        let length = length.unwrap_or(text.len()) as u16;
+        put(&mut built.bytes, HEADER + 1, &length.to_be_bytes());
+        sink.built(&built, bad, "a sequence in a text");
+    }
+    // The limit cuts a character, which goes on in the IID or the pool.
+    for (n, character) in both([0, 1], ["\u{e4}", "\u{20ac}", "\u{1f600}"]) {
+        for cut in 0..character.len() {
+            let (before, after) = character.as_bytes().split_at(character.len() - cut);
+            // With as many bytes before it as let the directory follow.
+            let text = [&b"abcd"[..4 - (before.len() + 1) % 4], before].concat();
+            let lib =
+                Typelib { annotations: vec![Some([text, vec![]])], tail: 4, ..Typelib::plain(n) };
+            let mut built = lib.build();
+            // The texts in the other order.
+            let end = built.limit();
+            built.bytes[HEADER + 1..end].rotate_right(2);
+            put(&mut built.bytes, end, after);
+            let fault = (cut > 0).then_some((refusal::ANNOTATION, HEADER));
+            sink.built(&built, fault, "a character at the limit");
+        }
+    }
+}
+
 /// Every prefix byte, alone and inside arrays, as argument and as result.
 fn prefixes(sink: &mut Sink) {
     let methods = both(0..=MAX_MINOR, [0, NOT_XPCOM]);
@@ -547,13 +619,15 @@ fn accessor_row(row: &[(u8, &[u8])], sharing: Sharing, sink: &mut Sink) {
     sink.built(&built, (!good).then_some((refusal::RULE, built.placed[0].at)), "row of accessors");
 }
 
-/// Names of 255 letters, and of one and more too many.
+/// Names of 255 bytes, and of one and more too many, also of fewer characters.
 fn long_names(lib: &Typelib, sink: &mut Sink) {
     let mut lib = Typelib { sharing: Sharing::None, ..lib.clone() };
     let count = names(&mut lib).len();
     for i in 0..count {
         for length in [MAX_IDENTIFIER, MAX_IDENTIFIER + 1, MAX_IDENTIFIER + 2, 511, 512] {
-            let old = std::mem::replace(names(&mut lib)[i], vec![b'q'; length]);
+            let accented = if i % 2 == 0 { 0 } else { length / 2 };
+            let name = ["\u{e4}".repeat(accented), "q".repeat(length - 2 * accented)].concat();
+            let old = std::mem::replace(names(&mut lib)[i], name.into());
             let built = lib.build();
             let long = |spot: &&Spot| spot.field == Field::Identifier && spot.length == length;
             let too_long = length > MAX_IDENTIFIER;
@@ -709,6 +783,7 @@ pub fn everything(seed: u64, take: &mut dyn FnMut(&Made)) {
     too_long(rng, sink);
     headers(rng, sink.one());
     short_annotations(sink.one());
+    sequences(sink.each());
     prefixes(sink.each());
     numbers(sink);
     wide_numbers(sink);

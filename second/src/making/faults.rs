@@ -253,7 +253,12 @@ impl Collector<'_> {
         let here = (first, (ANNOTATIONS, first, 0, 0));
         if field == AnnotationText {
             for at in at..at + length {
-                self.add("9 text byte", here, vec![(at, vec![b.bytes[at] | 0x80])]);
+                // A byte inside a character is not the start of one, nor is another's start inside.
+                let start = b.bytes[at] & 0xc0 != 0x80;
+                let bad = [0xc0, 0xf5, 0xff, if start { 0x80 } else { b'a' }];
+                for bad in bad {
+                    self.add("9 text byte", here, vec![(at, vec![bad])]);
+                }
             }
             return;
         }
@@ -316,7 +321,7 @@ impl Collector<'_> {
 
     fn identifier(&mut self, spot: Spot, rank: Rank) {
         let field = self.built.spots[spot.of].at;
-        let bad = [b'-', b'.', b' ', b'/', b':', b'@', b'[', b'`', b'{', 0x7f, 0x80, 0xc1, 0xff, 1];
+        let bad = [b' ', 1, b'\t', b'\n', 0x1f, 0x7f, 0xc0, 0xc1, 0xf5, 0xff];
         let ends = spot.at..=spot.at + spot.length;
         let mut patches: Vec<_> = ends.map(|at| (at, *self.rng.pick(&bad))).collect();
         patches.extend(bad.map(|byte| (spot.at + self.rng.below(spot.length), byte)));
@@ -324,6 +329,21 @@ impl Collector<'_> {
             self.add("11 bad byte", (field, rank), vec![(at, vec![byte])]).needs = vec![field];
         }
         self.add("11 empty", (field, rank), vec![(spot.at, vec![0])]).needs = vec![field];
+        // Bytes that are good elsewhere.
+        let last = spot.at + spot.length - 1;
+        for (what, patch) in [
+            ("11 a lone -", (spot.at, vec![b'-', 0])),
+            ("11 cut character", (last, vec![0xc3])),
+            ("11 starts inside a character", (spot.at, vec![0xa4])),
+        ] {
+            self.add(what, (field, rank), vec![patch]).needs = vec![field];
+        }
+        for at in (spot.at..=last).filter(|at| self.built.bytes[*at] & 0xc0 == 0x80) {
+            let pointer = (at - self.built.pool + 1) as u32;
+            let patch = vec![(field, pointer.to_be_bytes().to_vec())];
+            let what = "11 leads into a character";
+            self.add(what, (field, rank), patch).needs = vec![at];
+        }
     }
 
     fn prefix(&mut self, spot: Spot, here: Where) {

@@ -27,8 +27,36 @@ pub fn identifier(rng: &mut Rng, longest: usize) -> Vec<u8> {
         1..=10 => 1,
         _ => rng.range(1, longest),
     };
-    (0..length).map(|_| *rng.pick(LETTERS)).collect()
+    let plain = rng.percent(60);
+    let mut name = String::new();
+    while name.len() < length {
+        let other = *rng.pick(CHARACTERS);
+        let letter = char::from(*rng.pick(LETTERS));
+        let next = if plain || rng.percent(60) { letter } else { other };
+        // A lone `-` is none.
+        if name.len() + next.len_utf8() <= length && (next != '-' || length > 1) {
+            name.push(next);
+        }
+    }
+    name.into_bytes()
 }
+
+/// Other characters that may stand in identifiers: marks, letters with accents, and those at the
+/// edges of each length.
+#[rustfmt::skip]
+pub const CHARACTERS: &[char] = &[
+    '-', '.', '!', '"', '/', ':', '@', '[', '`', '{', '|', '~', '\u{80}', '\u{85}', '\u{a0}', '\u{ad}',
+    '\u{c4}', '\u{df}', '\u{e4}', '\u{e9}', '\u{308}', '\u{7ff}', '\u{800}', '\u{2028}', '\u{d7ff}',
+    '\u{e000}', '\u{feff}', '\u{fffd}', '\u{ffff}', '\u{10000}', '\u{1f600}', '\u{10ffff}',
+];
+
+/// Bytes that no identifier and no text may have, where they stand between characters.
+#[rustfmt::skip]
+pub const MALFORMED: &[&[u8]] = &[
+    b"\x80", b"\xbf", b"\xc0\x80", b"\xc1\xbf", b"\xc3", b"\xe0\x9f\xbf", b"\xe2\x82", b"\xed\xa0\x80",
+    b"\xed\xbf\xbf", b"\xf0\x8f\xbf\xbf", b"\xf0\x9f\x98", b"\xf4\x90\x80\x80", b"\xf5\x80\x80\x80",
+    b"\xfe", b"\xff",
+];
 
 /// What follows the prefix of an interface's type.
 pub fn index_tail(index: usize) -> [u8; 3] {
@@ -188,8 +216,12 @@ fn descriptor(rng: &mut Rng, of: (u8, usize), size: Size, words: &[Vec<u8>]) -> 
 
 pub fn annotations(rng: &mut Rng) -> Vec<Annotation> {
     let text = |rng: &mut Rng| {
-        let length = rng.below(6);
-        (0..length).map(|_| rng.byte() & 0x7f).collect()
+        let mut text = String::new();
+        for _ in 0..rng.below(6) {
+            let any = char::from(rng.byte() & 0x7f);
+            text.push(if rng.percent(75) { any } else { *rng.pick(CHARACTERS) });
+        }
+        text.into_bytes()
     };
     let count = if rng.percent(60) { 1 } else { rng.range(1, 5) };
     (0..count).map(|_| (!rng.percent(60)).then(|| [text(rng), text(rng)])).collect()
@@ -278,7 +310,14 @@ fn near_words(rng: &mut Rng) -> Vec<Vec<u8>> {
     let word = identifier(rng, 6);
     let mut words = vec![word.clone(), identifier(rng, 6), identifier(rng, 2), b"_".to_vec()];
     words.push(word.to_ascii_uppercase());
-    words.extend((word.len() > 1).then(|| word[..word.len() - 1].to_vec()));
+    let mut shorter: Vec<char> = String::from_utf8_lossy(&word).chars().collect();
+    shorter.pop();
+    let shorter = String::from_iter(shorter).into_bytes();
+    words.extend((!shorter.is_empty() && shorter != b"-").then_some(shorter));
+    // Nothing is folded: one letter in two ways, and its capital.
+    if rng.percent(30) {
+        words.extend(["\u{e4}", "a\u{308}", "\u{c4}", "A\u{308}"].map(Vec::from));
+    }
     words.extend((word.len() < MAX_IDENTIFIER).then(|| [&word[..], b"0"].concat()));
     if rng.percent(20) {
         let long = vec![b'x'; MAX_IDENTIFIER];
@@ -345,14 +384,14 @@ pub fn rich(minor: u8, order: Order) -> Typelib {
     let (argument, simple) = (Parameter::new, Parameter::simple);
     let void = || simple(0, VOID);
     let mut lib = Typelib { minor, order, ..Typelib::plain(7) };
-    let texts = [["by hand", "1.0"], ["", "x"]].map(|texts| Some(texts.map(Vec::from)));
+    let texts = [["von H\u{e4}nden", "1.0"], ["", "x"]].map(|texts| Some(texts.map(Vec::from)));
     lib.annotations = [&[None][..], &texts].concat();
     for (entry, number) in lib.entries.iter_mut().zip([0, 0, 5, 6, 0x1_0000, 0x1_0001, u64::MAX]) {
         entry.iid = iid(number);
     }
     lib.entries[1].namespace = Some(b"n".to_vec());
     lib.entries[1].name = b"E0".to_vec();
-    lib.entries[5].namespace = Some(b"ns_2".to_vec());
+    lib.entries[5].namespace = Some("n\u{df}_\u{20ac}".into());
 
     let constants = vec![
         Constant::new(b"SHORT", 1, 0x8000),
@@ -384,7 +423,7 @@ pub fn rich(minor: u8, order: Order) -> Typelib {
     let methods = vec![
         Method::new(GETTER, b"size", value(OUT | RETVAL), void()),
         Method::new(SETTER, b"size", value(IN), simple(0, UINT32)),
-        Method::new(0, b"fill", sized, void()),
+        Method::new(0, "f\u{fc}ll".as_bytes(), sized, void()),
         Method::new(NOT_XPCOM, b"pick", numbers, other),
         Method::new(CONSTRUCTOR, b"make", Vec::new(), interface),
         Method::new(GETTER, b"kind", value(OUT), void()),
@@ -484,6 +523,10 @@ pub fn special() -> Vec<Typelib> {
     for lengths in [[0, 0], [0, 1], [1, 0], [127, 128], [65_535, 0], [300, 65_535]] {
         let annotations = vec![Some(lengths.map(|length| vec![b'x'; length])), None];
         all.push(Typelib { annotations: annotations.clone(), ..empty.clone() });
+        all.push(Typelib { annotations, ..Typelib::plain(2) });
+    }
+    for letter in ["\u{e4}", "\u{20ac}", "\u{10ffff}"] {
+        let annotations = vec![Some([letter.repeat(65_535).into(), letter.into()])];
         all.push(Typelib { annotations, ..Typelib::plain(2) });
     }
     all.push(Typelib { annotations: vec![None; 1000], ..empty.clone() });

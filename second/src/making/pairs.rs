@@ -433,10 +433,10 @@ fn change_constant(constants: &mut Vec<Constant>, kind: usize, rng: &mut Rng) ->
 
 /// The name with another last letter.
 fn near(name: &[u8]) -> Vec<u8> {
-    let mut name = name.to_vec();
-    let last = name.len() - 1;
-    name[last] = if name[last] == b'q' { b'r' } else { b'q' };
-    name
+    let mut name = String::from_utf8_lossy(name).into_owned();
+    let other = if name.pop() == Some('q') { 'r' } else { 'q' };
+    name.push(other);
+    name.into_bytes()
 }
 
 /// A file whose normal form has this length: entries that share a descriptor, then unresolved

@@ -2,7 +2,7 @@
 //! lie in the pool.
 
 use super::{builder::*, model};
-use crate::program::{accepted::pair, accepted::Accepted, check::accept, check::word};
+use crate::program::{accepted::pair, accepted::Accepted, check::accept, check::text, check::word};
 use std::collections::{BTreeSet, HashMap, HashSet};
 
 /// The shapes of an accepted file, whose model this is.
@@ -54,19 +54,22 @@ fn records(lib: &Accepted) -> Vec<Record> {
     all
 }
 
-/// Where an accepted file's annotations end.
-fn annotations_end(file: &[u8]) -> usize {
-    let mut at = HEADER;
+/// Where an accepted file's annotations end, and how many bytes their texts have more than
+/// characters.
+fn annotations_end(file: &[u8]) -> (usize, usize) {
+    let (mut at, mut more) = (HEADER, 0);
     loop {
         let first = file[at];
         at += 1;
         if first & 0x7f == 1 {
             for _ in 0..2 {
-                at += 2 + usize::from(pair(file, at));
+                let end = text(file, at).expect("a good text");
+                more += end - (at + 2 + usize::from(pair(file, at)));
+                at = end;
             }
         }
         if first & 0x80 != 0 {
-            return at;
+            return (at, more);
         }
     }
 }
@@ -96,6 +99,7 @@ impl Shapes {
         self.add(spaces.len() > 1, "several namespaces");
         self.add(names.len() < n, "one name in two namespaces");
         self.add(names.iter().any(|name| name.len() == MAX_IDENTIFIER), "a name of 255 letters");
+        self.add(names.iter().chain(&spaces).any(|name| !name.is_ascii()), "a key with accents");
     }
 
     fn inheritance(&mut self, lib: &Typelib) {
@@ -127,6 +131,8 @@ impl Shapes {
             let most = d.methods.iter().map(|method| method.arguments.len()).max();
             self.add(most == Some(255), "255 arguments");
         }
+        let mut names = lib.descriptors.iter().flat_map(Descriptor::names);
+        self.add(names.any(|name| !name.is_ascii()), "a method or constant with accents");
         let all = || lib.descriptors.iter().flat_map(model::parameters);
         let most = all().map(|p| p.of.arrays.len()).max().unwrap_or(0);
         self.add(most == 1, "an array");
@@ -171,8 +177,9 @@ impl Shapes {
         self.add(lib.file.len() > end, "unused bytes in the pool");
         let after_annotations = if lib.n == 0 { lib.pool } else { lib.directory };
         // Up to three bytes come from the directory's place.
-        let gap = after_annotations - annotations_end(lib.file);
-        self.add(gap > 3, "a gap before the directory");
+        let (end, more) = annotations_end(lib.file);
+        self.add(after_annotations - end > 3, "a gap before the directory");
+        self.add(more > 0, "a text with accents");
         let after_directory = lib.directory + ENTRY * lib.n;
         self.add(lib.n > 0 && lib.pool > after_directory, "a gap before the pool");
         self.add(lib.file[HEADER] & 0x80 == 0, "several annotations");

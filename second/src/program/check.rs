@@ -61,28 +61,33 @@ pub(crate) fn word(file: &[u8], at: usize) -> usize {
     u32::from_be_bytes([file[at], file[at + 1], file[at + 2], file[at + 3]]) as usize
 }
 
-/// The end of a text at `at`, if it fits before the limit and is all below 0x80.
-fn text(before_limit: &[u8], at: usize) -> Option<usize> {
-    let length = before_limit.get(at..at + 2)?;
-    let end = at + 2 + usize::from(u16::from_be_bytes([length[0], length[1]]));
-    before_limit.get(at + 2..end)?.is_ascii().then_some(end)
+/// The bytes of the character with which these start, if it is well-formed UTF-8.
+fn character(bytes: &[u8]) -> Option<usize> {
+    let length = match *bytes.first()? {
+        0..0x80 => return Some(1),
+        0x80..0xe0 => 2,
+        0xe0..0xf0 => 3,
+        _ => 4,
+    };
+    std::str::from_utf8(bytes.get(..length)?).ok().map(|_| length)
 }
 
-/// Which bytes stand in identifiers.
-const LETTERS: [bool; 256] = {
-    let mut table = [false; 256];
-    let mut b = 0;
-    while b < 256 {
-        table[b] = (b as u8).is_ascii_alphanumeric() || b as u8 == b'_';
-        b += 1;
+/// The end of a text at `at`, if all its characters lie before the limit and are well-formed.
+pub(crate) fn text(before_limit: &[u8], at: usize) -> Option<usize> {
+    let length = before_limit.get(at..at + 2)?;
+    let mut end = at + 2;
+    for _ in 0..u16::from_be_bytes([length[0], length[1]]) {
+        end += character(&before_limit[end..])?;
     }
-    table
-};
+    Some(end)
+}
 
 /// Whether these bytes are an identifier, given without the zero byte.
 pub(crate) fn is_identifier(bytes: &[u8]) -> bool {
-    let letter = |b: &u8| LETTERS[usize::from(*b)];
-    (1..=MAX_IDENTIFIER).contains(&bytes.len()) && bytes.iter().all(letter)
+    (1..=MAX_IDENTIFIER).contains(&bytes.len())
+        && bytes.iter().all(|b| *b > b' ' && *b != 0x7f)
+        && bytes != b"-"
+        && std::str::from_utf8(bytes).is_ok()
 }
 
 impl<'a> Typelib<'a> {
@@ -149,8 +154,8 @@ impl<'a> Typelib<'a> {
         };
         let end = self.file.len().min(at + MAX_IDENTIFIER + 1);
         let bytes = &self.file[at..end];
-        match bytes.iter().position(|&b| !LETTERS[usize::from(b)]) {
-            Some(length) if length > 0 && bytes[length] == 0 => Ok(&bytes[..length]),
+        match bytes.iter().position(|&b| b == 0) {
+            Some(length) if is_identifier(&bytes[..length]) => Ok(&bytes[..length]),
             _ => refused(refusal::IDENTIFIER, field),
         }
     }
