@@ -104,7 +104,7 @@ readable-constant = readable-one (withConstant ∷ []) (omega arith) withConstan
     parents (suc i) = refl
 
 sound-string : Sound withString
-unfolding withString mapEntry mapOwn mapDescriptor mapParent mapMethod mapSignature mapParam mapTy methodFlags paramFlags paramType prefix isIdentifier if_then_else_ _<?_ _=?_ IsLe
+unfolding withString mapEntry mapOwn mapDescriptor mapParent mapMethod mapSignature mapParam mapTy methodFlags paramFlags paramType prefix isIdentifier if_then_else_ _<?_ _≤?_ _=?_ IsLe
 sound-string = record {
   rule = (
     identifier-exactly (0x41 ∷ []) .0 refl,
