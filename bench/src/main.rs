@@ -104,6 +104,37 @@ fn suppliers(count: usize) -> [Vec<u8>; 2] {
     [supplied(&all, 0..count - fifth), supplied(&all, fifth..count)]
 }
 
+/// The first supplier's file after a change to all interfaces.
+fn changed(count: usize, change: fn(&mut Typelib)) -> Vec<u8> {
+    let mut all = interfaces(count);
+    change(&mut all);
+    supplied(&all, 0..count - count / 5)
+}
+
+/// Minor 2 with none of its tags: the whole file is walked for them where a normal form is written.
+fn newer(lib: &mut Typelib) {
+    lib.minor = 2;
+}
+
+/// Names in which some letters have two bytes.
+fn accented(lib: &mut Typelib) {
+    let accent = |name: &mut Vec<u8>| {
+        *name = String::from_utf8_lossy(name).replace('e', "é").into_bytes();
+    };
+    lib.entries.iter_mut().for_each(|entry| accent(&mut entry.name));
+    for d in &mut lib.descriptors {
+        d.methods.iter_mut().for_each(|method| accent(&mut method.name));
+        d.constants.iter_mut().for_each(|constant| accent(&mut constant.name));
+    }
+}
+
+/// Nearly all of the file is annotation texts of characters of four bytes.
+fn long_texts() -> Vec<u8> {
+    let text = "\u{1f6aa}".repeat(65_000).into_bytes();
+    let annotation = Some([text.clone(), text]);
+    Typelib { annotations: vec![annotation.clone(), annotation], ..Typelib::default() }.bytes()
+}
+
 /// Of the entries that it does not resolve a file has every other IID.
 fn supplied(all: &Typelib, resolved: Range<usize>) -> Vec<u8> {
     let mut lib = all.clone();
@@ -422,6 +453,16 @@ fn ordinary(listing: &Listing) -> Outcome<()> {
         row("link with itself", link, &[&file, &file], OTHERS)?;
         self::row(&name, "list", &listing.measure(&file, &ORDINARY)?, Aim::None);
     }
+    let others: [(&str, fn(&mut Typelib)); 2] =
+        [("200 KB, minor 2", newer), ("200 KB, accents", accented)];
+    for (name, change) in others {
+        let file = changed(SIZES[1].1, change);
+        let name = format!("{name} ({} bytes)", file.len());
+        row(&name, "check", &call(Asked::Check, &[&file], &ORDINARY)?, CHECK);
+        row(&name, "normalise", &call(Asked::Normal(MAX_FILE), &[&file], &ORDINARY)?, OTHERS);
+        let link = Asked::Link(MAX_FILE);
+        row(&name, "link with itself", &call(link, &[&file, &file], &ORDINARY)?, OTHERS);
+    }
     Ok(())
 }
 
@@ -452,6 +493,8 @@ fn worst(listing: &Listing) -> Outcome<()> {
         row("link with itself", call(Asked::Link(MAX_FILE), &[file, file], &WORST)?);
         row("list", listing.measure(file, &WORST)?);
     }
+    let texts = call(Asked::Check, &[&long_texts()], &WORST)?;
+    row("m: texts of characters of four bytes", "check", &texts, LONGEST);
     for (name, [first, second]) in &hostile::linked() {
         let measured = call(Asked::Link(MAX_FILE), &[first, second], &WORST)?;
         row(name, "link of two", &measured, LONGEST);
