@@ -87,8 +87,8 @@ enum {
     SANIOTKA_SECOND = 2
 };
 
-/* Refusals that a program may want to tell from the others, which docs/FORMAT.md lists: 1 to 19, 29 and 30 are of a
- * file, and 21 to 25 of a link. */
+/* Refusals that a program may want to tell from the others, which docs/FORMAT.md lists: 1 to 5, 7 to 19, 29 and
+ * 30 are of a file, and 21 to 25 of a link. */
 enum {
     SANIOTKA_MALFORMED = 20,    /* the question; its place is 0 */
     SANIOTKA_OVER_LIMIT = 26,   /* the normal form has more than SANIOTKA_BUFFER bytes; its place is 0 */
@@ -100,7 +100,7 @@ enum {
 /* Is this a typelib?
  *
  *     0, n            it is accepted, and has n interfaces (0 to 1,024)
- *     number, place   it is refused, with the first refusal that applies (1 to 19, 29, 30) and its place
+ *     number, place   it is refused, with the first refusal that applies (docs/FORMAT.md) and its place
  */
 int saniotka_check(const uint8_t *file, size_t length, uint64_t *answer, size_t answers);
 
@@ -113,8 +113,9 @@ int saniotka_check(const uint8_t *file, size_t length, uint64_t *answer, size_t 
 int saniotka_iid(const uint8_t *file, size_t length, const uint8_t *iid, size_t iid_length, uint64_t *answer,
                  size_t answers);
 
-/* Which interface has this key? An empty namespace asks for the default one. Names and namespaces are 1 to 255 letters,
- * digits and `_`, here and below; anything else is malformed. Answered as above.
+/* Which interface has this key? An empty namespace asks for the default one. Names and namespaces are 1 to 255 bytes
+ * of well-formed UTF-8 (RFC 3629), none of them up to 0x20 nor 0x7F, and not a lone `-`, here and below; anything else is malformed. Answered as
+ * above.
  */
 int saniotka_key(const uint8_t *file, size_t length, const uint8_t *space, size_t space_length, const uint8_t *name,
                  size_t name_length, uint64_t *answer, size_t answers);

@@ -1,4 +1,4 @@
--- A word as it is shown to people: no byte of it ends the line or steers a terminal.
+-- A word as it is shown to people: without the control bytes of ASCII, so that none ends the line. Controls that UTF-8 writes in two bytes stand as they are.
 -- Assumes nothing.
 use mathlib.Core.List.{List, [], _∷_}
 use Prim.Native.Nat.{ℕ}

@@ -28,7 +28,7 @@ unfoldable pub slotOf : {R : Type 0} → Chain R → ℕ → SlotOf R
 slotOf (chain above root) p = known (methodsIn above + p)
 slotOf (chain above (unresolved r)) p = unknown r
 
--- The total of an interface's slots, known exactly when its chain reaches a parent of 0: the slot past its last method.
+-- The total of an interface's slots, known exactly when its chain reaches a parent of 0: the number of methods on that chain, which is the slot that a further one would have.
 unfoldable pub totalOf : {R : Type 0} → Chain R → SlotOf R
 totalOf c = slotOf c 0
 

@@ -1,4 +1,4 @@
--- Document 01, "Marked cases": what the listing program prints of its input, as ASCII codes.
+-- Document 01, "Marked cases": what the listing program prints of its input, in ASCII but for names, whose bytes stand as they are.
 -- Assumes nothing.
 use mathlib.Core.List.{List, [], _∷_, _++_}
 use mathlib.Core.Option.{Option, none, some}

@@ -31,8 +31,8 @@ betweenText rule =
 unfoldable pub wordText : ℕ → List ℕ
 wordText rule =
     if rule =? 1 then ascii "an IID has 32 hexadecimal digits and is not zero" else
-    if rule =? 2 then ascii "the namespace is no identifier (1 to 255 letters, digits or _)" else
-    if rule =? 3 then ascii "the name is no identifier (1 to 255 letters, digits or _)" else
+    if rule =? 2 then ascii "the namespace is no identifier (1 to 255 bytes of UTF-8, no space or control byte, not - alone)" else
+    if rule =? 3 then ascii "the name is no identifier (1 to 255 bytes of UTF-8, no space or control byte, not - alone)" else
     if rule =? 4 then ascii "an index runs from 1 to the number of interfaces" else
     ascii "the question is malformed: an IID has 32 digits and is not zero, a name is an identifier, an index runs from 1 to the number of interfaces"
 
@@ -50,12 +50,12 @@ headerText n rule =
 -- 9 to 14: annotations, the directory, pointers and reserved bits
 unfoldable pub directoryText : ℕ → List ℕ
 directoryText n =
-    if n =? 9 then ascii "an annotation has an unknown tag or a bad text, or none is marked last" else
+    if n =? 9 then ascii "an annotation has an unknown tag, or a text that is not UTF-8 or does not fit, or none is marked last" else
     if n =? 10 then ascii "the IIDs fall, or one that is not zero stands twice" else
-    if n =? 11 then ascii "a name is absent, or is not 1 to 255 letters, digits or _ with a zero byte after them" else
+    if n =? 11 then ascii "a name is absent, or has no zero byte after it, or is no identifier (1 to 255 bytes of UTF-8, no space or control byte, not - alone)" else
     if n =? 12 then ascii "an interface has a descriptor but no IID" else
     if n =? 13 then ascii "a pointer leads out of the pool, or a field does not fit in it" else
-    ascii "a reserved bit is set, or a type's tag is reserved (with minor 0 and 1 also 23 utf8string, 24 cstring and 25 the further astring)"
+    ascii "a reserved bit is set, or a type's tag is reserved (with minor 0 also function, dipper and astring; with 0 and 1 also 23 utf8string, 24 cstring and 25 the further astring)"
 
 -- 15 to 20: descriptors, rules across entries, questions
 unfoldable pub ownText : ℕ → ℕ → List ℕ
@@ -78,7 +78,7 @@ linkText n =
     if n =? 26 then ascii "the normal form would have more than 1,048,576 bytes" else
     ascii "the output has room for fewer bytes than are needed"
 
--- all of them
+-- all of them but 29 and 30, whose sentences have numbers of the file in them (crate `reasons`)
 unfoldable pub sentenceText : ℕ → ℕ → List ℕ
 sentenceText n rule =
     if n <? 9 then headerText n rule else

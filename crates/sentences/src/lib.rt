@@ -87,12 +87,12 @@ fn put_word(rule: u8, text: &mut [u8; ROOM], at: usize) -> usize
         2 => text::put_bytes(
             text,
             at,
-            b"the namespace is no identifier (1 to 255 letters, digits or _)",
+            b"the namespace is no identifier (1 to 255 bytes of UTF-8, no space or control byte, not - alone)",
         ),
         3 => text::put_bytes(
             text,
             at,
-            b"the name is no identifier (1 to 255 letters, digits or _)",
+            b"the name is no identifier (1 to 255 bytes of UTF-8, no space or control byte, not - alone)",
         ),
         4 => text::put_bytes(
             text,
@@ -140,7 +140,7 @@ fn put_directory(no: u8, text: &mut [u8; ROOM], at: usize) -> usize
         9 => text::put_bytes(
             text,
             at,
-            b"an annotation has an unknown tag or a bad text, or none is marked last",
+            b"an annotation has an unknown tag, or a text that is not UTF-8 or does not fit, or none is marked last",
         ),
         10 => text::put_bytes(
             text,
@@ -150,7 +150,7 @@ fn put_directory(no: u8, text: &mut [u8; ROOM], at: usize) -> usize
         11 => text::put_bytes(
             text,
             at,
-            b"a name is absent, or is not 1 to 255 letters, digits or _ with a zero byte after them",
+            b"a name is absent, or has no zero byte after it, or is no identifier (1 to 255 bytes of UTF-8, no space or control byte, not - alone)",
         ),
         12 => text::put_bytes(text, at, b"an interface has a descriptor but no IID"),
         13 => text::put_bytes(
@@ -161,7 +161,7 @@ fn put_directory(no: u8, text: &mut [u8; ROOM], at: usize) -> usize
         _ => text::put_bytes(
             text,
             at,
-            b"a reserved bit is set, or a type's tag is reserved (with minor 0 and 1 also 23 utf8string, 24 cstring and 25 the further astring)",
+            b"a reserved bit is set, or a type's tag is reserved (with minor 0 also function, dipper and astring; with 0 and 1 also 23 utf8string, 24 cstring and 25 the further astring)",
         ),
     }
 }
