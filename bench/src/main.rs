@@ -510,9 +510,9 @@ fn said(program: &str, arguments: &[&str]) -> Outcome<String> {
 }
 
 fn processor() -> Outcome<String> {
-    let all = fs::read_to_string("/proc/cpuinfo")?;
-    let name = all.lines().find_map(|line| line.strip_prefix("model name")?.split_once(": "));
-    Ok(name.map_or("unknown", |(_, name)| name).to_string())
+    let all = String::from_utf8(Command::new("lscpu").env("LC_ALL", "C").output()?.stdout)?;
+    let name = all.lines().find_map(|line| line.strip_prefix("Model name:"));
+    Ok(name.map_or("unknown", str::trim).to_string())
 }
 
 fn run(listing: &Listing) -> Outcome<()> {
