@@ -89,7 +89,7 @@ module _ (place limit : ℕ) (s : List ℕ) (l : limit ≤ length s) (p : ℕ) w
 
 -- ---- an annotation
 
-note-shows : (limit : ℕ) (s : List ℕ) (p : ℕ) → limit ≤ length s → Facts (λ a e. ShowsNote s p a e) (readAnnotation limit s p)
+note-shows : (limit : ℕ) (s : List ℕ) (p : ℕ) → limit ≤ length s → Facts (λ a e. ShowsNote ShowsText s p a e) (readAnnotation limit s p)
 unfolding readAnnotation readBody ShowsNote
 note-shows limit s p l =
     f-unless _ _ _ _ _ (λ _. f-if _ _ _ _
@@ -100,12 +100,12 @@ note-shows limit s p l =
     (λ y e v. f-got _ _ _ (from-not-ne _ _ t, (m, w, v)))))))
 
 -- an annotation takes a byte at least
-note-up : (s : List ℕ) (p : ℕ) (a : Annotation) {e : ℕ} → ShowsNote s p a e → p < e
+note-up : (s : List ℕ) (p : ℕ) (a : Annotation) {e : ℕ} → ShowsNote ShowsText s p a e → p < e
 unfolding ShowsNote
 note-up s p empty h = omega arith
 note-up s p (texts x y) (t, (m, u, v)) = omega arith
 
-note-reads : (limit : ℕ) (s : List ℕ) (p : ℕ) (a : Annotation) {e : ℕ} → limit ≤ length s → ShowsNote s p a e → e ≤ limit → readAnnotation limit s p ≡ got a e
+note-reads : (limit : ℕ) (s : List ℕ) (p : ℕ) (a : Annotation) {e : ℕ} → limit ≤ length s → ShowsNote ShowsText s p a e → e ≤ limit → readAnnotation limit s p ≡ got a e
 unfolding readAnnotation readBody ShowsNote next
 note-reads limit s p empty i h l = sym (no-le _ _ _ _ (omega arith) (is-eq _ _ _ _ (h .0) (ap (λ (e : ℕ). got empty e) (h .1))))
 note-reads limit s p (texts x y) i (t, (m, u, v)) l =
@@ -121,7 +121,7 @@ unfolding Marks
 marks-more [] b h l = absurd (omega arith)
 marks-more (a ∷ more) b h l = l
 
-within-shows : (f limit : ℕ) (s : List ℕ) (p : ℕ) → limit ≤ length s → Facts (λ notes e. ShowsNotes s p notes e × NotesRule notes) (annotationsWithin f limit s p)
+within-shows : (f limit : ℕ) (s : List ℕ) (p : ℕ) → limit ≤ length s → Facts (λ notes e. ShowsNotes ShowsText s p notes e × NotesRule notes) (annotationsWithin f limit s p)
 unfolding annotationsWithin ShowsNotes Marks
 within-shows zero limit s p l = f-bad _ _ _
 within-shows (suc f) limit s p l =
@@ -131,17 +131,17 @@ within-shows (suc f) limit s p l =
     (λ t. f-next _ _ _ _ (within-shows f limit s m l)
     (λ more e v. f-got _ _ _ ((marks-more more _ (v .1 .some) (from-not-le _ _ t), (m, w, v .0)), record { some = omega arith }))))
 
-pub notes-show : (limit : ℕ) (s : List ℕ) {notes : List Annotation} {e : ℕ} → limit ≤ length s → readAnnotations limit s ≡ got notes e → ShowsNotes s 32 notes e × NotesRule notes × (e ≤ limit)
+pub notes-show : (limit : ℕ) (s : List ℕ) {notes : List Annotation} {e : ℕ} → limit ≤ length s → readAnnotations limit s ≡ got notes e → ShowsNotes ShowsText s 32 notes e × NotesRule notes × (e ≤ limit)
 unfolding readAnnotations
 notes-show limit s l h = let w = fact _ _ (within-shows limit limit s 32 l) h in (w .0, w .1, notes-end limit s h .1)
 
 -- there are no more annotations than bytes
-pub notes-up : (s : List ℕ) (p : ℕ) (notes : List Annotation) {e : ℕ} → ShowsNotes s p notes e → p + length notes ≤ e
+pub notes-up : (s : List ℕ) (p : ℕ) (notes : List Annotation) {e : ℕ} → ShowsNotes ShowsText s p notes e → p + length notes ≤ e
 unfolding ShowsNotes
 notes-up s p [] h = omega arith
 notes-up s p (a ∷ more) (k, (m, u, v)) = omega (arith, note-up s p a u, notes-up s m more v)
 
-within-reads : (f limit : ℕ) (s : List ℕ) (p : ℕ) (notes : List Annotation) {e : ℕ} → limit ≤ length s → ShowsNotes s p notes e → 0 < length notes → e ≤ limit → length notes ≤ f → annotationsWithin f limit s p ≡ got notes e
+within-reads : (f limit : ℕ) (s : List ℕ) (p : ℕ) (notes : List Annotation) {e : ℕ} → limit ≤ length s → ShowsNotes ShowsText s p notes e → 0 < length notes → e ≤ limit → length notes ≤ f → annotationsWithin f limit s p ≡ got notes e
 unfolding ShowsNotes Marks next
 within-reads f limit s p [] i h o l n = absurd (omega arith)
 within-reads zero limit s p (a ∷ more) i h o l n = absurd (omega arith)
@@ -153,6 +153,6 @@ within-reads (suc f) limit s p (a ∷ b ∷ more) {e} i (k, (m, u, v)) o l n =
     rw (within-suc f limit s p, note-reads limit s p a i u (omega (arith, notes-up s m (b ∷ more) v)))
     (sym (no-le _ _ _ _ k (rw ih refl)))
 
-pub notes-read : (limit : ℕ) (s : List ℕ) {notes : List Annotation} {e : ℕ} → limit ≤ length s → ShowsNotes s 32 notes e → NotesRule notes → e ≤ limit → readAnnotations limit s ≡ got notes e
+pub notes-read : (limit : ℕ) (s : List ℕ) {notes : List Annotation} {e : ℕ} → limit ≤ length s → ShowsNotes ShowsText s 32 notes e → NotesRule notes → e ≤ limit → readAnnotations limit s ≡ got notes e
 unfolding readAnnotations
 notes-read limit s {notes} i h g l = within-reads limit limit s 32 notes i h (g .some) l (omega (arith, notes-up s 32 notes h))

@@ -9,7 +9,7 @@ use lib.ListN.{length, getD, drop, length-drop}
 use Rattle.number.specs.Choice.{if_then_else_, _=?_}
 use Rattle.number.proofs.Choice.{is-eq, no-eq}
 use Rattle.reader.specs.Values.{Entry, Header, empty, typelib}
-use Rattle.reader.specs.Records.{magic, annotationLimit, poolOf, ShowsHeader, ShowsNote, Marks, ShowsNotes, ShowsTypelib}
+use Rattle.reader.specs.Records.{magic, annotationLimit, poolOf, ShowsHeader, ShowsText, ShowsNote, Marks, ShowsNotes, ShowsTypelib}
 use Rattle.reader.specs.Rules.{All, EntryRule}
 use Rattle.meaning.proofs.Maps.{itself}
 use Rattle.normal.specs.BigEndian.{bytesOf}
@@ -49,7 +49,7 @@ header-shows s h a b c d f =
     }
 
 -- one annotation, empty and marked last
-note-shows : (s : List ℕ) → From s 32 noteBytes → ShowsNotes s 32 (empty ∷ []) 33
+note-shows : (s : List ℕ) → From s 32 noteBytes → ShowsNotes ShowsText s 32 (empty ∷ []) 33
 unfolding ShowsNotes ShowsNote Marks noteBytes
 note-shows s h =
     let e : getD s 32 0 ≡ 128 = from-head s 32 128 (0 ∷ 0 ∷ 0 ∷ []) h .value in

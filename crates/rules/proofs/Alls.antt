@@ -15,3 +15,7 @@ module _ {X : Type 0} (P : X → Type 0) (d : X) where
   at-all [] a k l = absurd (omega arith)
   at-all (x ∷ xs) a zero l = a .0
   at-all (x ∷ xs) a (suc k) l = at-all xs (a .1) k (omega arith)
+
+pub all-map : {X : Type 0} {P Q : X → Type 0} → ((x : X) → P x → Q x) → (xs : List X) → All P xs → All Q xs
+all-map f [] h = tt
+all-map f (x ∷ xs) h = (f x (h .0), all-map f xs (h .1))

@@ -19,7 +19,7 @@ use Rattle.head.specs.declared.Header.{Header}
 use Rattle.head.specs.Header.{newest, unknownMinor, readHeader}
 use Rattle.head.specs.Annotation.{readAnnotations, annotationLimit}
 use Rattle.head.specs.Says.{Placed, HeaderAt}
-use Rattle.head.specs.Shows.{ShowsNotes, NotesRule}
+use Rattle.head.specs.Shows.{ShowsText, ShowsNotes, NotesRule}
 use Rattle.head.proofs.HeaderLaws.{header-at, limit-range, placed-fits}
 use Rattle.head.proofs.HeadRules.{header-reads, notes-show, notes-read}
 use Rattle.directory.specs.Directory.{readDirectory}
@@ -90,7 +90,7 @@ module _ (s : List ℕ) (h : Header) where
 -- header, annotations and directory as they were read
 abbrev FrontSays : List ℕ → Front → Type 0
 FrontSays s (front h notes rows) =
-    HeaderAt s h × ((e : ℕ) × ShowsNotes s 32 notes e × (e ≤ annotationLimit h)) × NotesRule notes
+    HeaderAt s h × ((e : ℕ) × ShowsNotes ShowsText s 32 notes e × (e ≤ annotationLimit h)) × NotesRule notes
     × ((e : ℕ) × (readDirectory s (poolOf h s) (h .count) (h .directory) ≡ got rows e))
 
 -- no key stood earlier, and every chain ends
@@ -103,7 +103,7 @@ module _ (s : List ℕ) where
   unfolding readFront readListed
   front-facts =
       f-next _ _ _ _ (f-read (λ h e. HeaderAt s h) (readHeader s) (λ h e q. header-at s q .1)) (λ h _ a.
-      f-next _ _ _ _ (f-read (λ notes e. ShowsNotes s 32 notes e × NotesRule notes × (e ≤ annotationLimit h)) (readAnnotations (annotationLimit h) s) (λ notes e q. notes-show (annotationLimit h) s (limit-range s h a .2) q)) (λ notes e b.
+      f-next _ _ _ _ (f-read (λ notes e. ShowsNotes ShowsText s 32 notes e × NotesRule notes × (e ≤ annotationLimit h)) (readAnnotations (annotationLimit h) s) (λ notes e q. notes-show (annotationLimit h) s (limit-range s h a .2) q)) (λ notes e b.
       f-next _ _ _ _ (f-read (λ rows e. readDirectory s (poolOf h s) (h .count) (h .directory) ≡ got rows e) _ (λ rows e q. q)) (λ rows d q.
       f-got _ _ _ ((a, (e, b .0, b .2), b .1, (d, q)), refl))))
 

@@ -1,3 +1,4 @@
 pub mod Shows
 pub mod Rules
 pub mod Older
+pub mod OlderWords

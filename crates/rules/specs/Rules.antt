@@ -121,14 +121,21 @@ pub record SignatureRule (minor n f : ℕ) (ps : List (Param ℕ)) (r : Param �
   -- unless not-XPCOM or the result has retval, the result is tag 13 or 6 without pointer
   pub resultKind : (bit notXpcomBit f ≡ 1) ⊎ ((bit retvalBit (paramFlags r) ≡ 1) ⊎ (((tagOf (prefix (paramType r)) ≡ voidTag) ⊎ (tagOf (prefix (paramType r)) ≡ uint32Tag)) × (prefix (paramType r) < pointerBit)))
 
+-- Where a rule asks for an identifier, what one is, is its first parameter N.
+abbrev pub MethodRuleOf : (List ℕ → Type 0) → ℕ → ℕ → Method ℕ → Type 0
+MethodRuleOf N minor n (method f w (signature ps r)) = (bitsBelow lowestFlag f ≡ 0) × N w × SignatureRule minor n f ps r
+
 abbrev pub MethodRule : ℕ → ℕ → Method ℕ → Type 0
-MethodRule minor n (method f w (signature ps r)) = (bitsBelow lowestFlag f ≡ 0) × Identifier w × SignatureRule minor n f ps r
+MethodRule = MethodRuleOf Identifier
 
 -- ---- constants and descriptors
 
 -- type byte exactly 1, 2, 5 or 6
+abbrev pub ConstantRuleOf : (List ℕ → Type 0) → Constant → Type 0
+ConstantRuleOf N (constant w k v) = N w × ((k ≡ 1) ⊎ ((k ≡ 2) ⊎ ((k ≡ 5) ⊎ (k ≡ 6))))
+
 abbrev pub ConstantRule : Constant → Type 0
-ConstantRule (constant w k v) = Identifier w × ((k ≡ 1) ⊎ ((k ≡ 2) ⊎ ((k ≡ 5) ⊎ (k ≡ 6))))
+ConstantRule = ConstantRuleOf Identifier
 
 abbrev pub flagsOf : List (Method ℕ) → ℕ → ℕ
 flagsOf ms i = methodFlags (getD ms i noMethod)
@@ -148,34 +155,46 @@ abbrev pub ParentRule : ℕ → Option ℕ → Type 0
 ParentRule n none = Unit {0}
 ParentRule n (some i) = InDirectory n i
 
-pub record DescriptorRules (minor n : ℕ) (up : Option ℕ) (ms : List (Method ℕ)) (ks : List Constant) (f : ℕ) : Type 0 where
+pub record DescriptorRules (N : List ℕ → Type 0) (minor n : ℕ) (up : Option ℕ) (ms : List (Method ℕ)) (ks : List Constant) (f : ℕ) : Type 0 where
   pub parent : ParentRule n up
   pub fewMethods : length ms ≤ ownLimit
-  pub methods : All (MethodRule minor n) ms
+  pub methods : All (MethodRuleOf N minor n) ms
   pub fewConstants : length ks ≤ ownLimit
-  pub constants : All ConstantRule ks
+  pub constants : All (ConstantRuleOf N) ks
   -- six reserved bits, with minor 0 also function
   pub reserved : bitsBelow functionBit f ≡ 0
   pub function : minor ≡ 0 → bit functionBit f ≡ 0
   pub constructors : OneConstructor ms
   pub pairs : GetterPairs ms
 
+abbrev pub DescriptorRuleOf : (List ℕ → Type 0) → ℕ → ℕ → Descriptor ℕ → Type 0
+DescriptorRuleOf N minor n (descriptor up ms ks f) = DescriptorRules N minor n up ms ks f
+
 abbrev pub DescriptorRule : ℕ → ℕ → Descriptor ℕ → Type 0
-DescriptorRule minor n (descriptor up ms ks f) = DescriptorRules minor n up ms ks f
+DescriptorRule = DescriptorRuleOf Identifier
 
 -- ---- entries
 
 -- the default namespace has no bytes
+abbrev pub SpaceRuleOf : (List ℕ → Type 0) → List ℕ → Type 0
+SpaceRuleOf N v = (v ≡ []) ⊎ N v
+
 abbrev pub SpaceRule : List ℕ → Type 0
-SpaceRule v = (v ≡ []) ⊎ Identifier v
+SpaceRule = SpaceRuleOf Identifier
 
 -- a descriptor needs a nonzero IID
+abbrev pub OwnRuleOf : (List ℕ → Type 0) → ℕ → ℕ → ℕ → Option (Descriptor ℕ) → Type 0
+OwnRuleOf N minor n i none = Unit {0}
+OwnRuleOf N minor n i (some d) = (i ≡ 0 → ⊥) × DescriptorRuleOf N minor n d
+
 abbrev pub OwnRule : ℕ → ℕ → ℕ → Option (Descriptor ℕ) → Type 0
-OwnRule minor n i none = Unit {0}
-OwnRule minor n i (some d) = (i ≡ 0 → ⊥) × DescriptorRule minor n d
+OwnRule = OwnRuleOf Identifier
+
+abbrev pub EntryRuleOf : (List ℕ → Type 0) → ℕ → ℕ → Entry ℕ → Type 0
+EntryRuleOf N minor n (entry (key v w) i d) = N w × SpaceRuleOf N v × OwnRuleOf N minor n i d
 
 abbrev pub EntryRule : ℕ → ℕ → Entry ℕ → Type 0
-EntryRule minor n (entry (key v w) i d) = Identifier w × SpaceRule v × OwnRule minor n i d
+EntryRule = EntryRuleOf Identifier
 
 abbrev pub iidOf : List (Entry ℕ) → ℕ → ℕ
 iidOf es i = entryIid (getD es i noEntry)
@@ -209,11 +228,14 @@ NoReturn up n = (i a b : ℕ) → i < n → a < b → climb a up (i + 1) ≡ cli
 abbrev pub NoCycle : List (Entry ℕ) → Type 0
 NoCycle es = NoReturn (aboveIn es) (length es)
 
-pub record EntriesRule (minor n : ℕ) (es : List (Entry ℕ)) : Type 0 where
-  pub each : All (EntryRule minor n) es
+pub record EntriesRuleOf (N : List ℕ → Type 0) (minor n : ℕ) (es : List (Entry ℕ)) : Type 0 where
+  pub each : All (EntryRuleOf N minor n) es
   pub order : InOrder es
   pub keys : UniqueKeys es
   pub chains : NoCycle es
+
+abbrev pub EntriesRule : ℕ → ℕ → List (Entry ℕ) → Type 0
+EntriesRule = EntriesRuleOf Identifier
 
 -- ---- a file
 
@@ -231,5 +253,8 @@ pub record PositionRule (len : ℕ) (h : Header) : Type 0 where
   pub placed : (h .count ≡ 0 → ⊥) → (h .directory % 4 ≡ 0) × (33 ≤ h .directory) × (h .directory + entryWidth * h .count ≤ h .pool)
 
 -- of a file of `len` bytes
+abbrev pub TypelibRuleOf : (List ℕ → Type 0) → ℕ → Typelib → Type 0
+TypelibRuleOf N len (typelib h notes es) = PositionRule len h × NotesRule notes × EntriesRuleOf N (h .minor) (h .count) es
+
 abbrev pub TypelibRule : ℕ → Typelib → Type 0
-TypelibRule len (typelib h notes es) = PositionRule len h × NotesRule notes × EntriesRule (h .minor) (h .count) es
+TypelibRule = TypelibRuleOf Identifier

@@ -15,7 +15,7 @@ use Rattle.key.specs.Key.{key}
 use Rattle.head.specs.declared.Header.{Header}
 use Rattle.head.specs.Header.{magic}
 use Rattle.head.specs.Annotation.{annotationLimit}
-use Rattle.head.specs.Shows.{ShowsNotes}
+use Rattle.head.specs.Shows.{ShowsText, ShowsNotes}
 use Rattle.types.specs.Prefix.{tagOf, StringTag}
 use Rattle.types.specs.Types.{Ty, simple, interface, interfaceIs, array, sized}
 use Rattle.method.specs.Parameter.{Param, param}
@@ -146,7 +146,10 @@ pub record ShowsHeader (s : List ℕ) (h : Header) : Type 0 where
   pub directory : be 4 s 24 ≡ h .directory
   pub pool : be 4 s 28 ≡ h .pool
 
--- header; annotations from 32 on, which end at or before the directory, the pool when there is none; entries, whose pointers lead into the pool
+-- header; annotations from 32 on, their texts as T says, which end at or before the directory, the pool when there is none; entries, whose pointers lead into the pool
+abbrev pub ShowsTypelibOf : (List ℕ → ℕ → List ℕ → ℕ → Type 0) → List ℕ → Typelib → Type 0
+ShowsTypelibOf T s (typelib h notes es) =
+    ShowsHeader s h × ((e : ℕ) × ShowsNotes T s 32 notes e × (e ≤ annotationLimit h)) × ShowsEntries s (poolOf h s) (h .directory) (h .count) es
+
 abbrev pub ShowsTypelib : List ℕ → Typelib → Type 0
-ShowsTypelib s (typelib h notes es) =
-    ShowsHeader s h × ((e : ℕ) × ShowsNotes s 32 notes e × (e ≤ annotationLimit h)) × ShowsEntries s (poolOf h s) (h .directory) (h .count) es
+ShowsTypelib = ShowsTypelibOf ShowsText

@@ -15,7 +15,9 @@ use Rattle.reading.specs.declared.Verdict.{Verdict}
 use Rattle.reading.specs.declared.Verdict.the-variants.{Accepted, Refused}
 use Rattle.rules.specs.Shows.{Bytes, ShowsTypelib}
 use Rattle.rules.specs.Rules.{Identifier, TypelibRule}
+use Rattle.rules.specs.OlderWords.{OlderAccepted}
 use Rattle.rules.proofs.Names as names
+use Rattle.rules.proofs.OlderWords as older
 use Rattle.rules.proofs.Whole as whole
 use Rattle.reader.specs.Reader.{decode, checkOf}
 
@@ -92,6 +94,11 @@ module _ (s : List ℕ) (bytes : Bytes s) where
   pub shown-accepted : (t : Typelib) → ShowsTypelib s t → TypelibRule (length s) t → decode s ≡ got t (length s)
   unfolding decode
   shown-accepted t a r = whole.shown-accepted s bytes t a r
+
+  -- and so is every file that was before names and texts could hold more than ASCII, with the same value
+  pub older-accepted : (t : Typelib) → OlderAccepted s t → decode s ≡ got t (length s)
+  unfolding decode
+  older-accepted t h = older.older-accepted s bytes t h
 
   -- this value is one
   pub shown-one : (t u : Typelib) → ShowsTypelib s t → TypelibRule (length s) t → ShowsTypelib s u → TypelibRule (length s) u → t ≡ u
