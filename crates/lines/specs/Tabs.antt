@@ -11,3 +11,10 @@ tab b = if b =? 10 then 9 else b
 -- each newline of a text so
 unfoldable pub tabbed : List ℕ → List ℕ
 tabbed text = map tab text
+
+-- a tab as a newline, and each of a text so: how a reader of a batch has the text back
+unfoldable pub untab : ℕ → ℕ
+untab b = if b =? 9 then 10 else b
+
+unfoldable pub untabbed : List ℕ → List ℕ
+untabbed text = map untab text
