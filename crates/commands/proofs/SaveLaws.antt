@@ -51,6 +51,7 @@ verb-saves : (b : Bool) (v : Verb) (ws : List (List ℕ)) (first second out : Li
 unfolding verbAnswer
 verb-saves b (verb.Ask q) ws first second out = tt
 verb-saves b verb.List ws first second out = tt
+verb-saves b verb.Table ws first second out = tt
 verb-saves b verb.Normal ws first second out = normal-saves first out
 verb-saves b verb.Link ws first second out = link-saves first second out
 verb-saves b verb.Unknown ws first second out = tt

@@ -4,7 +4,7 @@ use mathlib.Core.Path.{_≡_}
 use mathlib.Core.Bool.{Bool}
 use mathlib.Core.List.{List}
 use Prim.Native.Nat.{ℕ, _≤_}
-use Rattle.words.specs.Words.{wordsOf}
+use Rattle.words.specs.Words.{wordsOf, wordIn}
 use Rattle.verbs.specs.declared.Verb.{Verb}
 use Rattle.verbs.specs.declared.Verb.the-variants as verb
 use Rattle.sayings.specs.declared.Said.{Said}
@@ -18,8 +18,10 @@ use Rattle.link.specs.declared.Linked.{Linked}
 use Rattle.link.specs.declared.Linked.the-variants as linked
 use Rattle.link.specs.Outcome.{normaliseAnswer, normaliseBuffer, linkAnswer, linkBuffer}
 use Rattle.outcomes.specs.Lines.{sayNormalised, sayLinked}
+use Rattle.listed.specs.declared.Opened.{Opened}
 use Rattle.listed.specs.Text.{listSaying}
 use Rattle.listed.specs.Rest.{noRest, Opens}
+use Rattle.tabled.specs.Text.{tableSaying}
 use Rattle.tasks.specs.declared.Mistake.the-variants.{Words}
 use Rattle.tasks.specs.declared.Task.{Task}
 use Rattle.tasks.specs.declared.Task.the-variants.{Mistaken, Run}
@@ -57,6 +59,7 @@ linkedWhose (linked.Refused x) = x .which
 unfoldable pub verbAnswer : Bool → Verb → List (List ℕ) → List ℕ → List ℕ → List ℕ → Answer
 verbAnswer b (verb.Ask q) ws first second out = answered (askedSaying q first ws) out
 verbAnswer b verb.List ws first second out = answered (listSaying b first) out
+verbAnswer b verb.Table ws first second out = answered (tableSaying b first (wordIn 2 ws) (wordIn 3 ws)) out
 verbAnswer b verb.Normal ws first second out =
     let n : Normalised = normaliseAnswer first out in
     record { saying = sayNormalised n; whose = First; save = normalisedSave n; output = normaliseBuffer first out }
@@ -82,7 +85,11 @@ SavedIn room (FirstBytes n) = n ≤ room
 abbrev pub oneLine : Said → Reply
 oneLine said = record { said = said; rest = noRest; whose = First; save = Nothing }
 
--- the answer's text begins at the front of the text buffer, where nothing else was changed, and the rest is what is left of a listing of the file s; the output buffer is as the answer says
+-- the reply that begins with what was opened
+abbrev pub openedReply : Opened → Reply
+openedReply x = record { said = x .said; rest = x .rest; whose = First; save = Nothing }
+
+-- the answer's text begins at the front of the text buffer, where nothing else was changed, and the rest is what is left of a listing, or of a table, of the file s; the output buffer is as the answer says
 pub record Replies (b : Bool) (x : Answer) (s before : List ℕ) (r : Reply) (out after : List ℕ) : Type 0 where
   pub opens : Opens b (x .saying) s before (record { said = r .said; rest = r .rest }) after
   pub whose : r .whose ≡ x .whose

@@ -2,6 +2,7 @@
 use joining::Normalised;
 use link::Linked;
 use link::Which;
+use listed::Opened;
 use listed::Rest;
 use sayings::ANSWER_ROOM;
 use sayings::Said;
@@ -15,7 +16,7 @@ ghost use Prim.Native.Nat.{ℕ};
 ghost use Rattle.words.specs.Words.{wordsOf};
 ghost use Rattle.verbs.specs.declared.Verb.the-variants as verb;
 ghost use Rattle.tasks.specs.Tasks.{inBatch};
-ghost use Rattle.commands.specs.Answer.{oneLine, normalisedSave, linkedSave, linkedWhose, verbAnswer, answerOf, Replies};
+ghost use Rattle.commands.specs.Answer.{oneLine, openedReply, normalisedSave, linkedSave, linkedWhose, verbAnswer, answerOf, Replies};
 
 // What of the output is to be saved: nothing, or its first bytes.
 pub enum Save {
@@ -23,7 +24,7 @@ pub enum Save {
     FirstBytes(usize),
 }
 
-// What was put at the front of the text and why, what is left of a listing after it, of which file a refusal is, and what is to be saved.
+// What was put at the front of the text and why, what is left of a listing or a table after it, of which file a refusal is, and what is to be saved.
 pub struct Reply {
     pub said: Said,
     pub rest: Rest,
@@ -38,6 +39,20 @@ fn answered(said: Said) -> Reply
     Reply {
         said,
         rest: listed::no_rest(),
+        whose: Which::First,
+        save: Save::Nothing,
+    }
+}
+
+// What a listing or a table of the first file begins with.
+fn opened(begun: Opened) -> Reply
+    ensures { λ r. ⌜ r ≡ openedReply begun ⌝ }
+{
+    let said = begun.said;
+    let rest = begun.rest;
+    Reply {
+        said,
+        rest,
         whose: Which::First,
         save: Save::Nothing,
     }
@@ -100,15 +115,26 @@ fn link(first: &[u8], second: &[u8], out: &mut [u8], text: &mut [u8; ANSWER_ROOM
 fn list(file: &[u8], in_batch: bool, text: &mut [u8; ANSWER_ROOM]) -> Reply
     ensures { λ r. ⌜ ((ws : List (List ℕ)) (second out : List ℕ) → Replies «in_batch» (verbAnswer «in_batch» verb.List ws (now (file .entry)) second out) (now (file .entry)) (now (text .entry)) r out (now (text .exit))) ⌝ }
 {
-    let opened = listed::open(file, in_batch, text);
-    let said = opened.said;
-    let rest = opened.rest;
-    Reply {
-        said,
-        rest,
-        whose: Which::First,
-        save: Save::Nothing,
-    }
+    opened(listed::open(file, in_batch, text))
+}
+
+// The command `table`.
+fn table(
+    line: &[u8],
+    separator: u8,
+    file: &[u8],
+    in_batch: bool,
+    text: &mut [u8; ANSWER_ROOM],
+) -> Reply
+    ensures { λ r. ⌜ ((second out : List ℕ) → Replies «in_batch» (verbAnswer «in_batch» verb.Table (wordsOf separator (now (line .entry))) (now (file .entry)) second out) (now (file .entry)) (now (text .entry)) r out (now (text .exit))) ⌝ }
+{
+    let space = words::word(line, separator, 2);
+    let name = words::word(line, separator, 3);
+    let a = space.from;
+    let b = space.end;
+    let c = name.from;
+    let d = name.end;
+    opened(tabled::open(file, &line[a..b], &line[c..d], in_batch, text))
 }
 
 // The command of a line with as many words as it takes.
@@ -126,6 +152,7 @@ fn run(
     match verb {
         Verb::Ask(question) => answered(questions::ask(question, line, separator, first, text)),
         Verb::List => list(first, tasks::in_batch(separator), text),
+        Verb::Table => table(line, separator, first, tasks::in_batch(separator), text),
         Verb::Normal => normal(first, out, text),
         Verb::Link => link(first, second, out, text),
         Verb::Unknown => answered(tasks::tell(Mistake::Words(Verb::Unknown), text)),

@@ -31,6 +31,7 @@ questionWords Constant = ascii "const FILE INDEX NAME"
 unfoldable pub verbWords : Verb → List ℕ
 verbWords (verb.Ask question) = questionWords question
 verbWords verb.List = ascii "list FILE"
+verbWords verb.Table = ascii "table FILE NAMESPACE NAME"
 verbWords verb.Normal = ascii "normal [-f] FILE OUT"
 verbWords verb.Link = ascii "link [-f] A B OUT"
 verbWords verb.Unknown = []

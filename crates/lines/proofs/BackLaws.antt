@@ -53,7 +53,7 @@ tabless-back (b ∷ text) f = rw (back b (f .each .0), tabless-back text (record
 
 -- ---- what has none
 
-no-tabs : Tabless []
+pub no-tabs : Tabless []
 no-tabs = record { each = tt }
 
 one-more : (b : ℕ) (x : List ℕ) → 9 < b → Tabless x → Tabless (b ∷ x)
@@ -64,14 +64,14 @@ tabless-append [] y f g = g
 tabless-append (b ∷ x) y f g = record { each = (f .each .0, tabless-append x y (record { each = f .each .1 }) g .each) }
 
 -- of bytes that are given: by looking
-tabsIn : List ℕ → ℕ
+unfoldable pub tabsIn : List ℕ → ℕ
 tabsIn [] = 0
 tabsIn (b ∷ x) = if b =? 9 then 1 else tabsIn x
 
-looked : (x : List ℕ) → tabsIn x ≡ 0 → Tabless x
+pub tabless-looked : (x : List ℕ) → tabsIn x ≡ 0 → Tabless x
 unfolding tabsIn if_then_else_
-looked [] h = no-tabs
-looked (b ∷ x) h = go (b =? 9) refl (looked x) h
+tabless-looked [] h = no-tabs
+tabless-looked (b ∷ x) h = go (b =? 9) refl (tabless-looked x) h
   where
     go : (t : Bool) → (b =? 9) ≡ t → (tabsIn x ≡ 0 → Tabless x) → (if t then 1 else tabsIn x) ≡ 0 → Tabless (b ∷ x)
     go true e f h = absurd (omega arith)
@@ -79,27 +79,27 @@ looked (b ∷ x) h = go (b =? 9) refl (looked x) h
 
 entry-word-tabless : Tabless entryWord
 unfolding tabsIn if_then_else_ _=?_
-entry-word-tabless = looked entryWord refl
+entry-word-tabless = tabless-looked entryWord refl
 
 method-word-tabless : Tabless methodWord
 unfolding tabsIn if_then_else_ _=?_
-method-word-tabless = looked methodWord refl
+method-word-tabless = tabless-looked methodWord refl
 
 constant-word-tabless : Tabless constantWord
 unfolding tabsIn if_then_else_ _=?_
-constant-word-tabless = looked constantWord refl
+constant-word-tabless = tabless-looked constantWord refl
 
 parent-word-tabless : Tabless parentWord
 unfolding tabsIn if_then_else_ _=?_
-parent-word-tabless = looked parentWord refl
+parent-word-tabless = tabless-looked parentWord refl
 
 unresolved-tabless : Tabless unresolvedWord
 unfolding tabsIn if_then_else_ _=?_
-unresolved-tabless = looked unresolvedWord refl
+unresolved-tabless = tabless-looked unresolvedWord refl
 
 accepted-tabless : Tabless accepted
 unfolding tabsIn if_then_else_ _=?_
-accepted-tabless = looked accepted refl
+accepted-tabless = tabless-looked accepted refl
 
 pub tabless-newline : Tabless newline
 tabless-newline = one-more 10 [] (omega arith) no-tabs

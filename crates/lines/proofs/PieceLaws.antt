@@ -26,12 +26,10 @@ use Rattle.lookup.specs.Question.{slotNumber}
 use Rattle.lines.specs.Cursor.{EntriesLeft, ConstantsLeft, MethodsLeft, Left, PartWritten}
 use Rattle.printed.proofs.LineLaws.{laid-small}
 use Rattle.printed.proofs.TotalLaws.{total-own}
+use Rattle.slots.proofs.CursorLaws.{wrote-none}
 use Rattle.lines.proofs.OwnLaws.{Resolved}
 
 -- ---- nothing written
-
-pub wrote-none : (l : List ℕ) (at : ℕ) → Wrote l at [] at l
-wrote-none l at = record { next = omega arith; stored = refl }
 
 pub part-none : (s : List ℕ) (l : Layout) (before : List ℕ) (at : ℕ) (c : Cursor) (text : List ℕ) → Left s l c text → PartWritten s l before at at before c text
 part-none s l before at c text h = record { bytes = []; rest = text; split = refl; left = h; wrote = wrote-none before at }

@@ -9,7 +9,7 @@ use lib.ListN.{length, take}
 use Rattle.decimal.proofs.Stores.{front}
 use Rattle.reader.specs.declared.Layout.{Layout}
 use Rattle.lines.specs.declared.Cursor.{Cursor}
-use Rattle.lines.specs.declared.Cursor.the-variants.{Done, AtEntry, AtMethods, AtConstants}
+use Rattle.lines.specs.declared.Cursor.the-variants.{Done, AtEntry, AtMethods, AtConstants, AtTable}
 use Rattle.lines.specs.declared.Filled.{Filled}
 use Rattle.lines.specs.declared.Started.{Started}
 use Rattle.printed.specs.Writing.{Wrote}
@@ -47,3 +47,4 @@ printing-all s text l Done done e h = h .split ∙ ap (λ (t : List ℕ). done +
 printing-all s text l (AtEntry i) done e h = absurd (let z : _≡_ {A = ℕ} 0 1 = cc in omega arith)
 printing-all s text l (AtMethods m) done e h = absurd (let z : _≡_ {A = ℕ} 0 1 = cc in omega arith)
 printing-all s text l (AtConstants k) done e h = absurd (let z : _≡_ {A = ℕ} 0 1 = cc in omega arith)
+printing-all s text l (AtTable t) done e h = absurd (let z : _≡_ {A = ℕ} 0 1 = cc in omega arith)

@@ -1,4 +1,4 @@
--- What is left to print at a cursor, in the listing of an accepted file.
+-- What is left to print at a cursor, in the listing of an accepted file or in the table of an interface.
 -- Assumes nothing.
 use mathlib.Core.Path.{_≡_}
 use mathlib.Core.Bool.{Bool, true, false}
@@ -18,7 +18,8 @@ use Rattle.lookup.specs.Chain.{Chain}
 use Rattle.lookup.specs.Method.{slotOf}
 use Rattle.lookup.specs.Question.{slotAs, slotNumber}
 use Rattle.lines.specs.declared.Cursor.{Cursor}
-use Rattle.lines.specs.declared.Cursor.the-variants.{Done, AtEntry, AtMethods, AtConstants}
+use Rattle.slots.specs.Cursor.{RowsLeft, rowTurns}
+use Rattle.lines.specs.declared.Cursor.the-variants.{Done, AtEntry, AtMethods, AtConstants, AtTable}
 use Rattle.lines.specs.declared.Piece.{Piece}
 use Rattle.lines.specs.declared.Filled.{Filled}
 use Rattle.lines.specs.declared.Started.{Started}
@@ -72,6 +73,7 @@ Left s l Done text = text ≡ []
 Left s l (AtEntry i) text = EntriesLeft s l i text
 Left s l (AtMethods m) text = MethodsLeft s l (m .entry) (m .left) (m .at) (m .slot) (m .total) text
 Left s l (AtConstants k) text = ConstantsLeft s l (k .entry) (k .left) (k .at) text
+Left s l (AtTable t) text = RowsLeft s l t text
 
 -- the cursor is one of this file
 pub record Begun (s : List ℕ) (l : Layout) (c : Cursor) : Type 0 where
@@ -95,6 +97,7 @@ isDone Done = true
 isDone (AtEntry i) = false
 isDone (AtMethods m) = false
 isDone (AtConstants k) = false
+isDone (AtTable t) = false
 
 -- no more pieces than this are left, of n entries: no entry has more than 1,024 methods and 1,024 constants
 unfoldable pub turns : ℕ → Cursor → ℕ
@@ -102,6 +105,7 @@ turns n Done = 0
 turns n (AtEntry i) = (n - i) * 4096 + 1
 turns n (AtMethods m) = (n - (m .entry + 1)) * 4096 + 2050 + m .left
 turns n (AtConstants k) = (n - (k .entry + 1)) * 4096 + 2 + k .left
+turns n (AtTable t) = rowTurns t
 
 -- at c nothing is left, or at d fewer pieces are left than at c
 abbrev pub Onward : ℕ → Cursor → Cursor → Type 0

@@ -4,12 +4,12 @@ use reader::Layout;
 ghost use mathlib.Core.Path.{_≡_};
 ghost use mathlib.Core.List.{List};
 ghost use mathlib.Core.Option.{Option};
-ghost use Prim.Native.Nat.{ℕ, _+_, _≤_};
+ghost use Prim.Native.Nat.{ℕ, _≤_};
 ghost use lib.ListN.{drop};
 ghost use Rattle.number.specs.Limits.{fileLimit};
 ghost use Rattle.reader.specs.Values.{Entry};
 ghost use Rattle.reader.specs.Layout.{LaidOut, Lies};
-ghost use Rattle.lookup.specs.Chain.{Chain, ofParent, chainOf};
+ghost use Rattle.lookup.specs.Chain.{ofParent, chainOf};
 ghost use Rattle.lookup.specs.Method.{slotOf};
 ghost use Rattle.lookup.specs.Question.{slotAs, slotNumber};
 ghost use Rattle.lines.specs.Cursor.{ParentAt};
@@ -20,15 +20,4 @@ pub fn slot_base(file: &[u8], pool: &[u8], l: Layout, up: usize) -> Slot
     ensures { λ r. ⌜ ((es : List (Entry ℕ)) → LaidOut (now (file .entry)) l es → (p : Option ℕ) → ParentAt (l .count) up p → r ≡ slotAs (slotOf (ofParent (chainOf es) p) 0)) × (slotNumber r ≤ fileLimit) ⌝ }
 {
     lookup::chains::slot_base(file, pool, l, up)
-}
-
-// The slot k positions after this one.
-pub fn slot_after(slot: Slot, k: usize) -> Slot
-    requires { ⌜ slotNumber slot + k ≤ 1049600 ⌝ }
-    ensures { λ r. ⌜ ((above : Chain ℕ) (p : ℕ) → slot ≡ slotAs (slotOf above p) → r ≡ slotAs (slotOf above (p + k))) × (slotNumber r ≤ slotNumber slot + k) ⌝ }
-{
-    match slot {
-        Slot::Known(s) => Slot::Known(s + k),
-        Slot::Undetermined(r) => Slot::Undetermined(r),
-    }
 }

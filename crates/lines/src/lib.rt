@@ -1,4 +1,4 @@
-// The listing of a typelib, made piece by piece into a lent buffer: it can be far longer than the file.
+// The listing of a typelib and the table of an interface, made piece by piece into a lent buffer: they can be far longer than the file.
 mod base;
 mod pieces;
 pub mod tabs;
@@ -6,6 +6,7 @@ pub mod tabs;
 use lookup::Slot;
 use reader::Layout;
 use reader::Verdict;
+use slots::TableAt;
 ghost use mathlib.Core.Path.{_≡_};
 ghost use Prim.Native.Nat.{_≤_};
 ghost use lib.ListN.{length, drop};
@@ -31,12 +32,13 @@ pub struct ConstantsAt {
     pub at: usize,
 }
 
-// What is to be printed next: nothing, the entry of this number, counted from 0, or what stands under one.
+// What is to be printed next: nothing, the entry of this number, counted from 0, what stands under one, or the rest of a table.
 pub enum Cursor {
     Done,
     AtEntry(usize),
     AtMethods(MethodsAt),
     AtConstants(ConstantsAt),
+    AtTable(TableAt),
 }
 
 // The place after what was written, and what is to be printed next.
@@ -67,6 +69,7 @@ pub fn is_done(c: Cursor) -> bool
         Cursor::AtEntry(_) => false,
         Cursor::AtMethods(_) => false,
         Cursor::AtConstants(_) => false,
+        Cursor::AtTable(_) => false,
     }
 }
 
@@ -94,7 +97,7 @@ fn fill_from(file: &[u8], pool: &[u8], l: Layout, first: Cursor, out: &mut [u8])
     }
 }
 
-// The next lines of the listing, as many as are sure to fit.
+// The next lines, as many as are sure to fit.
 pub fn fill(file: &[u8], l: Layout, c: Cursor, out: &mut [u8]) -> Filled
     requires { ⌜ Begun (now file) l c × (lineRoom ≤ length (now out)) ⌝ }
     ensures { λ r. ⌜ Filling (now (file .entry)) l c (now (out .entry)) r (now (out .exit)) ⌝ }

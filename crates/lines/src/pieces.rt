@@ -1,16 +1,17 @@
-// One piece of the listing: at most one line.
+// One piece of a listing or of a table: at most one line.
 use crate::ConstantsAt;
 use crate::Cursor;
 use crate::MethodsAt;
 use crate::Piece;
 use reader::Layout;
+use slots::TableAt;
 ghost use mathlib.Core.Path.{_≡_};
 ghost use mathlib.Core.List.{List, _++_};
 ghost use Prim.Native.Nat.{ℕ, _+_, _<_};
 ghost use lib.ListN.{drop};
 ghost use Rattle.reader.specs.Values.{Entry, descriptorIn};
 ghost use Rattle.reader.specs.Layout.{LaidOut, Lies};
-ghost use Rattle.lines.specs.declared.Cursor.the-variants.{AtEntry, AtMethods, AtConstants};
+ghost use Rattle.lines.specs.declared.Cursor.the-variants.{AtEntry, AtMethods, AtConstants, AtTable};
 ghost use Rattle.printed.specs.Listing.{ownLines, entryLines};
 ghost use Rattle.printed.specs.Writing.{lineRoom, Room};
 ghost use Rattle.lines.specs.Cursor.{Left, Begun, Moved, turns};
@@ -27,7 +28,7 @@ fn below(file: &[u8], pool: &[u8], l: Layout, i: usize) -> Cursor
     let up = reader::record::parent_index(pool, d - 1);
     let left = reader::record::method_count(pool, d - 1);
     let slot = crate::base::slot_base(file, pool, l, up);
-    let total = crate::base::slot_after(slot, left);
+    let total = slots::moving::slot_after(slot, left);
     Cursor::AtMethods(MethodsAt {
         entry: i,
         left,
@@ -85,7 +86,7 @@ fn method_piece(
     }
     let next = printed::line::put_method(pool, from, slot, total, out, at);
     let end = reader::record::method_end(pool, from);
-    let after = crate::base::slot_after(slot, 1);
+    let after = slots::moving::slot_after(slot, 1);
     Piece {
         at: next,
         cursor: Cursor::AtMethods(MethodsAt {
@@ -131,6 +132,26 @@ fn constant_piece(
     }
 }
 
+// The next line of a table, if one is left.
+fn table_piece(file: &[u8], pool: &[u8], l: Layout, t: TableAt, out: &mut [u8], at: usize) -> Piece
+    requires { ⌜ Begun (now file) l (AtTable t) × ((now pool ≡ drop (l .pool) (now file)) × Room (now out) at lineRoom) ⌝ }
+    ensures { λ r. ⌜ Moved (now (file .entry)) l (AtTable t) (now (out .entry)) at r (now (out .exit)) ⌝ }
+{
+    if slots::is_over(t) {
+        return Piece {
+            at,
+            cursor: Cursor::Done,
+        };
+    }
+    let next = slots::put_piece(file, pool, l, t, out, at);
+    let end = next.at;
+    let table = next.table;
+    Piece {
+        at: end,
+        cursor: Cursor::AtTable(table),
+    }
+}
+
 // What is to be printed next, at most one line of it.
 pub fn put_piece(file: &[u8], pool: &[u8], l: Layout, c: Cursor, out: &mut [u8], at: usize) -> Piece
     requires { ⌜ Begun (now file) l c × ((now pool ≡ drop (l .pool) (now file)) × Room (now out) at lineRoom) ⌝ }
@@ -144,5 +165,6 @@ pub fn put_piece(file: &[u8], pool: &[u8], l: Layout, c: Cursor, out: &mut [u8],
         Cursor::AtEntry(i) => entry_piece(file, pool, l, i, out, at),
         Cursor::AtMethods(m) => method_piece(file, pool, l, m, out, at),
         Cursor::AtConstants(k) => constant_piece(file, pool, l, k, out, at),
+        Cursor::AtTable(t) => table_piece(file, pool, l, t, out, at),
     }
 }

@@ -25,7 +25,7 @@ use Rattle.lines.proofs.BeginLaws.{listed-accepted, entries-start}
 use Rattle.sayings.specs.declared.Said.{Said}
 use Rattle.sayings.specs.declared.Why.the-variants.{Answered, Refused}
 use Rattle.sayings.specs.Texts.{refusedLine}
-use Rattle.sayings.specs.Sayings.{answerRoom, Says, saying, verdictWhy}
+use Rattle.sayings.specs.Sayings.{answerRoom, Saying, Says, saying, verdictWhy}
 use Rattle.listed.specs.declared.Next.{Next}
 use Rattle.listed.specs.declared.Next.the-variants.{Over, Closing, At}
 use Rattle.listed.specs.declared.More.{More}
@@ -33,6 +33,19 @@ use Rattle.listed.specs.declared.Rest.{Rest}
 use Rattle.listed.specs.Text.{shown, closing, listedText, listSaying}
 use Rattle.listed.specs.Rest.{Going, LeftAt, LeftIn, noRest, nothingNext, isOver, buffersAt, restOf, Opens, Filled}
 use Rattle.listed.proofs.RestLaws.{shown-both, length-shown, shown-sets, rest-left}
+
+-- a line that is said is all of the answer
+pub says-opens : (b : Bool) (x : Saying) (s before : List ℕ) (said : Said) (rest : Rest) (after : List ℕ) → Says x before said after → rest ≡ noRest → Opens b x s before (record { said = said; rest = rest }) after
+says-opens b x s before said rest after h e = record {
+  bytes = x .text;
+  rest = [];
+  split = sym (append-nil (x .text));
+  long = h .long;
+  fits = h .fits;
+  why = h .why;
+  stored = h .stored;
+  left = rw e refl;
+}
 
 module _ (b : Bool) (s text : List ℕ) (said : Said) where
   pub opens-refused : (x : Refusal) (r : Rest) (after : List ℕ) → checkOf s ≡ verdict.Refused x → Says (saying (refusedLine x) (Refused x)) text said after → r ≡ noRest → Opens b (listSaying b s) s text (record { said = said; rest = r }) after

@@ -13,7 +13,7 @@ use Rattle.number.specs.Choice.{if_then_else_}
 use Rattle.decimal.proofs.Stores.{front}
 use Rattle.reader.specs.declared.Layout.{Layout}
 use Rattle.lines.specs.declared.Cursor.{Cursor}
-use Rattle.lines.specs.declared.Cursor.the-variants.{Done, AtEntry, AtMethods, AtConstants}
+use Rattle.lines.specs.declared.Cursor.the-variants.{Done, AtEntry, AtMethods, AtConstants, AtTable}
 use Rattle.lines.specs.declared.Filled.{Filled}
 use Rattle.lines.specs.Tabs.{tab, tabbed}
 use Rattle.lines.specs.Cursor.{Left, isDone, turns, Onward, Filling}
@@ -74,6 +74,7 @@ module _ (b : Bool) (s : List ℕ) (l : Layout) (inside : l .pool ≤ length s) 
   rest-left (AtEntry i) lines h = record { going = refl; inside = inside; lines = lines; left = h; whole = refl }
   rest-left (AtMethods m) lines h = record { going = refl; inside = inside; lines = lines; left = h; whole = refl }
   rest-left (AtConstants k) lines h = record { going = refl; inside = inside; lines = lines; left = h; whole = refl }
+  rest-left (AtTable t) lines h = record { going = refl; inside = inside; lines = lines; left = h; whole = refl }
 
 pub rest-few : (b : Bool) (l : Layout) (c : Cursor) → rest.buffers (rest.restOf l b c) ≤ 2 + turns (l .count) c
 unfolding rest.restOf rest.buffersAt rest.afterLines isDone if_then_else_
@@ -85,6 +86,7 @@ rest-few b l Done = done b
 rest-few b l (AtEntry i) = omega arith
 rest-few b l (AtMethods m) = omega arith
 rest-few b l (AtConstants k) = omega arith
+rest-few b l (AtTable t) = omega arith
 
 -- a buffer was filled from a cursor on, and shown
 pub filled-shown : (b : Bool) (s : List ℕ) (l : Layout) (c : Cursor) (text before mid : List ℕ) (f : Filled) (r : Rest) (after : List ℕ)

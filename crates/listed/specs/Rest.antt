@@ -1,4 +1,4 @@
--- What is left of a listing, and what its first line and each buffer after it give.
+-- What is left of a listing or of a table, and what its first line and each buffer after it give.
 -- Assumes nothing.
 use mathlib.Core.Path.{_≡_}
 use mathlib.Core.Bool.{Bool, true, false}
@@ -28,7 +28,7 @@ pub record Going (inBatch : Bool) (s : List ℕ) (l : Layout) (c : Cursor) (text
   pub left : Left s l c lines
   pub whole : text ≡ shown inBatch lines ++ closing inBatch
 
--- the text that is left of the listing of the file s
+-- the text that is left of the listing, or of the table, of the file s
 abbrev pub LeftAt : Bool → List ℕ → Layout → Next → List ℕ → Type 0
 LeftAt inBatch s l Over text = text ≡ []
 LeftAt inBatch s l Closing text = text ≡ newline
@@ -49,7 +49,7 @@ isOver r = nothingNext (r .next)
 abbrev pub noRest : Rest
 noRest = record { layout = record { count = 0; directory = 0; pool = 0 }; next = Over }
 
--- after the last line of a listing
+-- after the last line
 unfoldable pub afterLines : Bool → Next
 afterLines true = Closing
 afterLines false = Over

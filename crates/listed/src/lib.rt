@@ -1,4 +1,4 @@
-// The listing of a file as an answer, buffer by buffer: from before its first line to after its closing newline. In a batch it stands within one line.
+// A listing or a table as an answer, buffer by buffer: from before its first line to after its closing newline. In a batch it stands within one line.
 use lines::Cursor;
 use reader::Layout;
 use reading::Verdict;
@@ -19,7 +19,7 @@ pub enum Next {
     At(Cursor),
 }
 
-// What is left of a listing.
+// What is left of a listing or of a table.
 pub struct Rest {
     pub layout: Layout,
     pub next: Next,
@@ -64,7 +64,7 @@ pub fn is_over(rest: Rest) -> bool
 }
 
 // In a batch the newlines among the first bytes are tabs.
-fn tab(buffer: &mut [u8], n: usize, in_batch: bool)
+pub fn tab(buffer: &mut [u8], n: usize, in_batch: bool)
     requires { ⌜ n ≤ length (now buffer) ⌝ }
     ensures { λ _. ⌜ now (buffer .exit) ≡ shown «in_batch» (take n (now (buffer .entry))) ++ drop n (now (buffer .entry)) ⌝ }
 {
@@ -74,7 +74,7 @@ fn tab(buffer: &mut [u8], n: usize, in_batch: bool)
 }
 
 // What is left at a cursor, and behind its last line.
-fn rest_of(layout: Layout, c: Cursor, in_batch: bool) -> Rest
+pub fn rest_of(layout: Layout, c: Cursor, in_batch: bool) -> Rest
     ensures { λ r. ⌜ r ≡ restOf layout «in_batch» c ⌝ }
 {
     if lines::is_done(c) {
@@ -128,7 +128,7 @@ fn fill(file: &[u8], l: Layout, c: Cursor, in_batch: bool, out: &mut [u8; 65536]
     }
 }
 
-// The next bytes of the listing.
+// The next bytes of the answer.
 pub fn go_on(file: &[u8], rest: Rest, in_batch: bool, out: &mut [u8; 65536]) -> More
     requires { ⌜ ((text : List ℕ) × LeftIn «in_batch» (now file) rest text) ⌝ }
     ensures { λ r. ⌜ Filled «in_batch» (now (file .entry)) rest (now (out .entry)) r (now (out .exit)) ⌝ }

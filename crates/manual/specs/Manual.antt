@@ -25,6 +25,7 @@ answerText Constant = ascii "found, the type of the constant and its value"
 unfoldable pub purposeText : Verb → List ℕ
 purposeText (verb.Ask question) = answerText question
 purposeText verb.List = ascii "every interface with its methods and constants"
+purposeText verb.Table = ascii "every slot of the interface of this name in order, inherited ones first; ? for a slot that is not known"
 purposeText verb.Normal = ascii "writes the normal form of FILE to OUT"
 purposeText verb.Link = ascii "writes the union of A and B to OUT"
 purposeText verb.Unknown = []
@@ -40,7 +41,7 @@ introText = ascii "xpt checks, lists, asks, normalises and links XPCOM typelibs.
 
 -- about a file and its interfaces
 unfoldable pub askingText : List ℕ
-askingText = ((entryText (verb.Ask Check) ++ entryText verb.List) ++ entryText (verb.Ask Iid)) ++ entryText (verb.Ask Key)
+askingText = (((entryText (verb.Ask Check) ++ entryText verb.List) ++ entryText verb.Table) ++ entryText (verb.Ask Iid)) ++ entryText (verb.Ask Key)
 
 -- about the members of an interface
 unfoldable pub memberText : List ℕ
@@ -81,6 +82,7 @@ helpText = (((introText ++ askingText) ++ memberText) ++ outputText) ++ noteText
 unfoldable pub helpOf : Verb → List ℕ
 helpOf (verb.Ask question) = entryText (verb.Ask question)
 helpOf verb.List = entryText verb.List
+helpOf verb.Table = entryText verb.Table
 helpOf verb.Normal = entryText verb.Normal
 helpOf verb.Link = entryText verb.Link
 helpOf verb.Unknown = helpText

@@ -54,6 +54,11 @@ fn put_purpose(verb: Verb, text: &mut [u8; ROOM], at: usize) -> usize
     match verb {
         Verb::Ask(question) => put_answer(question, text, at),
         Verb::List => text::put_bytes(text, at, b"every interface with its methods and constants"),
+        Verb::Table => text::put_bytes(
+            text,
+            at,
+            b"every slot of the interface of this name in order, inherited ones first; ? for a slot that is not known",
+        ),
         Verb::Normal => text::put_bytes(text, at, b"writes the normal form of FILE to OUT"),
         Verb::Link => text::put_bytes(text, at, b"writes the union of A and B to OUT"),
         Verb::Unknown => at,
@@ -73,11 +78,12 @@ fn put_entry(verb: Verb, text: &mut [u8; ROOM], at: usize) -> usize
 }
 
 fn put_asking(text: &mut [u8; ROOM], at: usize) -> usize
-    requires { ⌜ at + 1024 ≤ room ⌝ }
-    ensures { λ r. ⌜ Wrote (now (text .entry)) at askingText r (now (text .exit)) × (r ≤ at + 1024) ⌝ }
+    requires { ⌜ at + 1280 ≤ room ⌝ }
+    ensures { λ r. ⌜ Wrote (now (text .entry)) at askingText r (now (text .exit)) × (r ≤ at + 1280) ⌝ }
 {
     let list = put_entry(Verb::Ask(Question::Check), text, at);
-    let iid = put_entry(Verb::List, text, list);
+    let table = put_entry(Verb::List, text, list);
+    let iid = put_entry(Verb::Table, text, table);
     let key = put_entry(Verb::Ask(Question::Iid), text, iid);
     put_entry(Verb::Ask(Question::Key), text, key)
 }
@@ -163,6 +169,7 @@ pub fn help_of(verb: Verb, text: &mut [u8; ROOM]) -> usize
     match verb {
         Verb::Ask(question) => one(Verb::Ask(question), text),
         Verb::List => one(Verb::List, text),
+        Verb::Table => one(Verb::Table, text),
         Verb::Normal => one(Verb::Normal, text),
         Verb::Link => one(Verb::Link, text),
         Verb::Unknown => help(text),

@@ -54,7 +54,7 @@ pub fn put_entry(file: &[u8], pool: &[u8], l: Layout, i: usize, out: &mut [u8], 
 }
 
 // A slot or a total of slots, `?` for an unknown one.
-fn put_slot(slot: Slot, out: &mut [u8], at: usize) -> usize
+pub fn put_slot(slot: Slot, out: &mut [u8], at: usize) -> usize
     requires { ⌜ Room (now out) at 20 ⌝ }
     ensures { λ r. ⌜ Wrote (now (out .entry)) at (slotText slot) r (now (out .exit)) × (r ≤ at + 20) ⌝ }
 {

@@ -74,13 +74,18 @@ fn say_question(line: &[u8], separator: u8, question: Question, text: &mut [u8; 
     remarks::asked(&line[a..b], question, &line[c..d], text);
 }
 
-// Its words: only a question is malformed.
+// Its words: only a question is malformed, and a table, which has the words of `key`.
 fn say_words(line: &[u8], separator: u8, text: &mut [u8; ROOM])
     requires { ⌜ length (now line) ≤ wordLimit ⌝ }
 {
     if let Task::Run(verb) = tasks::task_of(line, separator) {
-        if let Verb::Ask(question) = verb {
-            say_question(line, separator, question, text);
+        match verb {
+            Verb::Ask(question) => say_question(line, separator, question, text),
+            Verb::Table => say_question(line, separator, Question::Key, text),
+            Verb::List => {}
+            Verb::Normal => {}
+            Verb::Link => {}
+            Verb::Unknown => {}
         }
     }
 }

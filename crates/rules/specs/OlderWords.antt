@@ -28,7 +28,7 @@ pub record OlderText (s : List ℕ) (p : ℕ) (x : List ℕ) (e : ℕ) : Type 0 
   pub ends : e ≡ p + 2 + length x
   pub bytes : part s (p + 2) e ≡ x
 
--- the file was accepted with this value
+-- the file was accepted with this value: today's rules but for names and texts
 pub record OlderAccepted (s : List ℕ) (t : Typelib) : Type 0 where
   pub shows : ShowsTypelibOf OlderText s t
   pub obeys : TypelibRuleOf OlderIdentifier (length s) t

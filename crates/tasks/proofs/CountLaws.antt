@@ -19,6 +19,7 @@ words-few (verb.Ask Method) = omega arith
 words-few (verb.Ask Slot) = omega arith
 words-few (verb.Ask Constant) = omega arith
 words-few verb.List = omega arith
+words-few verb.Table = omega arith
 words-few verb.Normal = omega arith
 words-few verb.Link = omega arith
 words-few verb.Unknown = omega arith
@@ -28,6 +29,7 @@ unfolding filesOf filesRead
 files-few (Mistaken m) = omega arith
 files-few (Run (verb.Ask q)) = omega arith
 files-few (Run verb.List) = omega arith
+files-few (Run verb.Table) = omega arith
 files-few (Run verb.Normal) = omega arith
 files-few (Run verb.Link) = omega arith
 files-few (Run verb.Unknown) = omega arith

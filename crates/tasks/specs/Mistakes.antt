@@ -17,9 +17,10 @@ wordsAre v = ascii "error the words are: " ++ (verbWords v ++ newline)
 unfoldable pub usageText : Verb → List ℕ
 usageText (verb.Ask q) = wordsAre (verb.Ask q)
 usageText verb.List = wordsAre verb.List
+usageText verb.Table = wordsAre verb.Table
 usageText verb.Normal = wordsAre verb.Normal
 usageText verb.Link = wordsAre verb.Link
-usageText verb.Unknown = ascii "error unknown command; the commands are: check list iid key method slot const normal link\n"
+usageText verb.Unknown = ascii "error unknown command; the commands are: check list table iid key method slot const normal link\n"
 
 unfoldable pub mistakeText : Mistake → List ℕ
 mistakeText Blank = ascii "error the line is blank\n"

@@ -23,6 +23,7 @@ inBatch separator = separator =? 32
 unfoldable pub writesFile : Verb → Bool
 writesFile (verb.Ask q) = false
 writesFile verb.List = false
+writesFile verb.Table = false
 writesFile verb.Normal = true
 writesFile verb.Link = true
 writesFile verb.Unknown = false
@@ -60,6 +61,7 @@ taskOf separator line = if inBatch separator then lineTask line else wordsTask (
 unfoldable pub filesRead : Verb → ℕ
 filesRead (verb.Ask q) = 1
 filesRead verb.List = 1
+filesRead verb.Table = 1
 filesRead verb.Normal = 1
 filesRead verb.Link = 2
 filesRead verb.Unknown = 0

@@ -40,6 +40,7 @@ fn writes_file(verb: Verb) -> bool
     match verb {
         Verb::Ask(_) => false,
         Verb::List => false,
+        Verb::Table => false,
         Verb::Normal => true,
         Verb::Link => true,
         Verb::Unknown => false,
@@ -130,6 +131,7 @@ fn files_read(verb: Verb) -> usize
     match verb {
         Verb::Ask(_) => 1,
         Verb::List => 1,
+        Verb::Table => 1,
         Verb::Normal => 1,
         Verb::Link => 2,
         Verb::Unknown => 0,
@@ -191,10 +193,11 @@ fn usage(verb: Verb, text: &mut [u8; ANSWER_ROOM]) -> Said
     match verb {
         Verb::Ask(question) => question_usage(question, text),
         Verb::List => sayings::mistake(b"error the words are: list FILE\n", text),
+        Verb::Table => sayings::mistake(b"error the words are: table FILE NAMESPACE NAME\n", text),
         Verb::Normal => sayings::mistake(b"error the words are: normal [-f] FILE OUT\n", text),
         Verb::Link => sayings::mistake(b"error the words are: link [-f] A B OUT\n", text),
         Verb::Unknown => sayings::mistake(
-            b"error unknown command; the commands are: check list iid key method slot const normal link\n",
+            b"error unknown command; the commands are: check list table iid key method slot const normal link\n",
             text,
         ),
     }

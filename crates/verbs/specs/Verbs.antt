@@ -8,12 +8,15 @@ use Rattle.verbs.specs.declared.Question.the-variants.{Check, Iid, Key, 
 use Rattle.verbs.specs.declared.Verb.{Verb}
 use Rattle.verbs.specs.declared.Verb.the-variants as verb
 
--- the words `check`, `list`, `iid`, `key`, `method`, `slot`, `const`, `normal` and `link`
+-- the words `check`, `list`, `table`, `iid`, `key`, `method`, `slot`, `const`, `normal` and `link`
 abbrev pub check : List ℕ
 check = 99 ∷ 104 ∷ 101 ∷ 99 ∷ 107 ∷ []
 
 abbrev pub list : List ℕ
 list = 108 ∷ 105 ∷ 115 ∷ 116 ∷ []
+
+abbrev pub table : List ℕ
+table = 116 ∷ 97 ∷ 98 ∷ 108 ∷ 101 ∷ []
 
 abbrev pub iid : List ℕ
 iid = 105 ∷ 105 ∷ 100 ∷ []
@@ -56,6 +59,7 @@ questionOf w =
 unfoldable pub verbOf : List ℕ → Verb
 verbOf w =
     if sameWord w list then verb.List else
+    if sameWord w table then verb.Table else
     if sameWord w normal then verb.Normal else
     if sameWord w link then verb.Link else
     questionOf w
@@ -76,6 +80,8 @@ wordsIn (verb.Ask Slot) = 4
 wordsIn (verb.Ask Constant) = 4
 -- list FILE
 wordsIn verb.List = 2
+-- table FILE NAMESPACE NAME
+wordsIn verb.Table = 4
 -- normal FILE OUT
 wordsIn verb.Normal = 3
 -- link A B OUT

@@ -19,6 +19,7 @@ pub enum Question {
 pub enum Verb {
     Ask(Question),
     List,
+    Table,
     Normal,
     Link,
     Unknown,
@@ -63,6 +64,9 @@ pub fn verb_of(word: &[u8]) -> Verb
     if words::is_same(word, b"list") {
         return Verb::List;
     }
+    if words::is_same(word, b"table") {
+        return Verb::Table;
+    }
     if words::is_same(word, b"normal") {
         return Verb::Normal;
     }
@@ -92,6 +96,7 @@ pub fn words_of(verb: Verb) -> usize
     match verb {
         Verb::Ask(question) => words_asked(question),
         Verb::List => 2,
+        Verb::Table => 4,
         Verb::Normal => 3,
         Verb::Link => 4,
         Verb::Unknown => 0,

@@ -14,19 +14,25 @@ returns-2 : tie.Need-returns-2
 returns-2 c = rw (c .before .before .before .enum-told .given .1, ← c .before .before .in-batch .ensures) (c .list .ensures _ _ _)
 
 returns-3 : tie.Need-returns-3
-returns-3 c = rw (c .before .before .before .before .before .enum-told2 .given .1) (c .before .before .normal .ensures _ _ _)
+returns-3 c = rw (c .before .before .before .enum-told2 .given .1, ← c .before .before .in-batch2 .ensures) (c .table .ensures _ _)
 
 returns-4 : tie.Need-returns-4
-returns-4 c = rw (c .before .before .before .before .before .enum-told3 .given .1) (c .before .before .link .ensures _ _)
+returns-4 c = rw (c .before .before .before .before .before .enum-told3 .given .1) (c .before .before .normal .ensures _ _ _)
 
 returns-5 : tie.Need-returns-5
+returns-5 c = rw (c .before .before .before .before .before .enum-told4 .given .1) (c .before .before .link .ensures _ _)
+
+returns-6 : tie.Need-returns-6
 unfolding verbAnswer
-returns-5 c = rw (c .before .before .before .enum-told4 .given .1) (says-replies _ _ _ _ _ _ _ _ (c .before .tell .ensures) (c .answered2 .ensures))
+returns-6 c = rw (c .before .before .before .enum-told5 .given .1) (says-replies _ _ _ _ _ _ _ _ (c .before .tell .ensures) (c .answered2 .ensures))
 
 pub run-spec : {M : Type 1} → statement M
 run-spec =
     tie.close
     (tie.spec
+    (λ c. search needs)
+    (λ c κs. search needs)
+    (λ c κs. search needs)
     (λ c. search needs)
     (λ c κs. search needs)
     (λ c κs. search needs)
@@ -42,8 +48,9 @@ run-spec =
     (λ c κs. search needs)
     returns
     returns-2
-    (λ c. search needs)
     returns-3
     (λ c. search needs)
     returns-4
-    returns-5)
+    (λ c. search needs)
+    returns-5
+    returns-6)

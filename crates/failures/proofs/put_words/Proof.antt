@@ -25,7 +25,11 @@ returns-4 c = (rw (c .before .before .before .enum-told3 .given .1) (wrote _ _ _
 
 returns-5 : tie.Need-returns-5
 unfolding verbWords
-returns-5 c = (rw (c .enum-told4 .given .1) (none-written _ _), omega arith)
+returns-5 c = (rw (c .before .before .before .enum-told4 .given .1) (wrote _ _ _ (c .put-bytes4 .ensures)), omega arith)
+
+returns-6 : tie.Need-returns-6
+unfolding verbWords
+returns-6 c = (rw (c .enum-told5 .given .1) (none-written _ _), omega arith)
 
 pub put-words-spec : {M : Type 1} → statement M
 put-words-spec =
@@ -43,8 +47,12 @@ put-words-spec =
     (λ c. search needs)
     (λ c κs. search needs)
     (λ c. search needs)
+    (λ c. search needs)
+    (λ c κs. search needs)
+    (λ c. search needs)
     returns
     returns-2
     returns-3
     returns-4
-    returns-5)
+    returns-5
+    returns-6)

@@ -21,7 +21,21 @@ returns-4 : tie.Need-returns-4
 unfolding isDone
 returns-4 c = ap isDone (sym (c .enum-told4 .given .1))
 
+returns-5 : tie.Need-returns-5
+unfolding isDone
+returns-5 c = ap isDone (sym (c .enum-told5 .given .1))
+
 pub is-done-spec : {M : Type 1} → statement M
 is-done-spec =
     tie.close
-    (tie.spec (λ c. search needs) (λ c. search needs) (λ c. search needs) (λ c. search needs) returns returns-2 returns-3 returns-4)
+    (tie.spec
+    (λ c. search needs)
+    (λ c. search needs)
+    (λ c. search needs)
+    (λ c. search needs)
+    (λ c. search needs)
+    returns
+    returns-2
+    returns-3
+    returns-4
+    returns-5)

@@ -23,7 +23,11 @@ returns-4 c = rw (c .before .before .enum-told3 .given .1) (c .one4 .ensures)
 
 returns-5 : tie.Need-returns-5
 unfolding helpOf
-returns-5 c = rw (c .before .before .enum-told4 .given .1) (c .help .ensures)
+returns-5 c = rw (c .before .before .enum-told4 .given .1) (c .one5 .ensures)
+
+returns-6 : tie.Need-returns-6
+unfolding helpOf
+returns-6 c = rw (c .before .before .enum-told5 .given .1) (c .help .ensures)
 
 pub help-of-spec : {M : Type 1} → statement M
 help-of-spec =
@@ -39,8 +43,11 @@ help-of-spec =
     (λ c κs. search needs)
     (λ c. search needs)
     (λ c κs. search needs)
+    (λ c. search needs)
+    (λ c κs. search needs)
     returns
     returns-2
     returns-3
     returns-4
-    returns-5)
+    returns-5
+    returns-6)

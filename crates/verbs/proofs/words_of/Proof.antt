@@ -24,6 +24,10 @@ returns-5 : tie.Need-returns-5
 unfolding wordsIn
 returns-5 c = rw (c .enum-told4 .given .1) refl
 
+returns-6 : tie.Need-returns-6
+unfolding wordsIn
+returns-6 c = rw (c .enum-told5 .given .1) refl
+
 pub words-of-spec : {M : Type 1} → statement M
 words-of-spec =
     tie.close
@@ -34,8 +38,10 @@ words-of-spec =
     (λ c. search needs)
     (λ c. search needs)
     (λ c. search needs)
+    (λ c. search needs)
     returns
     returns-2
     returns-3
     returns-4
-    returns-5)
+    returns-5
+    returns-6)

@@ -23,6 +23,11 @@ constant-piece-requires c κs =
     let p = c .before .before .before .before .before .before .before .pre in
     (rw (← c .before .before .c3 .given .1) (p .0), p .1)
 
+table-piece-requires : tie.Need-table-piece-requires
+table-piece-requires c κs =
+    let p = c .before .before .before .before .before .before .before .pre in
+    (rw (← c .before .before .c4 .given .1) (p .0), p .1)
+
 returns : tie.Need-returns
 unfolding isDone
 returns c =
@@ -40,10 +45,14 @@ put-piece-spec =
     method-piece-requires
     (λ c. search needs)
     constant-piece-requires
+    (λ c. search needs)
+    table-piece-requires
     returns
     (λ c. search needs)
     (λ c. rw (c .before .before .before .before .before .c .given .1) (c .before .before .entry-piece .ensures))
     (λ c. search needs)
     (λ c. rw (c .before .before .before .before .before .c2 .given .1) (c .before .before .method-piece .ensures))
     (λ c. search needs)
-    (λ c. rw (c .before .before .before .before .before .c3 .given .1) (c .before .before .constant-piece .ensures)))
+    (λ c. rw (c .before .before .before .before .before .c3 .given .1) (c .before .before .constant-piece .ensures))
+    (λ c. search needs)
+    (λ c. rw (c .before .before .before .before .before .c4 .given .1) (c .before .before .table-piece .ensures)))

@@ -1,10 +1,10 @@
--- `lines::base::slot_after` meets its contract, by each of the two slots.
+-- `slots::moving::slot_after` meets its contract, by each of the two slots.
 -- Assumes nothing.
 use Rattle.number.proofs.Tools.{ap, arith, needs}
 use Rattle.lookup.specs.Question.{slotNumber}
-use Rattle.lines.proofs.SlotLaws.{slot-more, slot-unknown}
-use Rattle.lines.proofs.base.slot_after.Statement.{statement}
-use Rattle.lines.proofs.base.slot_after.Tie as tie
+use Rattle.slots.proofs.MovingLaws.{slot-more, slot-unknown}
+use Rattle.slots.proofs.moving.slot_after.Statement.{statement}
+use Rattle.slots.proofs.moving.slot_after.Tie as tie
 
 add-t6 : tie.Need-add-t6
 unfolding slotNumber
