@@ -194,8 +194,7 @@ fn own<'a>(lib: &Accepted<'a>, descriptor: usize) -> Names<'a> {
     let (mut methods, mut constants) = (Vec::new(), Vec::new());
     for _ in 0..walk.pair() {
         let (flags, name, _) = walk.method();
-        let kind = Kind::ALL.into_iter().find(|kind| kind.is(flags)).expect("a kind");
-        methods.push((kind, walk.identifier(name)));
+        methods.push((Kind::of(flags), walk.identifier(name)));
     }
     for _ in 0..walk.pair() {
         let (name, ..) = walk.constant();

@@ -19,7 +19,8 @@
 //!   `linked/src/saniotka/lists.rs` and its enums beside that, a kind of `Asked` in
 //!   `library/cases.rs`, its numbers in `library/lists.rs`, and a driver beside
 //!   `library/questions.rs`;
-//! - a command of `xpt`: its answer in `line/answers.rs`, a method of `Script`, and a story.
+//! - a command of `xpt`: its answer in `line/answers.rs`, its words in `line/malformed.rs`, a method
+//!   of `Script`, and a story.
 
 pub mod library;
 pub mod line;

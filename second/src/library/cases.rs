@@ -103,10 +103,6 @@ impl Program {
     }
 }
 
-pub fn kind_word(kind: Kind) -> String {
-    format!("{kind:?}").to_lowercase()
-}
-
 impl Question {
     /// A question from its words, names in hexadecimal.
     pub fn parse(line: &str) -> Option<Question> {
@@ -115,7 +111,7 @@ impl Question {
             ["iid", iid] => Question::Iid(bytes(iid)?),
             ["key", space, name] => Question::Key(bytes(space)?, bytes(name)?),
             ["method", index, name, kind] => {
-                let kind = Kind::ALL.into_iter().find(|k| kind_word(*k) == kind)?;
+                let kind = Kind::ALL.into_iter().find(|k| k.word() == kind)?;
                 Question::Method(index.parse().ok()?, bytes(name)?, kind)
             }
             ["slot", index, slot] => Question::Slot(index.parse().ok()?, slot.parse().ok()?),

@@ -173,7 +173,7 @@ fn method_question(lib: &Typelib, rng: &mut Rng) -> Made {
         let name = generate::identifier(rng, 3);
         return ("any name", Question::Method(index, name, *rng.pick(&Kind::ALL)));
     };
-    let own = *Kind::ALL.iter().find(|kind| kind.is(method.flags)).unwrap();
+    let own = Kind::of(method.flags);
     let kind = if rng.percent(20) { *rng.pick(&Kind::ALL) } else { own };
     let (what, name) = name(rng, ["a method's name", "nearly a method's name"], &method.name);
     (what, Question::Method(index, name, kind))

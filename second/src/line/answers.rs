@@ -1,9 +1,9 @@
 //! What each command of `xpt` must answer, by this program's functions, and a question's words.
 
 use super::iids;
-use crate::library::{cases::kind_word, cases::shown, questions::Found, questions::Question, OWN};
+use crate::library::{cases::shown, questions::Found, questions::Question, questions::Reply, OWN};
 use crate::making::rng::Rng;
-use crate::program::questions::{Constant, Lookup, Method, Slot};
+use crate::program::questions::{of, Constant, Lookup, Method, Slot};
 use crate::program::{check::word, listing::list, refusal, Refusal, MAX_FILE};
 use std::sync::Arc;
 
@@ -15,7 +15,8 @@ pub type Words = Vec<Vec<u8>>;
 #[derive(Default)]
 pub struct Outcome {
     /// What stands on standard output before a newline. Nothing where any error will do. Lines
-    /// of a listing have their newlines; in a batch they are tabs.
+    /// of a listing and of a table have their newlines; in a batch they are tabs. A table may have
+    /// no line.
     pub text: Option<Vec<u8>>,
     /// Whether one line that starts with `error ` will do: where it cannot be asked, and where the
     /// papers leave open whether it can.
@@ -50,6 +51,9 @@ impl Outcome {
     /// The first line of what was printed, and the rest, if it is this answer.
     pub fn eat<'p>(&self, printed: &'p [u8], alone: bool) -> Option<(&'p [u8], &'p [u8])> {
         let is_error = self.or_error && printed.starts_with(b"error ");
+        if alone && !is_error && self.text.as_ref().is_some_and(Vec::is_empty) {
+            return Some((&[], printed));
+        }
         let text = self.text.as_ref().filter(|_| !is_error).map(|text| match alone {
             true => text.strip_suffix(b"\n").unwrap_or(text).to_vec(),
             false => text.iter().map(|byte| if *byte == b'\n' { b'\t' } else { *byte }).collect(),
@@ -132,8 +136,28 @@ pub fn written(files: &[&[u8]]) -> Outcome {
     }
 }
 
-pub fn asked(file: &[u8], question: &Question) -> Outcome {
-    let (what, text) = match OWN.ask(file, question) {
+/// What a question is answered by this command.
+pub fn asked(command: &str, file: &[u8], question: &Question) -> Outcome {
+    match (command, question) {
+        ("table", Question::Key(space, name)) => tabled(file, space, name),
+        _ => told(OWN.ask(file, question)),
+    }
+}
+
+fn tabled(file: &[u8], space: &[u8], name: &[u8]) -> Outcome {
+    let (what, text) = match of(file, |lib| lib.table(space, name)) {
+        Lookup::Found(lines) if !lines.starts_with(b"undetermined ") => ("complete", lines),
+        Lookup::Found(lines) if lines.iter().filter(|byte| **byte == b'\n').count() > 1 => {
+            ("incomplete", lines)
+        }
+        Lookup::Found(lines) => ("nothing known", lines),
+        other => return told(other.map(|_| unreachable!("it is not found"))),
+    };
+    Outcome::line(what, text)
+}
+
+fn told(reply: Reply) -> Outcome {
+    let (what, text) = match reply {
         Lookup::Found(Found::Interface(index)) => ("found", format!("found {index}")),
         Lookup::Found(Found::Method(Method { owner, position, slot, distance, total })) => {
             let (what, slot) = match slot {
@@ -182,18 +206,29 @@ fn decimal(number: u64, rng: &mut Rng) -> Vec<u8> {
     format!("{}{number}", "0".repeat(zeros)).into()
 }
 
-/// The command that asks, and the words after the file's.
-pub fn question_words(question: &Question, rng: &mut Rng) -> (&'static str, Words) {
+/// The command that asks.
+pub fn command(question: &Question) -> &'static str {
     match question {
-        Question::Iid(iid) => ("iid", vec![iids::spelled(hex(iid, rng), rng)]),
+        Question::Iid(_) => "iid",
+        Question::Key(..) => "key",
+        Question::Method(..) => "method",
+        Question::Slot(..) => "slot",
+        Question::Constant(..) => "const",
+    }
+}
+
+/// A question's words after the file's.
+pub fn question_words(question: &Question, rng: &mut Rng) -> Words {
+    match question {
+        Question::Iid(iid) => vec![iids::spelled(hex(iid, rng), rng)],
         Question::Key(space, name) => {
             let space = if space.is_empty() { b"-" } else { &space[..] };
-            ("key", vec![space.to_vec(), name.clone()])
+            vec![space.to_vec(), name.clone()]
         }
         Question::Method(index, name, kind) => {
-            ("method", vec![decimal(*index, rng), name.clone(), kind_word(*kind).into_bytes()])
+            vec![decimal(*index, rng), name.clone(), kind.word().into()]
         }
-        Question::Slot(index, slot) => ("slot", vec![decimal(*index, rng), decimal(*slot, rng)]),
-        Question::Constant(index, name) => ("const", vec![decimal(*index, rng), name.clone()]),
+        Question::Slot(index, slot) => vec![decimal(*index, rng), decimal(*slot, rng)],
+        Question::Constant(index, name) => vec![decimal(*index, rng), name.clone()],
     }
 }

@@ -27,9 +27,10 @@ pub fn every_kind(script: &mut Script, file: &Name, good: &Name, out: &Name) {
 }
 
 /// The words that each command takes.
-const USAGES: [&str; 9] = [
+const USAGES: [&str; 10] = [
     "check FILE",
     "list FILE",
+    "table FILE NAMESPACE NAME",
     "iid FILE HEX",
     "key FILE NAMESPACE NAME",
     "method FILE INDEX NAME getter|setter|plain",
@@ -39,7 +40,7 @@ const USAGES: [&str; 9] = [
     "link [-f] A B OUT",
 ];
 
-const COMMANDS: &str = "check list iid key method slot const normal link";
+const COMMANDS: &str = "check list table iid key method slot const normal link";
 
 /// What the error says, of the kinds where that is fixed.
 fn told(kind: &str, words: &[Vec<u8>]) -> Option<String> {
@@ -56,7 +57,7 @@ fn told(kind: &str, words: &[Vec<u8>]) -> Option<String> {
 }
 
 /// Every command, with good words.
-const GOOD: [&str; 11] = [
+const GOOD: [&str; 12] = [
     "check F",
     "list F",
     "normal F O",
@@ -65,6 +66,7 @@ const GOOD: [&str; 11] = [
     "link -f F G O",
     "iid F 00000000000000000000000000000001",
     "key F - A",
+    "table F - A",
     "method F 1 m plain",
     "slot F 1 0",
     "const F 1 K",
@@ -198,8 +200,10 @@ pub fn empty_words(script: &mut Script, file: &Name) {
         step.outcome.or_error = !alone || !strictly;
     };
     ask("iid", &[""], true, Question::Iid(Vec::new()));
-    ask("key", &["-", ""], true, Question::Key(Vec::new(), Vec::new()));
-    ask("key", &["", "A"], false, Question::Key(Vec::new(), b"A".to_vec()));
+    for command in ["key", "table"] {
+        ask(command, &["-", ""], true, Question::Key(Vec::new(), Vec::new()));
+        ask(command, &["", "A"], false, Question::Key(Vec::new(), b"A".to_vec()));
+    }
     ask("const", &["1", ""], true, Question::Constant(1, Vec::new()));
     ask("method", &["1", "", "plain"], true, Question::Method(1, Vec::new(), Kind::Plain));
 }

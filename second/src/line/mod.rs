@@ -43,6 +43,7 @@ fn batch(s: &mut Script, supply: &Supply, k: usize) {
     }
     (0..60).for_each(|_| stories::asked(s, 36));
     for _ in 0..8 {
+        stories::tabled(s);
         stories::linked(s);
         stories::normalised(s);
     }
@@ -79,6 +80,7 @@ fn alone(s: &mut Script, supply: &Supply, k: usize) {
     }
     let one = stories::placed(s);
     stories::asked(s, 12);
+    stories::tabled(s);
     stories::every_answer(s);
     let bad = supply.refused(k);
     bad.iter().for_each(|bytes| stories::checked(s, bytes, &one));

@@ -260,15 +260,24 @@ impl Script {
         self.command(&["list"], &[file], Vec::new(), &|files| answers::listed(files[0]));
     }
 
+    pub fn ask(&mut self, file: &Name, question: &Question) {
+        self.ask_by(answers::command(question), file, question);
+    }
+
+    /// The table of the interface of a key.
+    pub fn table(&mut self, file: &Name, key: &Question) {
+        self.ask_by("table", file, key);
+    }
+
     /// One question, if it can be put so: a line has no spaces inside words, and the words of a
     /// command alone have no zero bytes and are not very long.
-    pub fn ask(&mut self, file: &Name, question: &Question) {
+    fn ask_by(&mut self, command: What, file: &Name, question: &Question) {
         let question = match question {
             // The word `-` is the default namespace.
             Question::Key(space, name) if space == b"-" => Question::Key(Vec::new(), name.clone()),
             question => question.clone(),
         };
-        let (command, words) = answers::question_words(&question, &mut self.rng);
+        let words = answers::question_words(&question, &mut self.rng);
         let cannot = if self.alone { &b"\0"[..] } else { b" \n" };
         let is_long = words.iter().map(Vec::len).sum::<usize>() > LONGEST_LINE - 1_000;
         if words.iter().flatten().any(|byte| cannot.contains(byte)) || self.alone && is_long {
@@ -288,6 +297,7 @@ impl Script {
         let is_empty = words.iter().any(Vec::is_empty);
         let step = self.ask_so(file, command, words, &question);
         step.counts.extend(spelling(step));
+        step.counts.extend(owners(step));
         if is_long || is_empty {
             let what = if is_long { "over 65,535 bytes" } else { "with an empty word" };
             step.counts.push(("line", what, None));
@@ -297,7 +307,7 @@ impl Script {
 
     /// One question in these words after the file's.
     pub fn ask_so(&mut self, file: &Name, command: What, words: Words, q: &Question) -> &mut Step {
-        self.command(&[command], &[file], words, &|files| answers::asked(files[0], q))
+        self.command(&[command], &[file], words, &|files| answers::asked(command, files[0], q))
     }
 
     /// Normalises one file or links two, and names the output last; `order` counts where a pair is
@@ -375,6 +385,23 @@ fn spelling(step: &Step) -> Option<Count> {
         _ => return None,
     };
     Some(("spelled", what, None))
+}
+
+/// From how many interfaces a table has its methods.
+fn owners(step: &Step) -> Option<Count> {
+    let text = step.outcome.text.as_ref().filter(|_| step.words[0] == b"table")?;
+    let lines = text.split(|byte| *byte == b'\n').map(|line| line.split(|byte| *byte == b' '));
+    let lines = lines.map(|line| line.collect::<Vec<_>>()).filter(|words| words.len() == 6);
+    let mut owners: Vec<_> = lines.map(|words| [words[1], words[2]]).collect();
+    owners.dedup();
+    let what = match owners.len() {
+        0 if text.is_empty() => "of no method",
+        0 => return None,
+        1 => "from one interface",
+        2..8 => "from two or more interfaces",
+        _ => "from eight or more interfaces",
+    };
+    Some(("table", what, None))
 }
 
 /// Takes steps from these stories by chance, each story's in order.

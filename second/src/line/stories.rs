@@ -45,6 +45,10 @@ pub fn questions(script: &mut Script, file: &Name, count: usize) {
         match script.rng.below(20) {
             0 => script.check(file),
             1 => script.list(file),
+            2 => {
+                let (_, key) = question(&model, &mut script.rng, 1);
+                script.table(file, &key);
+            }
             _ => {
                 let (_, question) = question(&model, &mut script.rng, start + turn);
                 script.ask(file, &question);
@@ -80,6 +84,24 @@ pub fn every_answer(script: &mut Script) {
         let question = Question::parse(line).expect(line);
         script.story();
         script.ask(&file, &question);
+        if matches!(question, Question::Key(..)) {
+            script.table(&file, &question);
+        }
+    }
+}
+
+/// The tables of a file with a deep chain, of keys that are there and of others.
+pub fn tabled(script: &mut Script) {
+    let lib = generate::deep(&mut script.rng);
+    let file = script.place(lib.bytes());
+    script.story();
+    for entry in &lib.entries {
+        let space = entry.namespace.clone().unwrap_or_default();
+        script.table(&file, &Question::Key(space, entry.name.clone()));
+    }
+    for _ in 0..6 {
+        let (_, key) = question(&lib, &mut script.rng, 1);
+        script.table(&file, &key);
     }
 }
 

@@ -512,6 +512,25 @@ pub fn chain(count: usize, upward: bool) -> Typelib {
     lib
 }
 
+/// A deep chain with methods of all kinds, below a top that has none. At times one is unresolved.
+pub fn deep(rng: &mut Rng) -> Typelib {
+    let size = Size { entries: 0, methods: 4, arguments: 3, constants: 1, name: 6 };
+    let words: Vec<_> = (0..12).map(|_| identifier(rng, size.name)).collect();
+    let count = rng.range(2, 40);
+    let mut lib = chain(count, rng.percent(50));
+    for d in &mut lib.descriptors {
+        *d = Descriptor { parent: d.parent, ..descriptor(rng, (1, count), size, &words) };
+        d.methods.truncate(if d.parent == 0 { 0 } else { MAX_METHODS });
+    }
+    for entry in &mut lib.entries {
+        entry.namespace = rng.percent(50).then(|| rng.pick(&words).clone());
+    }
+    if rng.percent(50) {
+        lib.entries[rng.below(count)].descriptor = None;
+    }
+    lib
+}
+
 /// Good typelibs at the edges of what is allowed.
 pub fn special() -> Vec<Typelib> {
     let empty = Typelib::default();

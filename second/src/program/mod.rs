@@ -1,5 +1,5 @@
-//! The independent program: the check of a typelib, its questions, listing, normal form and links,
-//! written from document 01 and the readings alone.
+//! The independent program: the check of a typelib, its questions, listing, tables, normal form and
+//! links, written from the documents and the readings alone.
 
 pub mod accepted;
 pub mod check;
@@ -8,6 +8,7 @@ pub mod link;
 pub mod listing;
 pub mod normal;
 pub mod questions;
+pub mod table;
 
 pub use format::*;
 

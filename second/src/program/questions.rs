@@ -37,10 +37,21 @@ pub enum Kind {
 impl Kind {
     pub const ALL: [Kind; 3] = [Kind::Getter, Kind::Setter, Kind::Plain];
 
-    /// Whether a method of these flags is of this kind.
-    pub fn is(self, flags: u8) -> bool {
-        let (mask, bits) = self.mask();
-        flags & mask == bits
+    /// The kind of an accepted method, by its flags.
+    pub fn of(flags: u8) -> Kind {
+        match flags & (GETTER | SETTER) {
+            GETTER => Kind::Getter,
+            SETTER => Kind::Setter,
+            _ => Kind::Plain,
+        }
+    }
+
+    pub fn word(self) -> &'static str {
+        match self {
+            Kind::Getter => "getter",
+            Kind::Setter => "setter",
+            Kind::Plain => "plain",
+        }
     }
 
     /// The bits to look at, and what they must be.
