@@ -6,6 +6,7 @@ use mathlib.Core.List.{List, []}
 use Prim.Native.Nat.{ℕ}
 use native.Mathlib.Omega.{arith}
 use lib.ListN.{length}
+use Rattle.number.specs.Choice.{if_then_else_}
 use Rattle.number.proofs.Choice.{is-true, is-false, is-ne}
 use Rattle.reading.specs.Got.{Got, got, bad}
 use Rattle.key.specs.Word.{sameWord}
@@ -17,7 +18,7 @@ use Rattle.words.proofs.HexLaws.{whole-length, other-length}
 use Rattle.reader.specs.Values.{Typelib}
 use Rattle.lookup.specs.declared.Kind.{Kind}
 use Rattle.lookup.specs.declared.Kind.the-variants.{Getter, Setter, Plain}
-use Rattle.lookup.specs.Question.{badIid, iidAnswer, askIid}
+use Rattle.lookup.specs.Question.{badIid, iidAnswer, askIid, looksAnswer, askLooks}
 use Rattle.printed.specs.Listing.{hyphen}
 use Rattle.sayings.specs.declared.Said.{Said}
 use Rattle.sayings.specs.Texts.{theIndex, theSlot, notDecimalMistake, tooLargeMistake, kindMistake}
@@ -80,13 +81,22 @@ module _ (w : List ℕ) where
 -- ---- an IID
 
 -- two IIDs of another length than 16 bytes are asked alike
+bad-alike : {X : Type 0} (x a b : X) (v w : List ℕ) → (length v ≡ 16 → ⊥) → (length w ≡ 16 → ⊥) → (if badIid v then x else a) ≡ (if badIid w then x else b)
+unfolding badIid
+bad-alike x a b v w h k =
+    let p : true ≡ badIid v = is-ne _ _ _ _ h refl in
+    let q : true ≡ badIid w = is-ne _ _ _ _ k refl in
+    sym (is-true (badIid v) _ _ (sym p) refl) ∙ is-true (badIid w) _ _ (sym q) refl
+
 asked-alike : (g : Got Typelib) (v w : List ℕ) → (length v ≡ 16 → ⊥) → (length w ≡ 16 → ⊥) → askIid g v ≡ askIid g w
-unfolding askIid iidAnswer badIid
+unfolding askIid iidAnswer
 asked-alike (bad n q) v w h k = refl
-asked-alike (got t e) v w h k =
-    let a : true ≡ badIid v = is-ne _ _ _ _ h refl in
-    let b : true ≡ badIid w = is-ne _ _ _ _ k refl in
-    sym (is-true (badIid v) _ _ (sym a) refl) ∙ is-true (badIid w) _ _ (sym b) refl
+asked-alike (got t e) v w h k = bad-alike _ _ _ v w h k
+
+looked-alike : (g : Got Typelib) (v w : List ℕ) → (length v ≡ 16 → ⊥) → (length w ≡ 16 → ⊥) → askLooks g v ≡ askLooks g w
+unfolding askLooks looksAnswer
+looked-alike (bad n q) v w h k = refl
+looked-alike (got t e) v w h k = bad-alike _ _ _ v w h k
 
 module _ (w : List ℕ) where
   pub bytes-whole : (b f : List ℕ) → hexOf w ≡ Whole → f ≡ filledWith (hexOf w) (bytesOf w) b → f ≡ bytesOf w
@@ -98,3 +108,6 @@ module _ (w : List ℕ) where
 
   pub asked-other : (g : Got Typelib) → hexOf w ≡ OtherLength → askIid g [] ≡ askIid g (bytesOf w)
   asked-other g e = asked-alike g [] (bytesOf w) (λ z. omega arith) (other-length w e)
+
+  pub looked-other : (g : Got Typelib) → hexOf w ≡ OtherLength → askLooks g [] ≡ askLooks g (bytesOf w)
+  looked-other g e = looked-alike g [] (bytesOf w) (λ z. omega arith) (other-length w e)

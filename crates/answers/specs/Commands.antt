@@ -14,10 +14,10 @@ use Rattle.guids.specs.Forms.{plainOf}
 use Rattle.reader.specs.Reader.{decode, checkOf}
 use Rattle.lookup.specs.declared.Kind.{Kind}
 use Rattle.lookup.specs.declared.Kind.the-variants.{Getter, Setter, Plain}
-use Rattle.lookup.specs.Question.{askIid, askKey, askMethod, askSlot, askConstant}
+use Rattle.lookup.specs.Question.{askIid, askLooks, askKey, askMethod, askSlot, askConstant}
 use Rattle.printed.specs.Listing.{hyphen}
 use Rattle.sayings.specs.Texts.{theIndex, theSlot, iidMistake, notDecimalMistake, tooLargeMistake, kindMistake}
-use Rattle.sayings.specs.Sayings.{Saying, mistaken, sayVerdict, sayInterface, sayMethod, sayConstant}
+use Rattle.sayings.specs.Sayings.{Saying, mistaken, sayVerdict, sayInterface, sayCounted, sayMethod, sayConstant}
 
 -- ---- words: each is what the command asks with, or a mistake
 
@@ -74,6 +74,13 @@ digitsSaying s hex = withHex (hexOf hex) (sayInterface (askIid (decode s) (bytes
 -- iid FILE HEX, also with hyphens and in braces
 unfoldable pub iidSaying : List ℕ → List ℕ → Saying
 iidSaying s hex = digitsSaying s (plainOf hex)
+
+-- looks FILE HEX, with the same words
+unfoldable pub countedSaying : List ℕ → List ℕ → Saying
+countedSaying s hex = withHex (hexOf hex) (sayCounted (askLooks (decode s) (bytesOf hex)))
+
+unfoldable pub looksSaying : List ℕ → List ℕ → Saying
+looksSaying s hex = countedSaying s (plainOf hex)
 
 -- key FILE NAMESPACE NAME
 unfoldable pub keySaying : List ℕ → List ℕ → List ℕ → Saying

@@ -1,6 +1,6 @@
 // The line that answers each command about a file, at the front of a buffer.
 ghost use Rattle.sayings.specs.Sayings.{Says, sayMethod};
-ghost use Rattle.answers.specs.Commands.{checkSaying, digitsSaying, iidSaying, keySaying, methodSaying, slotSaying, constantSaying, withSlot, withKind};
+ghost use Rattle.answers.specs.Commands.{checkSaying, digitsSaying, iidSaying, countedSaying, looksSaying, keySaying, methodSaying, slotSaying, constantSaying, withSlot, withKind};
 ghost use Rattle.reader.specs.Reader.{decode};
 ghost use Rattle.lookup.specs.Question.{askMethod, askSlot};
 ghost use Rattle.words.specs.Numbers.{numberOf};
@@ -45,6 +45,34 @@ pub fn iid(file: &[u8], hex: &[u8], line: &mut [u8; ANSWER_ROOM]) -> Said
         return of_digits(file, &digits, line);
     }
     of_digits(file, hex, line)
+}
+
+// The same, with the number of entries looked at.
+fn counted(file: &[u8], hex: &[u8], line: &mut [u8; ANSWER_ROOM]) -> Said
+    ensures { λ r. ⌜ Says (countedSaying (now (file .entry)) (now (hex .entry))) (now (line .entry)) r (now (line .exit)) ⌝ }
+{
+    let mut bytes = [0u8; 16];
+    match words::iid_bytes(hex, &mut bytes) {
+        Hex::Whole => sayings::counted(lookup::interface_by_iid_counted(file, &bytes), line),
+        Hex::OtherLength => sayings::counted(
+            lookup::interface_by_iid_counted(file, &hex[0..0]),
+            line,
+        ),
+        Hex::NotHex => sayings::mistake(
+            b"error the IID is not hexadecimal digits in pairs\n",
+            line,
+        ),
+    }
+}
+
+pub fn looks(file: &[u8], hex: &[u8], line: &mut [u8; ANSWER_ROOM]) -> Said
+    ensures { λ r. ⌜ Says (looksSaying (now (file .entry)) (now (hex .entry))) (now (line .entry)) r (now (line .exit)) ⌝ }
+{
+    let mut digits = [0u8; 32];
+    if guids::plain(hex, &mut digits) {
+        return counted(file, &digits, line);
+    }
+    counted(file, hex, line)
 }
 
 // Interface by key; `-` is the default namespace, and so is an empty word.

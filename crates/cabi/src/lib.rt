@@ -4,9 +4,9 @@
 // number and place.
 ghost use mathlib.Core.Path.{_≡_};
 ghost use Rattle.reader.specs.Reader.{decode, checkOf};
-ghost use Rattle.lookup.specs.Question.{askIid, askKey, askSlot, askConstant};
+ghost use Rattle.lookup.specs.Question.{askIid, askLooks, askKey, askSlot, askConstant};
 ghost use Rattle.numbers.specs.Call.{Called};
-ghost use Rattle.numbers.specs.Numbers.{verdictNumbers, interfaceNumbers, methodNumbers, constantNumbers};
+ghost use Rattle.numbers.specs.Numbers.{verdictNumbers, interfaceNumbers, countedNumbers, methodNumbers, constantNumbers};
 ghost use Rattle.cabi.specs.Kind.{askKind};
 
 mod kinds;
@@ -38,6 +38,18 @@ pub extern "C" fn saniotka_iid(file: &[u8], iid: &[u8], answer: &mut [u64]) -> i
         return TOO_SHORT;
     }
     numbers::put_interface(lookup::interface_by_iid(file, iid), answer);
+    ANSWERED
+}
+
+// The same, with the number of entries looked at. Found: its index and that number; none: that number.
+#[no_mangle]
+pub extern "C" fn saniotka_looks(file: &[u8], iid: &[u8], answer: &mut [u64]) -> i32
+    ensures { λ r. ⌜ Called (countedNumbers (askLooks (decode (now (file .entry))) (now (iid .entry)))) (now (answer .entry)) r (now (answer .exit)) ⌝ }
+{
+    if answer.len() < numbers::ROOM {
+        return TOO_SHORT;
+    }
+    numbers::put_counted(lookup::interface_by_iid_counted(file, iid), answer);
     ANSWERED
 }
 

@@ -9,7 +9,7 @@ use Rattle.ascii.specs.Ascii.{ascii}
 use Rattle.signed.specs.Bits.{orZero}
 use Rattle.text.specs.Line.{newline}
 use Rattle.verbs.specs.declared.Question.{Question}
-use Rattle.verbs.specs.declared.Question.the-variants.{Check, Iid, Key, Method, Slot, Constant}
+use Rattle.verbs.specs.declared.Question.the-variants.{Check, Iid, Looks, Key, Method, Slot, Constant}
 use Rattle.verbs.specs.declared.Verb.{Verb}
 use Rattle.verbs.specs.declared.Verb.the-variants as verb
 use Rattle.failures.specs.Room.{wordLimit}
@@ -22,6 +22,7 @@ use Rattle.failures.specs.Reasons.{reasonText}
 unfoldable pub questionWords : Question → List ℕ
 questionWords Check = ascii "check FILE"
 questionWords Iid = ascii "iid FILE HEX"
+questionWords Looks = ascii "looks FILE HEX"
 questionWords Key = ascii "key FILE NAMESPACE NAME"
 questionWords Method = ascii "method FILE INDEX NAME getter|setter|plain"
 questionWords Slot = ascii "slot FILE INDEX SLOT"

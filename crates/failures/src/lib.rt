@@ -60,6 +60,7 @@ fn put_question(question: Question, text: &mut [u8; ROOM], at: usize) -> usize
     match question {
         Question::Check => text::put_bytes(text, at, b"check FILE"),
         Question::Iid => text::put_bytes(text, at, b"iid FILE HEX"),
+        Question::Looks => text::put_bytes(text, at, b"looks FILE HEX"),
         Question::Key => text::put_bytes(text, at, b"key FILE NAMESPACE NAME"),
         Question::Method => text::put_bytes(
             text,

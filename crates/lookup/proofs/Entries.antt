@@ -5,31 +5,32 @@ use mathlib.Core.Bool.{Bool, true, false, not}
 use mathlib.Core.Logic.{inl, inr}
 use mathlib.Core.List.{List, [], _∷_}
 use mathlib.Core.Option.{none, some}
-use Prim.Native.Nat.{ℕ, zero, suc, _+_, _-_, _*_, _≤_, _<_}
-use native.Mathlib.Decide.{ℕ-discrete}
+use Prim.Native.Nat.{ℕ, zero, suc, _+_, _-_, _≤_, _<_}
 use native.Mathlib.Omega.{arith}
-use native.Mathlib.Nat.{mul-le-mul-right, suc-mul}
 use lib.ListN.{length, getD, drop, length-drop}
 use Rattle.number.specs.Choice.{if_then_else_, _=?_, _≠?_}
 use Rattle.number.specs.Number.{be}
 use Rattle.number.proofs.Laws.{be-16}
-use Rattle.number.proofs.Choice.{both, is-true, is-false, is-eq, no-eq, yes-eq, not-eq, from-not-ne}
+use Rattle.number.proofs.Choice.{both, is-true, is-false, is-eq, no-eq, yes-eq, not-eq, from-not-eq, from-not-ne}
 use Rattle.number.proofs.Scans.{below, clash}
 use Rattle.key.specs.declared.Order.{Order}
 use Rattle.key.specs.declared.Order.the-variants.{Before, Same, After}
 use Rattle.key.specs.Word.{Leads, wordAt, compareWords, isSame, sameWord}
 use Rattle.key.specs.Key.{Key, key, keySpace, keyName, thenBy, compareKeys, sameKey, spaceAt}
 use Rattle.key.specs.Pointer.{Spaced}
-use Rattle.key.proofs.Orders.{three}
-use Rattle.reader.specs.Values.{Entry, entry, entryIid, noEntry, keysIn}
+use Rattle.reader.specs.Values.{Entry, noEntry, keysIn}
 use Rattle.reader.specs.Rules.{isIdentifier}
-use Rattle.reader.specs.Records.{ShowsEntry}
 use Rattle.reader.specs.declared.Layout.{Layout}
 use Rattle.reader.specs.Layout.{LaidOut, Lies, Spells, SpellsSpace}
+use Rattle.halving.specs.declared.Looked.{Looked}
+use Rattle.halving.specs.declared.Looked.the-variants as looked
+use Rattle.halving.specs.Halving.{iidLooked, indexIn}
 use Rattle.lookup.specs.declared.InterfaceAnswer.the-variants as interface
+use Rattle.lookup.specs.declared.CountedAnswer.the-variants as counted
 use Rattle.lookup.specs.Chain.{position}
-use Rattle.lookup.specs.Question.{badIid, badName, badIndex, hasIid, hasKey, interfaceAs, interfaceWhere}
+use Rattle.lookup.specs.Question.{badIid, badName, badIndex, hasIid, hasKey, interfaceAs, interfaceWhere, countedAs}
 use Rattle.lookup.specs.Holding.{Answers, PoolOf}
+use Rattle.lookup.proofs.InterfaceLaws.{iid-halved}
 
 -- ---- the pool
 
@@ -38,38 +39,6 @@ pub pool-small : (s : List ℕ) (l : Layout) (pool : List ℕ) → PoolOf s l po
 pool-small s l pool e h =
     let q : length pool ≡ length s - l .pool = ap length e ∙ length-drop (l .pool) s in
     omega (arith, h .laid .small)
-
--- ---- IIDs by their halves
-
--- the high halves of equal numbers are equal
-halves : (w a b x y : ℕ) → x < w → y < w → a * w + x ≡ b * w + y → a ≡ b
-halves w a b x y h k e = elim (three a b) [
-  | inl l ↦
-      let m : suc a * w ≤ b * w = mul-le-mul-right w l in
-      let q : suc a * w ≡ a * w + w = suc-mul a w in
-      absurd (omega arith)
-  | inr t ↦ elim t [
-    | inl q ↦ q
-    | inr l ↦
-        let m : suc b * w ≤ a * w = mul-le-mul-right w l in
-        let q : suc b * w ≡ b * w + w = suc-mul b w in
-        absurd (omega arith)
-  ]
-]
-
--- numbers of the same high half are equal where the low halves are
-lows : (m x y : ℕ) → (x =? y) ≡ (m + x =? m + y)
-lows m x y = elim (ℕ-discrete x y) [
-  | yes e ↦ yes-eq x y e ∙ sym (yes-eq (m + x) (m + y) (omega arith))
-  | no n ↦ not-eq x y n ∙ sym (not-eq (m + x) (m + y) (λ e. n (omega arith)))
-]
-
-module _ (s : List ℕ) (p : ℕ) (w : List ℕ) where
-  pub iid-low : be 8 s p ≡ be 8 w 0 → (be 8 s (p + 8) =? be 8 w 8) ≡ (be 16 s p =? be 16 w 0)
-  iid-low h = rw (be-16 s p, be-16 w 0, h) (lows (be 8 w 0 * 18446744073709551616) (be 8 s (p + 8)) (be 8 w 8))
-
-  pub iid-high : (be 8 s p ≡ be 8 w 0 → ⊥) → be 8 s (p + 8) < 18446744073709551616 → be 8 w 8 < 18446744073709551616 → false ≡ (be 16 s p =? be 16 w 0)
-  iid-high h k l = sym (not-eq _ _ (λ e. h (halves 18446744073709551616 _ _ _ _ k l (sym (be-16 s p) ∙ e ∙ be-16 w 0))))
 
 -- ---- a question's IID
 
@@ -87,6 +56,12 @@ module _ (w : List ℕ) where
   iid-long =
       both (λ (t : Bool). t ≡ false → 16 ≤ length w) (length w ≠? 16) true (be 16 w 0 =? 0)
       (λ _ e. clash true refl e) (λ e _. omega (arith, from-not-ne (length w) 16 e))
+
+  pub iid-some : badIid w ≡ false → be 16 w 0 ≡ 0 → ⊥
+  unfolding badIid
+  iid-some =
+      both (λ (t : Bool). t ≡ false → be 16 w 0 ≡ 0 → ⊥) (length w ≠? 16) true (be 16 w 0 =? 0)
+      (λ _ e. clash true refl e) (λ _ e. from-not-eq (be 16 w 0) 0 e)
 
 -- ---- names
 
@@ -146,18 +121,6 @@ module _ (pool : List ℕ) (v : ℕ) (w : List ℕ) where
   space-some n e = e ∙ ap (λ (u : List ℕ). sameWord u w) (no-eq v 0 [] (wordAt pool (v - 1)) n refl)
 
 -- ---- entries
-
-module _ (s : List ℕ) (l : Layout) (i : ℕ) (k : i < l .count) where
-  iid-shown : (es : List (Entry ℕ)) → LaidOut s l es → be 16 s (l .directory + 28 * i) ≡ entryIid (getD es i noEntry)
-  unfolding entryIid
-  iid-shown es h = go (getD es i noEntry) (h .shown i k)
-    where
-      go : (x : Entry ℕ) → ShowsEntry s (drop (l .pool) s) (l .directory + 28 * i) x → be 16 s (l .directory + 28 * i) ≡ entryIid x
-      go (entry (key v w) j d) e = e .0
-
-  pub iid-told : (v : ℕ) (r : Bool) → r ≡ (be 16 s (l .directory + 28 * i) =? v) → Answers s l (λ es. hasIid v (getD es i noEntry)) r
-  unfolding hasIid
-  iid-told v r e = record { each = λ es h. e ∙ ap (λ (n : ℕ). n =? v) (iid-shown es h) }
 
 -- what the pointers of entry i say of its key
 module _ (s : List ℕ) (l : Layout) (i : ℕ) (pool : List ℕ) (lent : PoolOf s l pool) (q : ℕ) (name : (es : List (Entry ℕ)) → LaidOut s l es → Spells (drop (l .pool) s) q (keyName (keysIn es i))) where
@@ -226,6 +189,26 @@ module _ (s : List ℕ) (l : Layout) (p : Entry ℕ → Bool) where
     pub missed-all : l .count ≤ i → Answers s l (λ es. interfaceAs (interfaceWhere p es)) interface.None
     unfolding interfaceAs interfaceWhere
     missed-all m = record { each = λ es h. sym (ap interfaceAs (position-missing p noEntry es 1 (λ k n. before .each es h k (omega (arith, h .count))))) }
+
+-- ---- the directory halved
+
+module _ (s : List ℕ) (l : Layout) (v : ℕ) (x : Looked) (e : (es : List (Entry ℕ)) → LaidOut s l es → x ≡ iidLooked es v) where
+  module _ (z : v ≡ 0 → ⊥) where
+    pub halved-found : (i k : ℕ) → x ≡ looked.Found i k → Answers s l (λ es. interfaceAs (interfaceWhere (hasIid v) es)) (interface.Found i)
+    unfolding interfaceAs indexIn
+    halved-found i k q = record { each = λ es h. ap interfaceAs (ap indexIn (sym q ∙ e es h) ∙ iid-halved v es (h .ruled .order) z) }
+
+    pub halved-none : (k : ℕ) → x ≡ looked.None k → Answers s l (λ es. interfaceAs (interfaceWhere (hasIid v) es)) interface.None
+    unfolding interfaceAs indexIn
+    halved-none k q = record { each = λ es h. ap interfaceAs (ap indexIn (sym q ∙ e es h) ∙ iid-halved v es (h .ruled .order) z) }
+
+  pub counted-found : (i k : ℕ) → x ≡ looked.Found i k → Answers s l (λ es. countedAs (iidLooked es v)) (counted.Found i k)
+  unfolding countedAs
+  counted-found i k q = record { each = λ es h. ap countedAs (sym q ∙ e es h) }
+
+  pub counted-none : (k : ℕ) → x ≡ looked.None k → Answers s l (λ es. countedAs (iidLooked es v)) (counted.None k)
+  unfolding countedAs
+  counted-none k q = record { each = λ es h. ap countedAs (sym q ∙ e es h) }
 
 -- ---- malformed questions
 

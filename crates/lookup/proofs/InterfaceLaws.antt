@@ -1,10 +1,10 @@
 -- Laws of interfaces by IID and by key: what is found is one entry, and none is answered where there is none.
 -- Assumes nothing.
-use mathlib.Core.Path.{_≡_, sym, ap, _∙_}
+use mathlib.Core.Path.{_≡_, refl, sym, ap, _∙_}
 use mathlib.Core.Bool.{Bool, true, false}
 use mathlib.Core.Logic.{inl, inr}
 use mathlib.Core.List.{List, _∷_}
-use mathlib.Core.Option.{none, some}
+use mathlib.Core.Option.{Option, none, some}
 use Prim.Native.Nat.{ℕ, _-_}
 use native.Mathlib.Omega.{arith}
 use lib.ListN.{length, getD, length-append}
@@ -14,6 +14,10 @@ use Rattle.key.specs.Key.{key}
 use Rattle.key.proofs.Orders.{three, same-key, same-key-equal}
 use Rattle.reader.specs.Values.{Entry, noEntry}
 use Rattle.reader.specs.Rules.{InDirectory, iidOf, keyOf, InOrder, UniqueKeys}
+use Rattle.halving.specs.declared.Looked.{Looked}
+use Rattle.halving.specs.declared.Looked.the-variants.{Found, None}
+use Rattle.halving.specs.Halving.{iidAt, iidLooked, indexIn}
+use Rattle.halving.proofs.Halves.{Holds, halve-holds}
 use Rattle.lookup.specs.Question.{hasIid, hasKey, interfaceWhere}
 use Rattle.lookup.proofs.ChainLaws.{all-here, split-at, getD-split, position-none, position-some}
 
@@ -57,6 +61,20 @@ module _ (v : ℕ) (es : List (Entry ℕ)) where
   pub iid-none : (j : ℕ) → interfaceWhere (hasIid v) es ≡ none → InDirectory (length es) j → iidOf es (j - 1) ≡ v → ⊥
   unfolding hasIid
   iid-none j e l q = clash (hasIid v (getD es (j - 1) noEntry)) (yes-eq (iidOf es (j - 1)) v q) (where-none (hasIid v) es j e l)
+
+  alike : (x : Looked) (o : Option ℕ) → interfaceWhere (hasIid v) es ≡ o → Holds (iidAt es) v 1 (length es) x → InOrder es → (v ≡ 0 → ⊥) → indexIn x ≡ o
+  unfolding indexIn
+  alike (Found i k) (some j) e h order z = ap some (sym (iid-only j i order z e (h .0, h .1) (h .2)))
+  alike (Found i k) none e h order z = absurd (iid-none i e (h .0, h .1) (h .2))
+  alike (None k) (some j) e h order z = let f = iid-found j e in absurd (h j (f .0 .0) (f .0 .1) (f .1))
+  alike (None k) none e h order z = refl
+
+  -- halving the directory finds the same
+  pub iid-halved : InOrder es → (v ≡ 0 → ⊥) → indexIn (iidLooked es v) ≡ interfaceWhere (hasIid v) es
+  iid-halved order z =
+      alike (iidLooked es v) (interfaceWhere (hasIid v) es) refl
+      (unfold iidLooked in halve-holds (iidAt es) v (length es) z (λ i j p q r. order (i - 1) (j - 1) (omega arith) (omega arith)) (length es) 1 (length es) (omega arith) (omega arith) (omega arith))
+      order z
 
 -- ---- by key
 

@@ -8,4 +8,5 @@ pub mod MethodWalks
 pub mod ConstantWalks
 pub mod Width
 pub mod Asks
+pub mod Counts
 pub mod Answers

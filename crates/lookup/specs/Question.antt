@@ -12,11 +12,16 @@ use Rattle.reading.specs.declared.Refusal.{Refusal}
 use Rattle.key.specs.Key.{key, sameKey}
 use Rattle.reader.specs.Values.{Typelib, entriesIn, Entry, entryKey, entryIid, Constant}
 use Rattle.reader.specs.Rules.{isIdentifier}
+use Rattle.halving.specs.declared.Looked.{Looked}
+use Rattle.halving.specs.declared.Looked.the-variants as looked
+use Rattle.halving.specs.Halving.{iidLooked}
 use Rattle.lookup.specs.declared.Kind.{Kind}
 use Rattle.lookup.specs.declared.Slot.{Slot}
 use Rattle.lookup.specs.declared.Slot.the-variants as slot
 use Rattle.lookup.specs.declared.InterfaceAnswer.{InterfaceAnswer}
 use Rattle.lookup.specs.declared.InterfaceAnswer.the-variants as interface
+use Rattle.lookup.specs.declared.CountedAnswer.{CountedAnswer}
+use Rattle.lookup.specs.declared.CountedAnswer.the-variants as counted
 use Rattle.lookup.specs.declared.MethodAnswer.{MethodAnswer}
 use Rattle.lookup.specs.declared.MethodAnswer.the-variants as method
 use Rattle.lookup.specs.declared.ConstantAnswer.{ConstantAnswer}
@@ -73,6 +78,31 @@ iidAnswer es w =
 unfoldable pub askIid : Got Typelib → List ℕ → InterfaceAnswer
 askIid (bad n q) w = interface.Refused (refusal n q)
 askIid (got t e) w = iidAnswer (entriesIn t) w
+
+-- request #104: the same by halving the directory, with the number of entries looked at
+unfoldable pub countedAs : Looked → CountedAnswer
+countedAs (looked.Found i k) = counted.Found i k
+countedAs (looked.None k) = counted.None k
+
+unfoldable pub looksAnswer : List (Entry ℕ) → List ℕ → CountedAnswer
+looksAnswer es w =
+    if badIid w then counted.Refused malformed else
+    countedAs (iidLooked es (be 16 w 0))
+
+unfoldable pub askLooks : Got Typelib → List ℕ → CountedAnswer
+askLooks (bad n q) w = counted.Refused (refusal n q)
+askLooks (got t e) w = looksAnswer (entriesIn t) w
+
+-- the answer alone, and the number alone; a refusal has none
+unfoldable pub uncounted : CountedAnswer → InterfaceAnswer
+uncounted (counted.Found i k) = interface.Found i
+uncounted (counted.None k) = interface.None
+uncounted (counted.Refused x) = interface.Refused x
+
+unfoldable pub looksOf : CountedAnswer → ℕ
+looksOf (counted.Found i k) = k
+looksOf (counted.None k) = k
+looksOf (counted.Refused x) = 0
 
 -- interface by key
 unfoldable pub keyAnswer : List (Entry ℕ) → List ℕ → List ℕ → InterfaceAnswer

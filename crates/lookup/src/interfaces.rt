@@ -3,15 +3,16 @@ ghost use mathlib.Core.Path.{_≡_};
 ghost use Prim.Native.Nat.{_<_, _≤_};
 ghost use lib.ListN.{length, getD};
 ghost use Rattle.number.specs.Limits.{fileLimit};
-ghost use Rattle.number.specs.Number.{be};
 ghost use Rattle.key.specs.Word.{sameWord};
 ghost use Rattle.key.specs.Key.{spaceAt};
 ghost use Rattle.key.specs.Pointer.{Spaced};
 ghost use Rattle.reader.specs.Values.{noEntry};
 ghost use Rattle.reader.specs.Layout.{Lies};
-ghost use Rattle.lookup.specs.Question.{badIid, badSpace, hasIid, hasKey, interfaceAs, interfaceWhere, iidAnswer, keyAnswer};
+ghost use Rattle.lookup.specs.Question.{badIid, badSpace, hasKey, interfaceAs, interfaceWhere, iidAnswer, looksAnswer, keyAnswer};
 ghost use Rattle.lookup.specs.Holding.{Answers, PoolOf};
+use crate::CountedAnswer;
 use crate::InterfaceAnswer;
+use halving::Looked;
 use reader::Layout;
 use reading::Refusal;
 
@@ -28,36 +29,6 @@ fn bad_iid(iid: &[u8]) -> bool
     false
 }
 
-// Whether entry i has the IID at the front of `iid`.
-fn has_iid(file: &[u8], l: Layout, i: usize, iid: &[u8]) -> bool
-    requires { ⌜ Lies (now file) l × (i < l .count) × (16 ≤ length (now iid)) ⌝ }
-    ensures { λ r. ⌜ Answers (now (file .entry)) l (λ es. hasIid (be 16 (now (iid .entry)) 0) (getD es i noEntry)) r ⌝ }
-{
-    let p = reader::entry::iid_place(file, l, i);
-    let low = number::u64_at(file, p + 8);
-    let asked = number::u64_at(iid, 8);
-    if number::u64_at(file, p) == number::u64_at(iid, 0) {
-        return low == asked;
-    }
-    false
-}
-
-// The entry with that IID.
-fn find_iid(file: &[u8], l: Layout, iid: &[u8]) -> InterfaceAnswer
-    requires { ⌜ Lies (now file) l × (16 ≤ length (now iid)) ⌝ }
-    ensures { λ r. ⌜ Answers (now (file .entry)) l (λ es. interfaceAs (interfaceWhere (hasIid (be 16 (now (iid .entry)) 0)) es)) r ⌝ }
-{
-    let count = l.count;
-    let mut i: usize = 0;
-    while i < count {
-        if has_iid(file, l, i, iid) {
-            return InterfaceAnswer::Found(i + 1);
-        }
-        i += 1;
-    }
-    InterfaceAnswer::None
-}
-
 // Interface by IID.
 pub fn by_iid(file: &[u8], l: Layout, iid: &[u8]) -> InterfaceAnswer
     requires { ⌜ Lies (now file) l ⌝ }
@@ -66,7 +37,24 @@ pub fn by_iid(file: &[u8], l: Layout, iid: &[u8]) -> InterfaceAnswer
     if bad_iid(iid) {
         return InterfaceAnswer::Refused(Refusal { no: 20, place: 0 });
     }
-    find_iid(file, l, iid)
+    match halving::look(file, l, iid) {
+        Looked::Found(i, _) => InterfaceAnswer::Found(i),
+        Looked::None(_) => InterfaceAnswer::None,
+    }
+}
+
+// The same, with the number of entries looked at.
+pub fn by_iid_counted(file: &[u8], l: Layout, iid: &[u8]) -> CountedAnswer
+    requires { ⌜ Lies (now file) l ⌝ }
+    ensures { λ r. ⌜ Answers (now (file .entry)) l (λ es. looksAnswer es (now (iid .entry))) r ⌝ }
+{
+    if bad_iid(iid) {
+        return CountedAnswer::Refused(Refusal { no: 20, place: 0 });
+    }
+    match halving::look(file, l, iid) {
+        Looked::Found(i, k) => CountedAnswer::Found(i, k),
+        Looked::None(k) => CountedAnswer::None(k),
+    }
 }
 
 // Whether a question's namespace is malformed.

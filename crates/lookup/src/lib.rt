@@ -1,7 +1,7 @@
 // Questions about a typelib. Each checks the file first; the answers on an accepted file are in the modules.
 ghost use mathlib.Core.Path.{_≡_};
 ghost use Rattle.reader.specs.Reader.{decode};
-ghost use Rattle.lookup.specs.Question.{askIid, askKey, askMethod, askSlot, askConstant};
+ghost use Rattle.lookup.specs.Question.{askIid, askLooks, askKey, askMethod, askSlot, askConstant};
 use reading::Refusal;
 use reading::Verdict;
 
@@ -48,6 +48,13 @@ pub enum InterfaceAnswer {
     Refused(Refusal),
 }
 
+// The index of an interface, and the number of entries looked at.
+pub enum CountedAnswer {
+    Found(usize, usize),
+    None(usize),
+    Refused(Refusal),
+}
+
 // A method; or undetermined, with the unresolved entry's index.
 pub enum MethodAnswer {
     Found(FoundMethod),
@@ -71,6 +78,18 @@ pub fn interface_by_iid(file: &[u8], iid: &[u8]) -> InterfaceAnswer
     match reader::check(file) {
         Verdict::Accepted(n) => crate::interfaces::by_iid(file, reader::layout_of(file), iid),
         Verdict::Refused(why) => InterfaceAnswer::Refused(why),
+    }
+}
+
+// The same, with the number of entries looked at.
+pub fn interface_by_iid_counted(file: &[u8], iid: &[u8]) -> CountedAnswer
+    ensures { λ r. ⌜ r ≡ askLooks (decode (now (file .entry))) (now (iid .entry)) ⌝ }
+{
+    match reader::check(file) {
+        Verdict::Accepted(n) => {
+            crate::interfaces::by_iid_counted(file, reader::layout_of(file), iid)
+        }
+        Verdict::Refused(why) => CountedAnswer::Refused(why),
     }
 }
 

@@ -5,7 +5,7 @@ use Prim.Native.Nat.{ℕ}
 use Rattle.ascii.specs.Ascii.{ascii}
 use Rattle.text.specs.Line.{newline}
 use Rattle.verbs.specs.declared.Question.{Question}
-use Rattle.verbs.specs.declared.Question.the-variants.{Check, Iid, Key, Method, Slot, Constant}
+use Rattle.verbs.specs.declared.Question.the-variants.{Check, Iid, Looks, Key, Method, Slot, Constant}
 use Rattle.verbs.specs.declared.Verb.{Verb}
 use Rattle.verbs.specs.declared.Verb.the-variants as verb
 use Rattle.failures.specs.Lines.{verbWords}
@@ -16,6 +16,7 @@ use Rattle.failures.specs.Lines.{verbWords}
 unfoldable pub answerText : Question → List ℕ
 answerText Check = ascii "accepted and the number of interfaces, or refused with a number and a place"
 answerText Iid = ascii "found and the index of the interface with this IID, or none"
+answerText Looks = ascii "the same, with the number of entries looked at"
 answerText Key = ascii "found and the index of the interface of this name, or none; - is the default namespace"
 answerText Method = ascii "found, the index of the interface that has the method, its position there, slot, distance and total"
 answerText Slot = ascii "the method in this slot, told in the same way"
@@ -41,7 +42,7 @@ introText = ascii "xpt checks, lists, asks, normalises and links XPCOM typelibs.
 
 -- about a file and its interfaces
 unfoldable pub askingText : List ℕ
-askingText = (((entryText (verb.Ask Check) ++ entryText verb.List) ++ entryText verb.Table) ++ entryText (verb.Ask Iid)) ++ entryText (verb.Ask Key)
+askingText = ((((entryText (verb.Ask Check) ++ entryText verb.List) ++ entryText verb.Table) ++ entryText (verb.Ask Iid)) ++ entryText (verb.Ask Looks)) ++ entryText (verb.Ask Key)
 
 -- about the members of an interface
 unfoldable pub memberText : List ℕ

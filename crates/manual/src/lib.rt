@@ -23,6 +23,11 @@ fn put_answer(question: Question, text: &mut [u8; ROOM], at: usize) -> usize
             at,
             b"found and the index of the interface with this IID, or none",
         ),
+        Question::Looks => text::put_bytes(
+            text,
+            at,
+            b"the same, with the number of entries looked at",
+        ),
         Question::Key => text::put_bytes(
             text,
             at,
@@ -78,13 +83,14 @@ fn put_entry(verb: Verb, text: &mut [u8; ROOM], at: usize) -> usize
 }
 
 fn put_asking(text: &mut [u8; ROOM], at: usize) -> usize
-    requires { ⌜ at + 1280 ≤ room ⌝ }
-    ensures { λ r. ⌜ Wrote (now (text .entry)) at askingText r (now (text .exit)) × (r ≤ at + 1280) ⌝ }
+    requires { ⌜ at + 1536 ≤ room ⌝ }
+    ensures { λ r. ⌜ Wrote (now (text .entry)) at askingText r (now (text .exit)) × (r ≤ at + 1536) ⌝ }
 {
     let list = put_entry(Verb::Ask(Question::Check), text, at);
     let table = put_entry(Verb::List, text, list);
     let iid = put_entry(Verb::Table, text, table);
-    let key = put_entry(Verb::Ask(Question::Iid), text, iid);
+    let looks = put_entry(Verb::Ask(Question::Iid), text, iid);
+    let key = put_entry(Verb::Ask(Question::Looks), text, looks);
     put_entry(Verb::Ask(Question::Key), text, key)
 }
 

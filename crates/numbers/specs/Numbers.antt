@@ -13,6 +13,8 @@ use Rattle.lookup.specs.declared.Value.{Value}
 use Rattle.lookup.specs.declared.Value.the-variants.{I16, I32, U16, U32}
 use Rattle.lookup.specs.declared.InterfaceAnswer.{InterfaceAnswer}
 use Rattle.lookup.specs.declared.InterfaceAnswer.the-variants as interface
+use Rattle.lookup.specs.declared.CountedAnswer.{CountedAnswer}
+use Rattle.lookup.specs.declared.CountedAnswer.the-variants as counted
 use Rattle.lookup.specs.declared.MethodAnswer.{MethodAnswer}
 use Rattle.lookup.specs.declared.MethodAnswer.the-variants as method
 use Rattle.lookup.specs.declared.ConstantAnswer.{ConstantAnswer}
@@ -31,6 +33,12 @@ unfoldable pub interfaceNumbers : InterfaceAnswer → List ℕ
 interfaceNumbers (interface.Found i) = 0 ∷ i ∷ []
 interfaceNumbers interface.None = 1 ∷ []
 interfaceNumbers (interface.Refused why) = refusalNumbers why
+
+-- with the number of entries looked at; a refusal has none
+unfoldable pub countedNumbers : CountedAnswer → List ℕ
+countedNumbers (counted.Found i k) = 0 ∷ i ∷ k ∷ []
+countedNumbers (counted.None k) = 1 ∷ k ∷ []
+countedNumbers (counted.Refused why) = refusalNumbers why
 
 -- a slot or a total: known, with its number; undetermined, with the unresolved ancestor's index
 unfoldable pub slotNumbers : Slot → List ℕ

@@ -6,8 +6,9 @@ ghost use Prim.Native.Nat.{_+_, _≤_};
 ghost use lib.ListN.{length};
 ghost use lib.Seq.{sets};
 ghost use Rattle.numbers.specs.Call.{room};
-ghost use Rattle.numbers.specs.Numbers.{verdictNumbers, refusalNumbers, slotNumbers, foundNumbers, valueNumbers, interfaceNumbers, methodNumbers, constantNumbers};
+ghost use Rattle.numbers.specs.Numbers.{verdictNumbers, refusalNumbers, slotNumbers, foundNumbers, valueNumbers, interfaceNumbers, countedNumbers, methodNumbers, constantNumbers};
 use lookup::ConstantAnswer;
+use lookup::CountedAnswer;
 use lookup::FoundMethod;
 use lookup::InterfaceAnswer;
 use lookup::MethodAnswer;
@@ -117,6 +118,24 @@ pub fn put_interface(a: InterfaceAnswer, answer: &mut [u64])
             answer[0] = 1;
         }
         InterfaceAnswer::Refused(why) => put_refusal(why, answer),
+    }
+}
+
+pub fn put_counted(a: CountedAnswer, answer: &mut [u64])
+    requires { ⌜ room ≤ length (now answer) ⌝ }
+    ensures { λ _. ⌜ now (answer .exit) ≡ sets (now (answer .entry)) 0 (countedNumbers a) ⌝ }
+{
+    match a {
+        CountedAnswer::Found(i, k) => {
+            answer[0] = 0;
+            answer[1] = i as u64;
+            answer[2] = k as u64;
+        }
+        CountedAnswer::None(k) => {
+            answer[0] = 1;
+            answer[1] = k as u64;
+        }
+        CountedAnswer::Refused(why) => put_refusal(why, answer),
     }
 }
 

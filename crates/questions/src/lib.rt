@@ -2,7 +2,7 @@
 ghost use Rattle.words.specs.Words.{wordsOf};
 ghost use Rattle.sayings.specs.Sayings.{Says};
 ghost use Rattle.questions.specs.Lines.{askedSaying};
-ghost use Rattle.verbs.specs.declared.Question.the-variants.{Iid, Key, Method, Slot, Constant};
+ghost use Rattle.verbs.specs.declared.Question.the-variants.{Iid, Looks, Key, Method, Slot, Constant};
 use sayings::ANSWER_ROOM;
 use sayings::Said;
 use verbs::Question;
@@ -14,6 +14,15 @@ fn ask_iid(line: &[u8], separator: u8, file: &[u8], text: &mut [u8; ANSWER_ROOM]
     let from = hex.from;
     let end = hex.end;
     answers::iid(file, &line[from..end], text)
+}
+
+fn ask_looks(line: &[u8], separator: u8, file: &[u8], text: &mut [u8; ANSWER_ROOM]) -> Said
+    ensures { λ r. ⌜ Says (askedSaying Looks (now (file .entry)) (wordsOf separator (now (line .entry)))) (now (text .entry)) r (now (text .exit)) ⌝ }
+{
+    let hex = words::word(line, separator, 2);
+    let from = hex.from;
+    let end = hex.end;
+    answers::looks(file, &line[from..end], text)
 }
 
 fn ask_key(line: &[u8], separator: u8, file: &[u8], text: &mut [u8; ANSWER_ROOM]) -> Said
@@ -80,6 +89,7 @@ pub fn ask(
     match question {
         Question::Check => answers::check(file, text),
         Question::Iid => ask_iid(line, separator, file, text),
+        Question::Looks => ask_looks(line, separator, file, text),
         Question::Key => ask_key(line, separator, file, text),
         Question::Method => ask_method(line, separator, file, text),
         Question::Slot => ask_slot(line, separator, file, text),

@@ -34,6 +34,7 @@ fn faulty_word(question: Question, name: &[u8]) -> u8
     match question {
         Question::Check => 0,
         Question::Iid => 1,
+        Question::Looks => 1,
         Question::Key => name_or(name, 2),
         Question::Method => name_or(name, 4),
         Question::Slot => 4,

@@ -10,6 +10,8 @@ use Rattle.reading.specs.declared.Verdict.the-variants as verdict
 use Rattle.text.specs.Line.{lineOf}
 use Rattle.lookup.specs.declared.InterfaceAnswer.{InterfaceAnswer}
 use Rattle.lookup.specs.declared.InterfaceAnswer.the-variants as interface
+use Rattle.lookup.specs.declared.CountedAnswer.{CountedAnswer}
+use Rattle.lookup.specs.declared.CountedAnswer.the-variants as counted
 use Rattle.lookup.specs.declared.MethodAnswer.{MethodAnswer}
 use Rattle.lookup.specs.declared.MethodAnswer.the-variants as method
 use Rattle.lookup.specs.declared.ConstantAnswer.{ConstantAnswer}
@@ -17,7 +19,7 @@ use Rattle.lookup.specs.declared.ConstantAnswer.the-variants as constant
 use Rattle.sayings.specs.declared.Why.{Why}
 use Rattle.sayings.specs.declared.Why.the-variants.{Answered, Refused, Mistaken}
 use Rattle.sayings.specs.declared.Said.{Said}
-use Rattle.sayings.specs.Texts.{interfaceText, methodText, constantText}
+use Rattle.sayings.specs.Texts.{interfaceText, countedText, methodText, constantText}
 
 -- room that the line of any answer fits in
 abbrev pub answerRoom : ℕ
@@ -52,6 +54,11 @@ interfaceWhy (interface.Found i) = Answered
 interfaceWhy interface.None = Answered
 interfaceWhy (interface.Refused x) = Refused x
 
+unfoldable pub countedWhy : CountedAnswer → Why
+countedWhy (counted.Found i k) = Answered
+countedWhy (counted.None k) = Answered
+countedWhy (counted.Refused x) = Refused x
+
 unfoldable pub methodWhy : MethodAnswer → Why
 methodWhy (method.Found m) = Answered
 methodWhy method.None = Answered
@@ -70,6 +77,9 @@ sayVerdict v = saying (lineOf v) (verdictWhy v)
 
 unfoldable pub sayInterface : InterfaceAnswer → Saying
 sayInterface a = saying (interfaceText a) (interfaceWhy a)
+
+unfoldable pub sayCounted : CountedAnswer → Saying
+sayCounted a = saying (countedText a) (countedWhy a)
 
 unfoldable pub sayMethod : MethodAnswer → Saying
 sayMethod a = saying (methodText a) (methodWhy a)

@@ -13,6 +13,8 @@ use Rattle.lookup.specs.declared.Value.{Value}
 use Rattle.lookup.specs.declared.Value.the-variants.{I16, I32, U16, U32}
 use Rattle.lookup.specs.declared.InterfaceAnswer.{InterfaceAnswer}
 use Rattle.lookup.specs.declared.InterfaceAnswer.the-variants as interface
+use Rattle.lookup.specs.declared.CountedAnswer.{CountedAnswer}
+use Rattle.lookup.specs.declared.CountedAnswer.the-variants as counted
 use Rattle.lookup.specs.declared.MethodAnswer.{MethodAnswer}
 use Rattle.lookup.specs.declared.MethodAnswer.the-variants as method
 use Rattle.lookup.specs.declared.ConstantAnswer.{ConstantAnswer}
@@ -32,6 +34,10 @@ nothing = 110 ∷ 111 ∷ 110 ∷ 101 ∷ []
 -- `undetermined `, with its space
 abbrev pub undetermined : List ℕ
 undetermined = 117 ∷ 110 ∷ 100 ∷ 101 ∷ 116 ∷ 101 ∷ 114 ∷ 109 ∷ 105 ∷ 110 ∷ 101 ∷ 100 ∷ 32 ∷ []
+
+-- ` looked `, with its spaces
+abbrev pub looked : List ℕ
+looked = 32 ∷ 108 ∷ 111 ∷ 111 ∷ 107 ∷ 101 ∷ 100 ∷ 32 ∷ []
 
 -- ` slot `, with its spaces
 abbrev pub inSlot : List ℕ
@@ -68,6 +74,12 @@ unfoldable pub interfaceText : InterfaceAnswer → List ℕ
 interfaceText (interface.Found i) = numbered found i
 interfaceText interface.None = noneLine
 interfaceText (interface.Refused why) = refusedLine why
+
+-- `found INDEX looked K`, `none looked K` or `refused NO PLACE`
+unfoldable pub countedText : CountedAnswer → List ℕ
+countedText (counted.Found i k) = ((found ++ digitsOf i) ++ (looked ++ digitsOf k)) ++ newline
+countedText (counted.None k) = numbered (nothing ++ looked) k
+countedText (counted.Refused why) = refusedLine why
 
 -- ` slot N` or ` slot ? ANCESTOR`
 unfoldable pub slotPart : Slot → List ℕ

@@ -6,12 +6,14 @@ ghost use lib.ListN.{length};
 ghost use Rattle.text.specs.Line.{newline};
 ghost use Rattle.lookup.specs.Constant.{signed};
 ghost use Rattle.lookup.specs.declared.ConstantAnswer.the-variants as constant;
+ghost use Rattle.lookup.specs.declared.CountedAnswer.the-variants as counted;
 ghost use Rattle.printed.specs.Listing.{signedText};
 ghost use Rattle.printed.specs.Writing.{Wrote};
 ghost use Rattle.sayings.specs.declared.Why.the-variants.{Answered, Refused};
 ghost use Rattle.sayings.specs.Texts.{numbered, placed, noneLine, refusedLine, slotPart, totalPart, foundText, theIndex, notDecimalMistake, tooLargeMistake};
-ghost use Rattle.sayings.specs.Sayings.{answerRoom, Says, saying, mistaken, sayInterface, sayMethod, sayConstant};
+ghost use Rattle.sayings.specs.Sayings.{answerRoom, Says, saying, mistaken, sayInterface, sayCounted, sayMethod, sayConstant};
 use lookup::ConstantAnswer;
+use lookup::CountedAnswer;
 use lookup::FoundMethod;
 use lookup::InterfaceAnswer;
 use lookup::MethodAnswer;
@@ -116,6 +118,30 @@ pub fn interface(a: InterfaceAnswer, line: &mut [u8; ANSWER_ROOM]) -> Said
         InterfaceAnswer::Found(i) => numbered(b"found ", i as u64, line),
         InterfaceAnswer::None => none(line),
         InterfaceAnswer::Refused(why) => refused(why, line),
+    }
+}
+
+// The index of an interface, and the number of entries looked at.
+fn looked(i: u64, k: u64, line: &mut [u8; ANSWER_ROOM]) -> Said
+    ensures { λ r. ⌜ Says (sayCounted (counted.Found i k)) (now (line .entry)) r (now (line .exit)) ⌝ }
+{
+    let at = text::put_labelled(line, 0, b"found ", i);
+    let end = text::put_labelled(line, at, b" looked ", k);
+    let length = text::put_bytes(line, end, b"\n");
+    Said {
+        length,
+        why: Why::Answered,
+    }
+}
+
+// That, or none.
+pub fn counted(a: CountedAnswer, line: &mut [u8; ANSWER_ROOM]) -> Said
+    ensures { λ r. ⌜ Says (sayCounted a) (now (line .entry)) r (now (line .exit)) ⌝ }
+{
+    match a {
+        CountedAnswer::Found(i, k) => looked(i as u64, k as u64, line),
+        CountedAnswer::None(k) => numbered(b"none looked ", k as u64, line),
+        CountedAnswer::Refused(why) => refused(why, line),
     }
 }
 

@@ -2,7 +2,7 @@
 -- Assumes nothing.
 use Prim.Native.Nat.{ℕ, _≤_}
 use native.Mathlib.Omega.{arith}
-use Rattle.verbs.specs.declared.Question.the-variants.{Check, Iid, Key, Method, Slot, Constant}
+use Rattle.verbs.specs.declared.Question.the-variants.{Check, Iid, Looks, Key, Method, Slot, Constant}
 use Rattle.verbs.specs.declared.Verb.{Verb}
 use Rattle.verbs.specs.declared.Verb.the-variants as verb
 use Rattle.verbs.specs.Verbs.{wordsIn}
@@ -14,6 +14,7 @@ pub words-few : (v : Verb) → wordsIn v ≤ 5
 unfolding wordsIn
 words-few (verb.Ask Check) = omega arith
 words-few (verb.Ask Iid) = omega arith
+words-few (verb.Ask Looks) = omega arith
 words-few (verb.Ask Key) = omega arith
 words-few (verb.Ask Method) = omega arith
 words-few (verb.Ask Slot) = omega arith

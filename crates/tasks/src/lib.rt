@@ -173,6 +173,7 @@ fn question_usage(question: Question, text: &mut [u8; ANSWER_ROOM]) -> Said
     match question {
         Question::Check => sayings::mistake(b"error the words are: check FILE\n", text),
         Question::Iid => sayings::mistake(b"error the words are: iid FILE HEX\n", text),
+        Question::Looks => sayings::mistake(b"error the words are: looks FILE HEX\n", text),
         Question::Key => sayings::mistake(b"error the words are: key FILE NAMESPACE NAME\n", text),
         Question::Method => sayings::mistake(
             b"error the words are: method FILE INDEX NAME getter|setter|plain\n",
@@ -197,7 +198,7 @@ fn usage(verb: Verb, text: &mut [u8; ANSWER_ROOM]) -> Said
         Verb::Normal => sayings::mistake(b"error the words are: normal [-f] FILE OUT\n", text),
         Verb::Link => sayings::mistake(b"error the words are: link [-f] A B OUT\n", text),
         Verb::Unknown => sayings::mistake(
-            b"error unknown command; the commands are: check list table iid key method slot const normal link\n",
+            b"error unknown command; the commands are: check list table iid looks key method slot const normal link\n",
             text,
         ),
     }

@@ -6,12 +6,12 @@ use mathlib.Core.List.{List, [], _∷_, map}
 use Rattle.number.specs.Choice.{if_then_else_, _<?_, _=?_}
 use Rattle.key.specs.Word.{compareWords, isSame, sameWord}
 use Rattle.words.specs.Words.{startWith, wordsOf}
-use Rattle.verbs.specs.declared.Question.the-variants.{Check, Iid, Key, Method, Slot, Constant}
+use Rattle.verbs.specs.declared.Question.the-variants.{Check, Iid, Looks, Key, Method, Slot, Constant}
 use Rattle.verbs.specs.declared.Verb.the-variants as verb
-use Rattle.verbs.specs.Verbs.{check, list, iid, key, method, slot, const, normal, link, memberOf, questionOf, verbOf}
+use Rattle.verbs.specs.Verbs.{check, list, iid, looks, key, method, slot, const, normal, link, memberOf, questionOf, verbOf}
 use Rattle.verbs.specs.Empty.{hasEmpty}
 
-each : map verbOf (check ∷ list ∷ iid ∷ key ∷ method ∷ slot ∷ const ∷ normal ∷ link ∷ []) ≡ verb.Ask Check ∷ verb.List ∷ verb.Ask Iid ∷ verb.Ask Key ∷ verb.Ask Method ∷ verb.Ask Slot ∷ verb.Ask Constant ∷ verb.Normal ∷ verb.Link ∷ []
+each : map verbOf (check ∷ list ∷ iid ∷ looks ∷ key ∷ method ∷ slot ∷ const ∷ normal ∷ link ∷ []) ≡ verb.Ask Check ∷ verb.List ∷ verb.Ask Iid ∷ verb.Ask Looks ∷ verb.Ask Key ∷ verb.Ask Method ∷ verb.Ask Slot ∷ verb.Ask Constant ∷ verb.Normal ∷ verb.Link ∷ []
 unfolding verbOf questionOf memberOf sameWord isSame compareWords if_then_else_ _<?_
 each = refl
 

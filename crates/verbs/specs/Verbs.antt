@@ -4,11 +4,11 @@ use mathlib.Core.List.{List, [], _∷_}
 use Prim.Native.Nat.{ℕ}
 use Rattle.number.specs.Choice.{if_then_else_}
 use Rattle.key.specs.Word.{sameWord}
-use Rattle.verbs.specs.declared.Question.the-variants.{Check, Iid, Key, Method, Slot, Constant}
+use Rattle.verbs.specs.declared.Question.the-variants.{Check, Iid, Looks, Key, Method, Slot, Constant}
 use Rattle.verbs.specs.declared.Verb.{Verb}
 use Rattle.verbs.specs.declared.Verb.the-variants as verb
 
--- the words `check`, `list`, `table`, `iid`, `key`, `method`, `slot`, `const`, `normal` and `link`
+-- the words `check`, `list`, `table`, `iid`, `looks`, `key`, `method`, `slot`, `const`, `normal` and `link`
 abbrev pub check : List ℕ
 check = 99 ∷ 104 ∷ 101 ∷ 99 ∷ 107 ∷ []
 
@@ -20,6 +20,9 @@ table = 116 ∷ 97 ∷ 98 ∷ 108 ∷ 101 ∷ []
 
 abbrev pub iid : List ℕ
 iid = 105 ∷ 105 ∷ 100 ∷ []
+
+abbrev pub looks : List ℕ
+looks = 108 ∷ 111 ∷ 111 ∷ 107 ∷ 115 ∷ []
 
 abbrev pub key : List ℕ
 key = 107 ∷ 101 ∷ 121 ∷ []
@@ -52,6 +55,7 @@ unfoldable pub questionOf : List ℕ → Verb
 questionOf w =
     if sameWord w check then verb.Ask Check else
     if sameWord w iid then verb.Ask Iid else
+    if sameWord w looks then verb.Ask Looks else
     if sameWord w key then verb.Ask Key else
     memberOf w
 
@@ -70,6 +74,8 @@ unfoldable pub wordsIn : Verb → ℕ
 wordsIn (verb.Ask Check) = 2
 -- iid FILE HEX
 wordsIn (verb.Ask Iid) = 3
+-- looks FILE HEX
+wordsIn (verb.Ask Looks) = 3
 -- key FILE NAMESPACE NAME
 wordsIn (verb.Ask Key) = 4
 -- method FILE INDEX NAME KIND

@@ -9,6 +9,7 @@ ghost use Rattle.verbs.specs.declared.Verb.the-variants.{Ask};
 pub enum Question {
     Check,
     Iid,
+    Looks,
     Key,
     Method,
     Slot,
@@ -41,7 +42,7 @@ fn member_of(word: &[u8]) -> Verb
     Verb::Unknown
 }
 
-// Those and `check`, `iid`, `key`.
+// Those and `check`, `iid`, `looks`, `key`.
 fn question_of(word: &[u8]) -> Verb
     ensures { λ r. ⌜ r ≡ questionOf (now (word .entry)) ⌝ }
 {
@@ -50,6 +51,9 @@ fn question_of(word: &[u8]) -> Verb
     }
     if words::is_same(word, b"iid") {
         return Verb::Ask(Question::Iid);
+    }
+    if words::is_same(word, b"looks") {
+        return Verb::Ask(Question::Looks);
     }
     if words::is_same(word, b"key") {
         return Verb::Ask(Question::Key);
@@ -82,6 +86,7 @@ fn words_asked(question: Question) -> usize
     match question {
         Question::Check => 2,
         Question::Iid => 3,
+        Question::Looks => 3,
         Question::Key => 4,
         Question::Method => 5,
         Question::Slot => 4,

@@ -30,10 +30,17 @@ returns-6 : tie.Need-returns-6
 unfolding questionWords
 returns-6 c = (rw (c .before .before .before .enum-told6 .given .1) (wrote _ _ _ (c .put-bytes6 .ensures)), omega arith)
 
+returns-7 : tie.Need-returns-7
+unfolding questionWords
+returns-7 c = (rw (c .before .before .before .enum-told7 .given .1) (wrote _ _ _ (c .put-bytes7 .ensures)), omega arith)
+
 pub put-question-spec : {M : Type 1} → statement M
 put-question-spec =
     tie.close
     (tie.spec
+    (λ c. search needs)
+    (λ c. search needs)
+    (λ c κs. search needs)
     (λ c. search needs)
     (λ c. search needs)
     (λ c κs. search needs)
@@ -57,4 +64,5 @@ put-question-spec =
     returns-3
     returns-4
     returns-5
-    returns-6)
+    returns-6
+    returns-7)

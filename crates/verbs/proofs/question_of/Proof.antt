@@ -29,12 +29,25 @@ returns-3 c =
 returns-4 : tie.Need-returns-4
 unfolding questionOf
 returns-4 c =
-    let c3 = c .before in
+    let c3 = c .before .before .before in
     let c2 = c3 .before .before .before in
     let c1 = c2 .before .before .before in
     is-false _ _ _ (sym (c1 .before .is-same .ensures) ∙ c1 .if1 .left)
     (is-false _ _ _ (sym (c2 .before .is-same2 .ensures) ∙ c2 .if2 .left)
-    (is-false _ _ _ (sym (c3 .before .is-same3 .ensures) ∙ c3 .if3 .left) (c .member-of .ensures)))
+    (is-false _ _ _ (sym (c3 .before .is-same3 .ensures) ∙ c3 .if3 .left)
+    (is-true _ _ _ (sym (c .before .is-same4 .ensures) ∙ c .if4 .taken) refl)))
+
+returns-5 : tie.Need-returns-5
+unfolding questionOf
+returns-5 c =
+    let c4 = c .before in
+    let c3 = c4 .before .before .before in
+    let c2 = c3 .before .before .before in
+    let c1 = c2 .before .before .before in
+    is-false _ _ _ (sym (c1 .before .is-same .ensures) ∙ c1 .if1 .left)
+    (is-false _ _ _ (sym (c2 .before .is-same2 .ensures) ∙ c2 .if2 .left)
+    (is-false _ _ _ (sym (c3 .before .is-same3 .ensures) ∙ c3 .if3 .left)
+    (is-false _ _ _ (sym (c4 .before .is-same4 .ensures) ∙ c4 .if4 .left) (c .member-of .ensures))))
 
 pub question-of-spec : {M : Type 1} → statement M
 question-of-spec =
@@ -49,5 +62,8 @@ question-of-spec =
     (λ c. search needs)
     (λ c κs. search needs)
     returns-3
+    (λ c. search needs)
     (λ c κs. search needs)
-    returns-4)
+    returns-4
+    (λ c κs. search needs)
+    returns-5)

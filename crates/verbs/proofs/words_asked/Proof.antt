@@ -29,10 +29,15 @@ returns-6 : tie.Need-returns-6
 unfolding wordsIn
 returns-6 c = rw (c .enum-told6 .given .1) refl
 
+returns-7 : tie.Need-returns-7
+unfolding wordsIn
+returns-7 c = rw (c .enum-told7 .given .1) refl
+
 pub words-asked-spec : {M : Type 1} → statement M
 words-asked-spec =
     tie.close
     (tie.spec
+    (λ c. search needs)
     (λ c. search needs)
     (λ c. search needs)
     (λ c. search needs)
@@ -44,4 +49,5 @@ words-asked-spec =
     returns-3
     returns-4
     returns-5
-    returns-6)
+    returns-6
+    returns-7)
