@@ -8,6 +8,7 @@ use second::line::{answers::asked, answers::reason, compare::is_told, compare::t
 use second::making::{builder::*, generate::marked, generate::rich};
 use second::program::{check::check, questions::Lookup};
 use second::tally::{floors, Came, Tally};
+use std::cmp::Ordering;
 use std::panic::{catch_unwind, AssertUnwindSafe};
 use std::path::Path;
 
@@ -109,10 +110,12 @@ fn tree() -> Vec<u8> {
     lib.bytes()
 }
 
-/// The answer to a question as `xpt` gives it, without a last newline; a table is asked by a key.
+/// The answer to a question as `xpt` gives it, without a last newline. A table is asked by a key, and
+/// looks by an IID.
 fn answer(file: &[u8], line: &str) -> String {
     let (command, _) = line.split_once(' ').unwrap();
-    let question = Question::parse(&line.replacen("table", "key", 1)).expect(line);
+    let line = line.replacen("table ", "key ", 1).replacen("looks ", "iid ", 1);
+    let question = Question::parse(&line).expect(&line);
     let outcome = asked(command, file, &question);
     String::from_utf8(outcome.text.unwrap()).unwrap().trim_end_matches('\n').replace('\n', "; ")
 }
@@ -123,6 +126,41 @@ fn readings_of_the_questions() {
         assert_eq!(answer(&tree(), question), expected, "{question}");
         // The file's refusal comes first.
         assert_eq!(answer(&tree()[..81], question), "refused 29 20");
+    }
+}
+
+/// How often the numbers from `low` to `high` are looked at until the one sought, or where it would
+/// stand, is met: by the definition.
+fn looks(low: usize, high: usize, is_at: usize, is_there: bool) -> usize {
+    let middle = (low + high) / 2;
+    match is_at.cmp(&middle) {
+        _ if low > high => 0,
+        Ordering::Equal if is_there => 1,
+        Ordering::Greater => 1 + looks(middle + 1, high, is_at, is_there),
+        _ => 1 + looks(low, middle - 1, is_at, is_there),
+    }
+}
+
+#[test]
+fn looks_by_halving() {
+    for n in [0, 1, 2, 3, 4, 7, 8, 9, 100, 1_023, 1_024] {
+        // IIDs 2, 4, ..; those between are not there.
+        let mut lib = Typelib::plain(n);
+        lib.entries
+            .iter_mut()
+            .zip(1..)
+            .for_each(|(entry, i): (_, u128)| entry.iid = (2 * i).to_be_bytes());
+        let bytes = lib.bytes();
+        let mut most = 0;
+        for iid in 1..2 * n + 2 {
+            let is_there = iid % 2 == 0;
+            let is_at = iid.div_ceil(2);
+            let looked = looks(1, n, is_at, is_there);
+            let answer = (OWN.looks)(&bytes, &(iid as u128).to_be_bytes());
+            assert_eq!(answer, Ok((is_there.then_some(is_at), looked)), "{iid} of {n}");
+            most = most.max(looked);
+        }
+        assert_eq!(most, (n + 1).next_power_of_two().ilog2() as usize, "{n}");
     }
 }
 
@@ -325,7 +363,16 @@ fn what_is_told_and_counted() {
     }
     let short = |numbers| tally.short(&[(("refusal 9", ""), numbers)]).len();
     assert_eq!([[3, 3, 1, 1], [4, 3, 1, 1], [3, 4, 1, 1], [3, 3, 2, 1]].map(short), [0, 1, 1, 1]);
-    let parts =
-        ["compare", "checks", "questions", "lists", "links", "listings", "batches", "alone"];
-    assert_eq!(parts.map(|part| floors(part).len()).iter().sum::<usize>(), 967);
+    let parts = [
+        "compare",
+        "checks",
+        "questions",
+        "lists",
+        "looks",
+        "links",
+        "listings",
+        "batches",
+        "alone",
+    ];
+    assert_eq!(parts.map(|part| floors(part).len()).iter().sum::<usize>(), 1022);
 }

@@ -4,13 +4,13 @@ pub mod saniotka;
 
 use saniotka::{lists, Answer as Told, Which};
 use second::library::{cases::Asked, questions::Question, Program};
-use second::program::questions::{Constant, Kind, Lookup, Method, Slot};
+use second::program::questions::{Constant, Kind, Looked, Lookup, Method, Slot};
 use second::program::{link::LinkRefusal, Answer, Refusal};
 use std::panic::{catch_unwind, AssertUnwindSafe};
 
 /// What the library can be asked.
 pub const LIBRARY: Program =
-    Program { check, iid, key, method, slot, constant, normalise, link, on_list };
+    Program { check, iid, looks, key, method, slot, constant, normalise, link, on_list };
 
 /// Both sides know how long a list must be.
 const _: () = assert!(saniotka::ROOM == second::library::lists::ROOM);
@@ -53,6 +53,11 @@ fn check(file: &[u8]) -> Answer {
 
 fn iid(file: &[u8], iid: &[u8]) -> Lookup<usize> {
     lookup(|| saniotka::interface_by_iid(file, iid), |index| index)
+}
+
+fn looks(file: &[u8], iid: &[u8]) -> Looked {
+    let told = known(|| saniotka::interface_by_iid_counted(file, iid));
+    told.map_or(Err(NONSENSE), |told| told.map_err(refusal))
 }
 
 fn key(file: &[u8], space: &[u8], name: &[u8]) -> Lookup<usize> {
@@ -104,6 +109,7 @@ fn on_list(asked: &Asked, files: &[&[u8]], out: &mut [u8], list: &mut [u64]) -> 
     let file = files[0];
     match asked {
         Asked::Check => lists::check(file, list),
+        Asked::Looks(iid) => lists::iid_counted(file, iid, list),
         Asked::Kind(index, name, kind) => lists::method(file, *index, name, *kind, list),
         Asked::Normal(_) => lists::normal(file, out, list),
         Asked::Link(_) => lists::link(file, files[1], out, list),

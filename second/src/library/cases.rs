@@ -15,6 +15,8 @@ const PATIENCE: Duration = Duration::from_secs(20);
 pub enum Asked {
     Check,
     Question(Question),
+    /// For an IID, with the number of entries looked at.
+    Looks(Vec<u8>),
     /// A method by index, name and the number of its kind.
     Kind(u64, Vec<u8>, u64),
     /// With the length of the buffer.
@@ -38,6 +40,7 @@ impl Case {
         let mut text = match &self.asked {
             Asked::Check => shown((program.check)(files[0])),
             Asked::Question(question) => format!("{:?}", program.ask(files[0], question)),
+            Asked::Looks(iid) => format!("{:?}", (program.looks)(files[0], iid)),
             Asked::Normal(room) | Asked::Link(room) => written(program, &files, *room),
             Asked::Kind(..) => lists::call(program, &self.asked, &files, lists::ROOM).to_string(),
             Asked::List(asked, room) => lists::call(program, asked, &files, *room).to_string(),

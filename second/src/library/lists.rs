@@ -70,6 +70,11 @@ fn numbers(asked: &Asked, files: &[&[u8]], out: &mut [u8]) -> Vec<u64> {
             Err(why) => vec![why.number.into(), why.place as u64],
         },
         Asked::Question(question) => reply(OWN.ask(files[0], question)),
+        Asked::Looks(iid) => match (OWN.looks)(files[0], iid) {
+            Ok((Some(index), looked)) => vec![0, index as u64, looked as u64],
+            Ok((None, looked)) => vec![1, looked as u64],
+            Err(why) => vec![3, why.number.into(), why.place as u64],
+        },
         Asked::Kind(index, name, kind) => reply(of_kind(files[0], *index, name, *kind)),
         Asked::Normal(_) => match (OWN.normalise)(files[0], out) {
             Ok(length) => vec![0, length as u64],
@@ -155,6 +160,7 @@ fn about(asked: &Asked) -> &'static str {
     match asked {
         Asked::Check => "check",
         Asked::Question(Question::Iid(_)) => "IID",
+        Asked::Looks(_) => "looks",
         Asked::Question(Question::Key(..)) => "key",
         Asked::Question(Question::Method(..)) => "method",
         Asked::Question(Question::Slot(..)) => "slot",
@@ -172,6 +178,9 @@ fn ask(session: &mut Session, rng: &mut Rng, bytes: &[u8], [own, lib]: [&Typelib
     let second = lib.bytes();
     let mut asked = vec![Asked::Check];
     asked.extend((0..5).map(|turn| Asked::Question(questions::question(own, rng, turn).1)));
+    if let (_, Question::Iid(iid)) = questions::question(own, rng, 0) {
+        asked.push(Asked::Looks(iid));
+    }
     let (_, method) = questions::question(own, rng, 2);
     if let Question::Method(index, name, _) = method {
         asked.push(Asked::Kind(index, name, no_kind(rng)));

@@ -4,11 +4,14 @@ pub mod cases;
 pub mod checks;
 pub mod links;
 pub mod lists;
+pub mod looks;
 pub mod questions;
 
 use crate::in_parallel;
-use crate::program::questions::{of as asked, Constant, Kind, Lookup, Method};
-use crate::program::{check, link::link, link::LinkRefusal, normal::normalise, Answer, Refusal};
+use crate::program::questions::{of as asked, Constant, Kind, Looked, Lookup, Method};
+use crate::program::{
+    check, check::accept, link::link, link::LinkRefusal, normal::normalise, Answer, Refusal,
+};
 use crate::tally::Tally;
 use cases::{Asked, Case};
 use std::{panic::panic_any, time::Instant};
@@ -18,6 +21,7 @@ use std::{panic::panic_any, time::Instant};
 pub struct Program {
     pub check: fn(&[u8]) -> Answer,
     pub iid: fn(&[u8], &[u8]) -> Lookup<usize>,
+    pub looks: fn(&[u8], &[u8]) -> Looked,
     pub key: fn(&[u8], &[u8], &[u8]) -> Lookup<usize>,
     pub method: fn(&[u8], u64, &[u8], Kind) -> Lookup<Method>,
     pub slot: fn(&[u8], u64, u64) -> Lookup<Method>,
@@ -32,6 +36,7 @@ pub struct Program {
 pub const OWN: Program = Program {
     check: check::check,
     iid: |file, iid| asked(file, |lib| lib.interface_by_iid(iid)),
+    looks: |file, iid| accept(file)?.looks(iid),
     key: |file, namespace, name| asked(file, |lib| lib.interface_by_key(namespace, name)),
     method: |file, index, name, kind| asked(file, |lib| lib.method_by_name(index, name, kind)),
     slot: |file, index, slot| asked(file, |lib| lib.method_by_slot(index, slot)),
@@ -59,11 +64,12 @@ impl Session {
 /// A part: its name, what it runs, and the rows that count comparisons.
 type Part = (&'static str, fn(&mut Session), &'static [&'static str]);
 
-pub const PARTS: [Part; 4] = [
+pub const PARTS: [Part; 5] = [
     ("links", links::run, &["links", "normal forms"]),
     ("checks", checks::run, &["checks"]),
     ("questions", questions::run, &["questions"]),
     ("lists", lists::run, &["calls"]),
+    ("looks", looks::run, &["looks"]),
 ];
 
 /// What a run is asked for: names of parts, none for all, a seed, and how many seeds from there.

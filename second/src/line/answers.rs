@@ -140,6 +140,7 @@ pub fn written(files: &[&[u8]]) -> Outcome {
 pub fn asked(command: &str, file: &[u8], question: &Question) -> Outcome {
     match (command, question) {
         ("table", Question::Key(space, name)) => tabled(file, space, name),
+        ("looks", Question::Iid(iid)) => looked(file, iid),
         _ => told(OWN.ask(file, question)),
     }
 }
@@ -154,6 +155,14 @@ fn tabled(file: &[u8], space: &[u8], name: &[u8]) -> Outcome {
         other => return told(other.map(|_| unreachable!("it is not found"))),
     };
     Outcome::line(what, text)
+}
+
+fn looked(file: &[u8], iid: &[u8]) -> Outcome {
+    match (OWN.looks)(file, iid) {
+        Ok((Some(i), looked)) => Outcome::line("found", format!("found {i} looked {looked}")),
+        Ok((None, looked)) => Outcome::line("none", format!("none looked {looked}")),
+        Err(why) => told(Lookup::Refused(why)),
+    }
 }
 
 fn told(reply: Reply) -> Outcome {

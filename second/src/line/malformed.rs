@@ -27,11 +27,12 @@ pub fn every_kind(script: &mut Script, file: &Name, good: &Name, out: &Name) {
 }
 
 /// The words that each command takes.
-const USAGES: [&str; 10] = [
+const USAGES: [&str; 11] = [
     "check FILE",
     "list FILE",
     "table FILE NAMESPACE NAME",
     "iid FILE HEX",
+    "looks FILE HEX",
     "key FILE NAMESPACE NAME",
     "method FILE INDEX NAME getter|setter|plain",
     "slot FILE INDEX SLOT",
@@ -40,7 +41,7 @@ const USAGES: [&str; 10] = [
     "link [-f] A B OUT",
 ];
 
-const COMMANDS: &str = "check list table iid key method slot const normal link";
+const COMMANDS: &str = "check list table iid looks key method slot const normal link";
 
 /// What the error says, of the kinds where that is fixed.
 fn told(kind: &str, words: &[Vec<u8>]) -> Option<String> {
@@ -57,7 +58,7 @@ fn told(kind: &str, words: &[Vec<u8>]) -> Option<String> {
 }
 
 /// Every command, with good words.
-const GOOD: [&str; 12] = [
+const GOOD: [&str; 13] = [
     "check F",
     "list F",
     "normal F O",
@@ -65,6 +66,7 @@ const GOOD: [&str; 12] = [
     "normal -f F O",
     "link -f F G O",
     "iid F 00000000000000000000000000000001",
+    "looks F 00000000000000000000000000000001",
     "key F - A",
     "table F - A",
     "method F 1 m plain",
@@ -104,7 +106,8 @@ const KINDS: [(&str, Line); 23] = [
     }),
     ("IID not hexadecimal", not_hexadecimal),
     ("IID with an odd digit", |rng, _, _| {
-        format!("iid F {}", "1".repeat(*rng.pick(&[1, 3, 15, 31, 33, 63, 65]))).into()
+        let command = rng.pick(&BY_IID);
+        format!("{command} F {}", "1".repeat(*rng.pick(&[1, 3, 15, 31, 33, 63, 65]))).into()
     }),
     ("index not decimal", |rng, _, _| with_index(rng, not_decimal)),
     ("index over 64 bits", |rng, _, _| with_index(rng, too_large)),
@@ -145,6 +148,9 @@ fn unknown_command(rng: &mut Rng, alone: bool, _: &str) -> Vec<u8> {
     format!("{} F", rng.pick(&words[..words.len() - if alone { 2 } else { 0 }])).into()
 }
 
+/// The commands that take an IID.
+const BY_IID: [&str; 2] = ["iid", "looks"];
+
 fn not_hexadecimal(rng: &mut Rng, _: bool, _: &str) -> Vec<u8> {
     let mut digits = b"0123456789abcdefABCDEF0123456789".to_vec();
     match rng.below(4) {
@@ -153,7 +159,7 @@ fn not_hexadecimal(rng: &mut Rng, _: bool, _: &str) -> Vec<u8> {
         2 => digits[30..].copy_from_slice("\u{b2}".as_bytes()),
         _ => digits[rng.below(32)] = *rng.pick(b"gG/:@`hzZ.+-\x7f\xb1"),
     }
-    [b"iid F ", &digits[..]].concat()
+    [rng.pick(&BY_IID).as_bytes(), b" F ", &digits[..]].concat()
 }
 
 fn with_index(rng: &mut Rng, index: fn(&mut Rng) -> String) -> Vec<u8> {
@@ -199,7 +205,7 @@ pub fn empty_words(script: &mut Script, file: &Name) {
         step.counts.push(("line", "with an empty word", None));
         step.outcome.or_error = !alone || !strictly;
     };
-    ask("iid", &[""], true, Question::Iid(Vec::new()));
+    BY_IID.into_iter().for_each(|command| ask(command, &[""], true, Question::Iid(Vec::new())));
     for command in ["key", "table"] {
         ask(command, &["-", ""], true, Question::Key(Vec::new(), Vec::new()));
         ask(command, &["", "A"], false, Question::Key(Vec::new(), b"A".to_vec()));

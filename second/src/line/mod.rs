@@ -44,6 +44,7 @@ fn batch(s: &mut Script, supply: &Supply, k: usize) {
     (0..60).for_each(|_| stories::asked(s, 36));
     for _ in 0..8 {
         stories::tabled(s);
+        stories::looked(s);
         stories::linked(s);
         stories::normalised(s);
     }
@@ -81,6 +82,7 @@ fn alone(s: &mut Script, supply: &Supply, k: usize) {
     let one = stories::placed(s);
     stories::asked(s, 12);
     stories::tabled(s);
+    stories::looked(s);
     stories::every_answer(s);
     let bad = supply.refused(k);
     bad.iter().for_each(|bytes| stories::checked(s, bytes, &one));

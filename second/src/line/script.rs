@@ -2,7 +2,7 @@
 
 use super::answers::{self, Bytes, Outcome, Words};
 use super::iids;
-use crate::library::questions::Question;
+use crate::library::{looks::LOOKED, questions::Question};
 use crate::making::rng::Rng;
 use crate::program::format::{refusal, Refusal};
 use crate::tally::{LINK, NUMBER};
@@ -269,6 +269,11 @@ impl Script {
         self.ask_by("table", file, key);
     }
 
+    /// The interface of an IID, with the number of entries looked at.
+    pub fn looks(&mut self, file: &Name, iid: &Question) {
+        self.ask_by("looks", file, iid);
+    }
+
     /// One question, if it can be put so: a line has no spaces inside words, and the words of a
     /// command alone have no zero bytes and are not very long.
     fn ask_by(&mut self, command: What, file: &Name, question: &Question) {
@@ -298,6 +303,7 @@ impl Script {
         let step = self.ask_so(file, command, words, &question);
         step.counts.extend(spelling(step));
         step.counts.extend(owners(step));
+        step.counts.extend(looked(step));
         if is_long || is_empty {
             let what = if is_long { "over 65,535 bytes" } else { "with an empty word" };
             step.counts.push(("line", what, None));
@@ -402,6 +408,13 @@ fn owners(step: &Step) -> Option<Count> {
         _ => "from eight or more interfaces",
     };
     Some(("table", what, None))
+}
+
+/// How many entries were looked at.
+fn looked(step: &Step) -> Option<Count> {
+    let text = step.outcome.text.as_ref().filter(|_| step.words[0] == b"looks")?;
+    let (_, number) = std::str::from_utf8(text).ok()?.split_once(" looked ")?;
+    Some(("looks", LOOKED[number.parse::<usize>().ok()?], None))
 }
 
 /// Takes steps from these stories by chance, each story's in order.

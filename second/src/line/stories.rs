@@ -2,7 +2,7 @@
 
 use super::script::{Name, Script, FORCED, INPUT, SUBFOLDER};
 use super::{answers::Bytes, malformed};
-use crate::library::{links::ORDERS, questions::question, questions::Question};
+use crate::library::{links::ORDERS, looks, questions::question, questions::Question};
 use crate::making::{builder::*, generate, hostile, model, pairs, rng::Rng};
 use crate::program::{check::check, listing::MAX_INPUT};
 
@@ -49,6 +49,10 @@ pub fn questions(script: &mut Script, file: &Name, count: usize) {
                 let (_, key) = question(&model, &mut script.rng, 1);
                 script.table(file, &key);
             }
+            3 => {
+                let (_, iid) = question(&model, &mut script.rng, 0);
+                script.looks(file, &iid);
+            }
             _ => {
                 let (_, question) = question(&model, &mut script.rng, start + turn);
                 script.ask(file, &question);
@@ -84,8 +88,10 @@ pub fn every_answer(script: &mut Script) {
         let question = Question::parse(line).expect(line);
         script.story();
         script.ask(&file, &question);
-        if matches!(question, Question::Key(..)) {
-            script.table(&file, &question);
+        match question {
+            Question::Key(..) => script.table(&file, &question),
+            Question::Iid(_) => script.looks(&file, &question),
+            _ => {}
         }
     }
 }
@@ -102,6 +108,21 @@ pub fn tabled(script: &mut Script) {
     for _ in 0..6 {
         let (_, key) = question(&lib, &mut script.rng, 1);
         script.table(&file, &key);
+    }
+}
+
+/// A directory of any size, asked for IIDs that are there and for others.
+pub fn looked(script: &mut Script) {
+    let rng = &mut script.rng;
+    let n = looks::size(rng);
+    let zeros = looks::zeros(rng, n);
+    let lib = generate::directory(rng, n, zeros);
+    let iids: Vec<_> = lib.entries.iter().map(|entry| u128::from_be_bytes(entry.iid)).collect();
+    let sought = looks::sought(&iids, rng, 4);
+    let file = script.place(lib.bytes());
+    script.story();
+    for (_, iid) in sought {
+        script.looks(&file, &Question::Iid(iid.to_be_bytes().into()));
     }
 }
 

@@ -512,6 +512,14 @@ pub fn chain(count: usize, upward: bool) -> Typelib {
     lib
 }
 
+/// Unresolved entries, so many of them without IID.
+pub fn directory(rng: &mut Rng, count: usize, zeros: usize) -> Typelib {
+    let mut lib = Typelib::plain(count);
+    let ids = [vec![[0; 16]; zeros], iids(rng, count - zeros)].concat();
+    lib.entries.iter_mut().zip(ids).for_each(|(entry, iid)| entry.iid = iid);
+    lib
+}
+
 /// A deep chain with methods of all kinds, below a top that has none. At times one is unresolved.
 pub fn deep(rng: &mut Rng) -> Typelib {
     let size = Size { entries: 0, methods: 4, arguments: 3, constants: 1, name: 6 };

@@ -3,6 +3,7 @@
 use super::accepted::Accepted;
 use super::check::{accept, is_identifier};
 use super::format::{refusal, Refusal, GETTER, SETTER};
+use std::cmp::Ordering;
 
 /// What a question is answered.
 #[derive(Clone, Copy, Debug, PartialEq, Eq)]
@@ -113,6 +114,9 @@ impl Constant {
     }
 }
 
+/// An index, if there is one, and how many entries were looked at.
+pub type Looked = Result<(Option<usize>, usize), Refusal>;
+
 pub const MALFORMED: Refusal = Refusal { number: refusal::QUESTION, place: 0 };
 
 /// Asks a file that is accepted.
@@ -127,20 +131,28 @@ pub fn of<'a, T>(file: &'a [u8], ask: impl FnOnce(&Accepted<'a>) -> Lookup<T>) -
 impl Accepted<'_> {
     /// Interface by IID: its index.
     pub fn interface_by_iid(&self, iid: &[u8]) -> Lookup<usize> {
+        self.looks(iid).map_or_else(Lookup::Refused, |(index, _)| found(index))
+    }
+
+    /// Interface by IID: its index, if there is one, and how many entries were looked at. Directory
+    /// entries are in the order of IIDs; of what is left the middle one is looked at, the lower of two.
+    pub fn looks(&self, iid: &[u8]) -> Looked {
         let asked = match <[u8; 16]>::try_from(iid).map(u128::from_be_bytes) {
             Ok(asked) if asked != 0 => asked,
-            _ => return Lookup::Refused(MALFORMED),
+            _ => return Err(MALFORMED),
         };
-        // Directory entries are in the order of IIDs.
-        let (mut low, mut high) = (1, self.n + 1);
-        while low < high {
+        let (mut low, mut high) = (1, self.n);
+        let mut looked = 0;
+        while low <= high {
             let middle = (low + high) / 2;
-            match self.iid(middle) < asked {
-                true => low = middle + 1,
-                false => high = middle,
+            looked += 1;
+            match self.iid(middle).cmp(&asked) {
+                Ordering::Less => low = middle + 1,
+                Ordering::Equal => return Ok((Some(middle), looked)),
+                Ordering::Greater => high = middle - 1,
             }
         }
-        found((low <= self.n && self.iid(low) == asked).then_some(low))
+        Ok((None, looked))
     }
 
     /// Interface by key: its index. An empty namespace asks for the default.

@@ -1,6 +1,6 @@
 //! Runs this program and the linked library over everything generated: fails on any difference
 //! and where too little was covered. Differences are made smaller and kept in second/cases.
-//! usage: compare [checks] [questions] [links] [lists] [long] [SEED]
+//! usage: compare [checks] [questions] [links] [lists] [looks] [long] [SEED]
 //!
 //! Without names of parts all are run. `long` runs with twenty seeds.
 
@@ -18,7 +18,7 @@ fn main() -> ExitCode {
                 chosen.parts.push(argument)
             }
             Err(_) => {
-                eprintln!("usage: compare [checks] [questions] [links] [lists] [long] [SEED]");
+                eprintln!("usage: compare [PART ..] [long] [SEED]");
                 return ExitCode::from(2);
             }
         }

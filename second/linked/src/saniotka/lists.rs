@@ -16,6 +16,7 @@ type List = *mut u64;
 extern "C" {
     fn saniotka_check(f: In, fl: usize, a: List, al: usize) -> i32;
     fn saniotka_iid(f: In, fl: usize, iid: In, il: usize, a: List, al: usize) -> i32;
+    fn saniotka_looks(f: In, fl: usize, iid: In, il: usize, a: List, al: usize) -> i32;
     fn saniotka_key(f: In, fl: usize, s: In, sl: usize, n: In, nl: usize, a: List, al: usize) -> i32;
     fn saniotka_method(f: In, fl: usize, i: u64, n: In, nl: usize, k: u64, a: List, al: usize) -> i32;
     fn saniotka_slot(f: In, fl: usize, i: u64, slot: u64, a: List, al: usize) -> i32;
@@ -36,6 +37,11 @@ pub fn check(file: &[u8], answer: &mut [u64]) -> i32 {
 pub fn iid(file: &[u8], iid: &[u8], answer: &mut [u64]) -> i32 {
     let (f, a) = (file, answer);
     unsafe { saniotka_iid(f.as_ptr(), f.len(), iid.as_ptr(), iid.len(), a.as_mut_ptr(), a.len()) }
+}
+
+pub fn iid_counted(file: &[u8], iid: &[u8], answer: &mut [u64]) -> i32 {
+    let (f, a, i, i_length) = (file, answer, iid.as_ptr(), iid.len());
+    unsafe { saniotka_looks(f.as_ptr(), f.len(), i, i_length, a.as_mut_ptr(), a.len()) }
 }
 
 pub fn key(file: &[u8], space: &[u8], name: &[u8], answer: &mut [u64]) -> i32 {

@@ -91,6 +91,22 @@ pub fn interface_by_iid(file: &[u8], iid: &[u8]) -> Answer<usize> {
     asked(|list| lists::iid(file, iid, list), interface)
 }
 
+/// Interface by IID, if there is one, and how many entries of the directory were looked at.
+pub fn interface_by_iid_counted(
+    file: &[u8],
+    iid: &[u8],
+) -> Result<(Option<usize>, usize), Refusal> {
+    told(
+        |list| lists::iid_counted(file, iid, list),
+        |numbers| match *numbers {
+            [0, index, looked] => Some(Ok((Some(index as usize), looked as usize))),
+            [1, looked] => Some(Ok((None, looked as usize))),
+            [3, number, place] => Some(Err(refusal(number, place)?)),
+            _ => None,
+        },
+    )
+}
+
 /// Interface by key; an empty namespace asks for the default.
 pub fn interface_by_key(file: &[u8], space: &[u8], name: &[u8]) -> Answer<usize> {
     asked(|list| lists::key(file, space, name, list), interface)
