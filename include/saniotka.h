@@ -113,6 +113,16 @@ int saniotka_check(const uint8_t *file, size_t length, uint64_t *answer, size_t 
 int saniotka_iid(const uint8_t *file, size_t length, const uint8_t *iid, size_t iid_length, uint64_t *answer,
                  size_t answers);
 
+/* The same question, with the number of directory entries that were looked at: the directory, which is sorted, is halved,
+ * so these are at most 11.
+ *
+ *     SANIOTKA_FOUND, index, looked
+ *     SANIOTKA_NONE, looked
+ *     SANIOTKA_REFUSED, number, place   as above
+ */
+int saniotka_looks(const uint8_t *file, size_t length, const uint8_t *iid, size_t iid_length, uint64_t *answer,
+                   size_t answers);
+
 /* Which interface has this key? An empty namespace asks for the default one. Names and namespaces are 1 to 255 bytes
  * of well-formed UTF-8 (RFC 3629), none of them up to 0x20 nor 0x7F, and not a lone `-`, here and below; anything else is malformed. Answered as
  * above.

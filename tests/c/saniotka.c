@@ -104,6 +104,11 @@ static void interfaces(void) {
     EXPECT(saniotka_iid(FILE_OF(gas), iid, 15, list(), NUMBERS), "0: [0] 3 [1] 20 [2] 0");
     EXPECT(saniotka_iid(FILE_OF(gas), NULL, 0, list(), NUMBERS), "0: [0] 3 [1] 20 [2] 0");
     EXPECT(saniotka_iid(FILE_OF(gas_torn), iid, 15, list(), NUMBERS), "0: [0] 3 [1] 29 [2] 20");
+    EXPECT(saniotka_looks(FILE_OF(gas), iid, 16, list(), NUMBERS), "0: [0] 0 [1] 2 [2] 1");
+    EXPECT(saniotka_looks(FILE_OF(alarms), iid, 16, list(), NUMBERS), "0: [0] 0 [1] 3 [2] 2");
+    EXPECT(saniotka_looks(FILE_OF(gas), gas, 16, list(), NUMBERS), "0: [0] 1 [1] 2");
+    EXPECT(saniotka_looks(FILE_OF(gas), iid, 15, list(), NUMBERS), "0: [0] 3 [1] 20 [2] 0");
+    EXPECT(saniotka_looks(FILE_OF(gas_torn), iid, 15, list(), NUMBERS), "0: [0] 3 [1] 29 [2] 20");
     EXPECT(saniotka_key(FILE_OF(alarms), TEXT("console"), TEXT("IAlarmList"), list(), NUMBERS), "0: [0] 0 [1] 3");
     EXPECT(saniotka_key(FILE_OF(gas), NULL, 0, TEXT("nsISupports"), list(), NUMBERS), "0: [0] 0 [1] 1");
     EXPECT(saniotka_key(FILE_OF(gas), TEXT("gas"), TEXT("IAlarmList"), list(), NUMBERS), "0: [0] 1");
@@ -182,6 +187,7 @@ static void short_lists(void) {
     for (room = 0; room < SANIOTKA_ROOM; room++) {
         EXPECT(saniotka_check(FILE_OF(alarms), list(), room), "1:");
         EXPECT(saniotka_iid(FILE_OF(alarms), alarms, 16, list(), room), "1:");
+        EXPECT(saniotka_looks(FILE_OF(alarms), alarms, 16, list(), room), "1:");
         EXPECT(saniotka_key(FILE_OF(alarms), TEXT("console"), TEXT("IAlarmList"), list(), room), "1:");
         EXPECT(saniotka_method(FILE_OF(alarms), 3, TEXT("acknowledge"), SANIOTKA_PLAIN, list(), room), "1:");
         EXPECT(saniotka_slot(FILE_OF(alarms), 3, 2, list(), room), "1:");
