@@ -7,6 +7,7 @@ use Prim.Native.Nat.{ℕ, _≤_}
 use lib.ListN.{length}
 use Rattle.number.specs.Choice.{_<?_}
 use Rattle.number.proofs.Choice.{both, from-not-lt}
+use Rattle.reading.specs.declared.Refusal.{Refusal}
 use Rattle.reader.specs.Reader.{decode}
 use Rattle.joining.specs.Outcome.{Outcome, refused, written, inRoom, normalisedAs, refusal}
 use Rattle.words.specs.Words.{wordsOf}
@@ -16,6 +17,7 @@ use Rattle.tasks.specs.declared.Task.{Task}
 use Rattle.tasks.specs.declared.Task.the-variants.{Mistaken, Run}
 use Rattle.tasks.specs.Tasks.{inBatch, taskOf}
 use Rattle.link.specs.declared.Which.the-variants.{Union}
+use Rattle.adopt.specs.Adopt.{adoptIn, adoptAnswer}
 use Rattle.link.specs.Outcome.{normaliseIn, normalOf, normaliseAnswer, linkIn, linkOf, linkedAs, linkAnswer, refusalOf}
 use Rattle.commands.specs.declared.Save.{Save}
 use Rattle.commands.specs.Answer.{normalisedSave, linkedSave, verbAnswer, taskAnswer, answerOf, SavedIn}
@@ -31,13 +33,21 @@ in-room stop room (refused x) = tt
 in-room {X} stop room (written bytes) =
     both (λ (o : Outcome X). Fits room o) (room <? length bytes) (refused (stop 27 (length bytes))) (written bytes) (λ _. tt) (λ t. from-not-lt room (length bytes) t)
 
-normal-saves : (s out : List ℕ) → SavedIn (length out) (normalisedSave (normaliseAnswer s out))
-unfolding normaliseAnswer normaliseIn normalisedAs normalisedSave
-normal-saves s out = go (inRoom refusal (length out) (normalOf (decode s))) (in-room refusal (length out) (normalOf (decode s)))
+normalised-saves : (room : ℕ) (o : Outcome Refusal) → SavedIn room (normalisedSave (normalisedAs (inRoom refusal room o)))
+unfolding normalisedAs normalisedSave
+normalised-saves room o = go (inRoom refusal room o) (in-room refusal room o)
   where
-    go : (o : Outcome _) → Fits (length out) o → SavedIn (length out) (normalisedSave (normalisedAs o))
+    go : (p : Outcome Refusal) → Fits room p → SavedIn room (normalisedSave (normalisedAs p))
     go (refused x) h = tt
     go (written bytes) h = h
+
+normal-saves : (s out : List ℕ) → SavedIn (length out) (normalisedSave (normaliseAnswer s out))
+unfolding normaliseAnswer normaliseIn
+normal-saves s out = normalised-saves (length out) (normalOf (decode s))
+
+pub adopt-saves : (s out : List ℕ) → SavedIn (length out) (normalisedSave (adoptAnswer s out))
+unfolding adoptAnswer adoptIn
+adopt-saves s out = normalised-saves (length out) _
 
 link-saves : (a b out : List ℕ) → SavedIn (length out) (linkedSave (linkAnswer a b out))
 unfolding linkAnswer linkIn linkedAs linkedSave
@@ -53,6 +63,7 @@ verb-saves b (verb.Ask q) ws first second out = tt
 verb-saves b verb.List ws first second out = tt
 verb-saves b verb.Table ws first second out = tt
 verb-saves b verb.Normal ws first second out = normal-saves first out
+verb-saves b verb.Adopt ws first second out = adopt-saves first out
 verb-saves b verb.Link ws first second out = link-saves first second out
 verb-saves b verb.Unknown ws first second out = tt
 

@@ -2,8 +2,9 @@
 -- Assumes nothing.
 use mathlib.Core.Path.{_≡_}
 use mathlib.Core.Bool.{Bool}
-use mathlib.Core.List.{List}
+use mathlib.Core.List.{List, []}
 use Prim.Native.Nat.{ℕ, _≤_}
+use lib.ListN.{take}
 use Rattle.words.specs.Words.{wordsOf, wordIn}
 use Rattle.verbs.specs.declared.Verb.{Verb}
 use Rattle.verbs.specs.declared.Verb.the-variants as verb
@@ -17,7 +18,9 @@ use Rattle.link.specs.declared.Which.the-variants.{First, Union}
 use Rattle.link.specs.declared.Linked.{Linked}
 use Rattle.link.specs.declared.Linked.the-variants as linked
 use Rattle.link.specs.Outcome.{normaliseAnswer, normaliseBuffer, linkAnswer, linkBuffer}
-use Rattle.outcomes.specs.Lines.{sayNormalised, sayLinked}
+use Rattle.reader.specs.Reader.{checkOf}
+use Rattle.adopt.specs.Adopt.{adoptAnswer, adoptBuffer}
+use Rattle.outcomes.specs.Lines.{sayNormalised, sayAdopted, sayLinked}
 use Rattle.listed.specs.declared.Opened.{Opened}
 use Rattle.listed.specs.Text.{listSaying}
 use Rattle.listed.specs.Rest.{noRest, Opens}
@@ -42,10 +45,15 @@ pub record Answer : Type 0 where
 abbrev pub answered : Saying → List ℕ → Answer
 answered x out = record { saying = x; whose = First; save = Nothing; output = out }
 
--- a normal form that was written is saved
+-- what was written is saved
 unfoldable pub normalisedSave : Normalised → Save
 normalisedSave (normalised.Written n) = FirstBytes n
 normalisedSave (normalised.Refused x) = Nothing
+
+-- what was written of this buffer
+unfoldable pub writtenIn : Normalised → List ℕ → List ℕ
+writtenIn (normalised.Written n) out = take n out
+writtenIn (normalised.Refused x) out = []
 
 unfoldable pub linkedSave : Linked → Save
 linkedSave (linked.Written n) = FirstBytes n
@@ -63,6 +71,10 @@ verbAnswer b verb.Table ws first second out = answered (tableSaying b first (wor
 verbAnswer b verb.Normal ws first second out =
     let n : Normalised = normaliseAnswer first out in
     record { saying = sayNormalised n; whose = First; save = normalisedSave n; output = normaliseBuffer first out }
+verbAnswer b verb.Adopt ws first second out =
+    let n : Normalised = adoptAnswer first out in
+    let left : List ℕ = adoptBuffer first out in
+    record { saying = sayAdopted n (checkOf (writtenIn n left)); whose = First; save = normalisedSave n; output = left }
 verbAnswer b verb.Link ws first second out =
     let l : Linked = linkAnswer first second out in
     record { saying = sayLinked l; whose = linkedWhose l; save = linkedSave l; output = linkBuffer first second out }

@@ -98,6 +98,24 @@ fn normal(first: &[u8], out: &mut [u8], text: &mut [u8; ANSWER_ROOM]) -> Reply
     }
 }
 
+// The command `adopt`: what the check says of what was written is told with it.
+fn adopt(first: &[u8], out: &mut [u8], text: &mut [u8; ANSWER_ROOM]) -> Reply
+    ensures { λ r. ⌜ ((b : Bool) (ws : List (List ℕ)) (second : List ℕ) → Replies b (verbAnswer b verb.Adopt ws (now (first .entry)) second (now (out .entry))) (now (first .entry)) (now (text .entry)) r (now (out .exit)) (now (text .exit))) ⌝ }
+{
+    match adopt::adopt(first, out) {
+        Normalised::Written(n) => {
+            let verdict = reader::check(&out[0..n]);
+            Reply {
+                said: outcomes::adopted(n, verdict, text),
+                rest: listed::no_rest(),
+                whose: Which::First,
+                save: Save::FirstBytes(n),
+            }
+        }
+        Normalised::Refused(why) => answered(sayings::refused(why, text)),
+    }
+}
+
 // The command `link`.
 fn link(first: &[u8], second: &[u8], out: &mut [u8], text: &mut [u8; ANSWER_ROOM]) -> Reply
     ensures { λ r. ⌜ ((b : Bool) (ws : List (List ℕ)) → Replies b (verbAnswer b verb.Link ws (now (first .entry)) (now (second .entry)) (now (out .entry))) (now (first .entry)) (now (text .entry)) r (now (out .exit)) (now (text .exit))) ⌝ }
@@ -154,6 +172,7 @@ fn run(
         Verb::List => list(first, tasks::in_batch(separator), text),
         Verb::Table => table(line, separator, first, tasks::in_batch(separator), text),
         Verb::Normal => normal(first, out, text),
+        Verb::Adopt => adopt(first, out, text),
         Verb::Link => link(first, second, out, text),
         Verb::Unknown => answered(tasks::tell(Mistake::Words(Verb::Unknown), text)),
     }

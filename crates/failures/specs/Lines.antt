@@ -34,6 +34,7 @@ verbWords (verb.Ask question) = questionWords question
 verbWords verb.List = ascii "list FILE"
 verbWords verb.Table = ascii "table FILE NAMESPACE NAME"
 verbWords verb.Normal = ascii "normal [-f] FILE OUT"
+verbWords verb.Adopt = ascii "adopt [-f] FILE OUT"
 verbWords verb.Link = ascii "link [-f] A B OUT"
 verbWords verb.Unknown = []
 

@@ -21,7 +21,8 @@ unfoldable pub after : ℕ → Looked → Looked
 after k (Found i n) = Found i (k + n)
 after k (None n) = None (k + n)
 
--- v is looked for among g low to g high: a match stops; else the half that can hold it is kept, without the entry looked at
+-- v is looked for among g low to g high: a match stops; else the half that can hold it is kept, without the entry looked at.
+-- The first number bounds the looks; the number of entries is never used up.
 unfoldable pub halve : ℕ → (ℕ → ℕ) → ℕ → ℕ → ℕ → Looked
 halve zero g v low high = None 0
 halve (suc left) g v low high =
@@ -31,7 +32,7 @@ halve (suc left) g v low high =
     (if g (middle low high) <? v then middle low high + 1 else low)
     (if g (middle low high) <? v then high else middle low high - 1))
 
--- the IID of the entry with index i
+-- the IID of the entry with index i, counted from 1
 abbrev pub iidAt : List (Entry ℕ) → ℕ → ℕ
 iidAt es i = iidOf es (i - 1)
 
@@ -49,7 +50,7 @@ unfoldable pub indexIn : Looked → Option ℕ
 indexIn (Found i k) = some i
 indexIn (None k) = none
 
--- two numbers
+-- a before b, after it, or the same
 unfoldable pub compareNumbers : ℕ → ℕ → Order
 compareNumbers a b =
     if a <? b then Before else

@@ -12,7 +12,7 @@ tab b = if b =? 10 then 9 else b
 unfoldable pub tabbed : List ℕ → List ℕ
 tabbed text = map tab text
 
--- a tab as a newline, and each of a text so: how a reader of a batch has the text back
+-- a tab as a newline, and each of a text so: how a reader of a batch has the text back, if it has no tab of its own
 unfoldable pub untab : ℕ → ℕ
 untab b = if b =? 9 then 10 else b
 

@@ -93,7 +93,7 @@ unfoldable pub askLooks : Got Typelib → List ℕ → CountedAnswer
 askLooks (bad n q) w = counted.Refused (refusal n q)
 askLooks (got t e) w = looksAnswer (entriesIn t) w
 
--- the answer alone, and the number alone; a refusal has none
+-- the answer alone, and the number alone, 0 for a refusal
 unfoldable pub uncounted : CountedAnswer → InterfaceAnswer
 uncounted (counted.Found i k) = interface.Found i
 uncounted (counted.None k) = interface.None

@@ -16,7 +16,7 @@ use Rattle.failures.specs.Lines.{verbWords}
 unfoldable pub answerText : Question → List ℕ
 answerText Check = ascii "accepted and the number of interfaces, or refused with a number and a place"
 answerText Iid = ascii "found and the index of the interface with this IID, or none"
-answerText Looks = ascii "the same, with the number of entries looked at"
+answerText Looks = ascii "found and the index of the interface with this IID, or none, and how many entries were looked at"
 answerText Key = ascii "found and the index of the interface of this name, or none; - is the default namespace"
 answerText Method = ascii "found, the index of the interface that has the method, its position there, slot, distance and total"
 answerText Slot = ascii "the method in this slot, told in the same way"
@@ -28,6 +28,7 @@ purposeText (verb.Ask question) = answerText question
 purposeText verb.List = ascii "every interface with its methods and constants"
 purposeText verb.Table = ascii "every slot of the interface of this name in order, inherited ones first; ? for a slot that is not known"
 purposeText verb.Normal = ascii "writes the normal form of FILE to OUT"
+purposeText verb.Adopt = ascii "writes a FILE of libxpt, its directory counted from 1, to OUT in the published layout"
 purposeText verb.Link = ascii "writes the union of A and B to OUT"
 purposeText verb.Unknown = []
 
@@ -38,7 +39,7 @@ entryText v = (((ascii "xpt " ++ verbWords v) ++ (newline ++ ascii "    ")) ++ p
 -- ---- all commands
 
 abbrev pub introText : List ℕ
-introText = ascii "xpt checks, lists, asks, normalises and links XPCOM typelibs. Each answer is one line on standard output." ++ (newline ++ newline)
+introText = ascii "xpt checks, lists, asks, adopts, normalises and links XPCOM typelibs. Each answer is one line on standard output, but for a listing and a table." ++ (newline ++ newline)
 
 -- about a file and its interfaces
 unfoldable pub askingText : List ℕ
@@ -58,7 +59,7 @@ optionText = ascii "xpt COMMAND --help, xpt --version" ++ (newline ++ (ascii "  
 
 -- what writes files, and the rest
 unfoldable pub outputText : List ℕ
-outputText = ((entryText verb.Normal ++ entryText verb.Link) ++ batchText) ++ optionText
+outputText = (((entryText verb.Normal ++ entryText verb.Adopt) ++ entryText verb.Link) ++ batchText) ++ optionText
 
 -- what the words stand for
 abbrev pub fileNote : List ℕ
@@ -85,6 +86,7 @@ helpOf (verb.Ask question) = entryText (verb.Ask question)
 helpOf verb.List = entryText verb.List
 helpOf verb.Table = entryText verb.Table
 helpOf verb.Normal = entryText verb.Normal
+helpOf verb.Adopt = entryText verb.Adopt
 helpOf verb.Link = entryText verb.Link
 helpOf verb.Unknown = helpText
 

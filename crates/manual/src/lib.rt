@@ -26,7 +26,7 @@ fn put_answer(question: Question, text: &mut [u8; ROOM], at: usize) -> usize
         Question::Looks => text::put_bytes(
             text,
             at,
-            b"the same, with the number of entries looked at",
+            b"found and the index of the interface with this IID, or none, and how many entries were looked at",
         ),
         Question::Key => text::put_bytes(
             text,
@@ -65,6 +65,11 @@ fn put_purpose(verb: Verb, text: &mut [u8; ROOM], at: usize) -> usize
             b"every slot of the interface of this name in order, inherited ones first; ? for a slot that is not known",
         ),
         Verb::Normal => text::put_bytes(text, at, b"writes the normal form of FILE to OUT"),
+        Verb::Adopt => text::put_bytes(
+            text,
+            at,
+            b"writes a FILE of libxpt, its directory counted from 1, to OUT in the published layout",
+        ),
         Verb::Link => text::put_bytes(text, at, b"writes the union of A and B to OUT"),
         Verb::Unknown => at,
     }
@@ -107,7 +112,8 @@ fn put_outputs(text: &mut [u8; ROOM], at: usize) -> usize
     requires { ⌜ at + 1024 ≤ room ⌝ }
     ensures { λ r. ⌜ Wrote (now (text .entry)) at outputText r (now (text .exit)) × (r ≤ at + 1024) ⌝ }
 {
-    let link = put_entry(Verb::Normal, text, at);
+    let adopt = put_entry(Verb::Normal, text, at);
+    let link = put_entry(Verb::Adopt, text, adopt);
     let batch = put_entry(Verb::Link, text, link);
     let options = text::put_bytes(
         text,
@@ -153,7 +159,7 @@ pub fn help(text: &mut [u8; ROOM]) -> usize
     let asking = text::put_bytes(
         text,
         0,
-        b"xpt checks, lists, asks, normalises and links XPCOM typelibs. Each answer is one line on standard output.\n\n",
+        b"xpt checks, lists, asks, adopts, normalises and links XPCOM typelibs. Each answer is one line on standard output, but for a listing and a table.\n\n",
     );
     let members = put_asking(text, asking);
     let outputs = put_members(text, members);
@@ -177,6 +183,7 @@ pub fn help_of(verb: Verb, text: &mut [u8; ROOM]) -> usize
         Verb::List => one(Verb::List, text),
         Verb::Table => one(Verb::Table, text),
         Verb::Normal => one(Verb::Normal, text),
+        Verb::Adopt => one(Verb::Adopt, text),
         Verb::Link => one(Verb::Link, text),
         Verb::Unknown => help(text),
     }

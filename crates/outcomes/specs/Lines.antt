@@ -1,9 +1,10 @@
--- The lines that tell what normalising and linking answer.
+-- The lines that tell what normalising, adopting and linking answer.
 -- Assumes nothing.
 use mathlib.Core.List.{List, [], _∷_, _++_}
 use Prim.Native.Nat.{ℕ}
 use Rattle.decimal.specs.Digits.{digitsOf}
-use Rattle.text.specs.Line.{refused, space}
+use Rattle.text.specs.Line.{refused, space, lineOf}
+use Rattle.reading.specs.declared.Verdict.{Verdict}
 use Rattle.link.specs.declared.Which.{Which}
 use Rattle.link.specs.declared.Which.the-variants.{First, Second, Union}
 use Rattle.joining.specs.declared.Normalised.{Normalised}
@@ -23,6 +24,10 @@ written = 119 ∷ 114 ∷ 105 ∷ 116 ∷ 116 ∷ 101 ∷ 110 ∷ 32 ∷ []
 unfoldable pub normalisedText : Normalised → List ℕ
 normalisedText (normalised.Written n) = numbered written n
 normalisedText (normalised.Refused why) = refusedLine why
+
+-- `written LEN accepted N` or `written LEN refused NO PLACE`: what the check says of what was written
+unfoldable pub adoptedText : ℕ → Verdict → List ℕ
+adoptedText n v = (written ++ digitsOf n) ++ (space ++ lineOf v)
 
 -- 1 or 2 for a file's own refusal, 0 for the link's
 unfoldable pub whichNumber : Which → ℕ
@@ -45,9 +50,13 @@ unfoldable pub linkedWhy : Linked → Why
 linkedWhy (linked.Written n) = Answered
 linkedWhy (linked.Refused x) = Refused (x .why)
 
--- the commands normal and link
+-- the commands normal, adopt and link; what was adopted is answered, whatever the check says of it
 unfoldable pub sayNormalised : Normalised → Saying
 sayNormalised a = saying (normalisedText a) (normalisedWhy a)
+
+unfoldable pub sayAdopted : Normalised → Verdict → Saying
+sayAdopted (normalised.Written n) v = saying (adoptedText n v) Answered
+sayAdopted (normalised.Refused x) v = sayNormalised (normalised.Refused x)
 
 unfoldable pub sayLinked : Linked → Saying
 sayLinked a = saying (linkedText a) (linkedWhy a)

@@ -1,4 +1,4 @@
--- The answers of normalising and linking as numbers.
+-- The answers of normalising, adopting and linking as numbers.
 -- Assumes nothing.
 use mathlib.Core.List.{List, [], _∷_}
 use Prim.Native.Nat.{ℕ}

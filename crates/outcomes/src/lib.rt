@@ -1,17 +1,22 @@
-// What normalising and linking answer, as one line at the front of a buffer and as numbers.
+// What normalising, adopting and linking answer, as one line at the front of a buffer and as numbers.
 ghost use mathlib.Core.Path.{_≡_};
+ghost use mathlib.Core.List.{_++_};
 ghost use Prim.Native.Nat.{_≤_};
 ghost use lib.ListN.{length};
 ghost use lib.Seq.{sets};
 ghost use Rattle.link.specs.declared.Linked.the-variants as linked;
-ghost use Rattle.sayings.specs.Sayings.{Says};
+ghost use Rattle.sayings.specs.declared.Why.the-variants.{Answered};
+ghost use Rattle.sayings.specs.Sayings.{answerRoom, Says, saying};
+ghost use Rattle.text.specs.Line.{space, lineOf};
+ghost use Rattle.printed.specs.Writing.{Wrote};
 ghost use Rattle.numbers.specs.Call.{room};
 ghost use Rattle.outcomes.specs.Numbers.{normalNumbers, linkRefusalNumbers, linkNumbers};
-ghost use Rattle.outcomes.specs.Lines.{whichNumber, sayNormalised, sayLinked};
+ghost use Rattle.outcomes.specs.Lines.{whichNumber, adoptedText, sayNormalised, sayLinked};
 use joining::Normalised;
 use link::LinkRefusal;
 use link::Linked;
 use link::Which;
+use reading::Verdict;
 use sayings::ANSWER_ROOM;
 use sayings::Said;
 use sayings::Why;
@@ -41,6 +46,20 @@ fn link_refused(x: LinkRefusal, line: &mut [u8; ANSWER_ROOM]) -> Said
     }
 }
 
+// A space and the line of a verdict, from `at` on.
+fn put_checked(v: Verdict, line: &mut [u8; ANSWER_ROOM], at: usize) -> usize
+    requires { ⌜ at ≤ 32 ⌝ }
+    ensures { λ r. ⌜ Wrote (now (line .entry)) at (space ++ lineOf v) r (now (line .exit)) × (r ≤ answerRoom) ⌝ }
+{
+    match v {
+        Verdict::Accepted(n) => {
+            let end = text::put_labelled(line, at, b" accepted ", n as u64);
+            text::put_bytes(line, end, b"\n")
+        }
+        Verdict::Refused(why) => sayings::put_refusal(b" refused ", why, line, at),
+    }
+}
+
 // What normalising a file answered.
 pub fn normalised(n: Normalised, line: &mut [u8; ANSWER_ROOM]) -> Said
     ensures { λ r. ⌜ Says (sayNormalised n) (now (line .entry)) r (now (line .exit)) ⌝ }
@@ -48,6 +67,18 @@ pub fn normalised(n: Normalised, line: &mut [u8; ANSWER_ROOM]) -> Said
     match n {
         Normalised::Written(length) => sayings::numbered(b"written ", length as u64, line),
         Normalised::Refused(why) => sayings::refused(why, line),
+    }
+}
+
+// What was written for a file that was adopted, and what the check says of it.
+pub fn adopted(n: usize, v: Verdict, line: &mut [u8; ANSWER_ROOM]) -> Said
+    ensures { λ r. ⌜ Says (saying (adoptedText n v) Answered) (now (line .entry)) r (now (line .exit)) ⌝ }
+{
+    let at = text::put_labelled(line, 0, b"written ", n as u64);
+    let length = put_checked(v, line, at);
+    Said {
+        length,
+        why: Why::Answered,
     }
 }
 

@@ -11,6 +11,15 @@ ghost use lib.ListN.{length};
 ghost use Rattle.failures.specs.Room.{wordLimit};
 ghost use Rattle.kept.specs.Table.{Tidy};
 
+fn is_adopting(line: &[u8], separator: u8) -> bool {
+    if let Task::Run(verb) = tasks::task_of(line, separator) {
+        if let Verb::Adopt = verb {
+            return true;
+        }
+    }
+    false
+}
+
 // The k-th file of the line.
 fn say_file(
     line: &[u8],
@@ -31,6 +40,10 @@ fn say_file(
     let c = file.from;
     let d = file.end;
     let all: &[u8] = store;
+    if is_adopting(line, separator) {
+        remarks::unadopted(&line[a..b], &all[c..d], why, text);
+        return;
+    }
     remarks::refused(&line[a..b], &all[c..d], why, text);
 }
 
@@ -82,10 +95,7 @@ fn say_words(line: &[u8], separator: u8, text: &mut [u8; ROOM])
         match verb {
             Verb::Ask(question) => say_question(line, separator, question, text),
             Verb::Table => say_question(line, separator, Question::Key, text),
-            Verb::List => {}
-            Verb::Normal => {}
-            Verb::Link => {}
-            Verb::Unknown => {}
+            _ => {}
         }
     }
 }

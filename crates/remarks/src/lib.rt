@@ -68,13 +68,39 @@ fn refused_length(name: &[u8], file: &[u8], why: Refusal, text: &mut [u8; ROOM])
     put(text, end);
 }
 
+// The same of a file whose pool or directory is out of place: libxpt may have written it.
+fn refused_place(name: &[u8], file: &[u8], why: Refusal, text: &mut [u8; ROOM])
+    requires { ⌜ length (now name) ≤ wordLimit ⌝ }
+{
+    if adopt::genuine::is_genuine(file) {
+        let end = reasons::refused(name, why, 5, b"", text);
+        put(text, end);
+        return;
+    }
+    refused_inside(name, file, why, text)
+}
+
 pub fn refused(name: &[u8], file: &[u8], why: Refusal, text: &mut [u8; ROOM])
     requires { ⌜ length (now name) ≤ wordLimit ⌝ }
 {
-    match why.no {
+    let no = why.no;
+    match no {
+        8 => refused_place(name, file, why, text),
         29..=30 => refused_length(name, file, why, text),
         _ => refused_inside(name, file, why, text),
     }
+}
+
+// Why a file was not adopted. Its directory does not fit where libxpt counts it, which is not what the check asks of it.
+pub fn unadopted(name: &[u8], file: &[u8], why: Refusal, text: &mut [u8; ROOM])
+    requires { ⌜ length (now name) ≤ wordLimit ⌝ }
+{
+    if why.no == 8 && why.place == 24 {
+        let end = reasons::refused(name, why, 2, b"", text);
+        put(text, end);
+        return;
+    }
+    refused(name, file, why, text)
 }
 
 // Why a question about a file was refused, where the file is accepted; its own words come after the file's.

@@ -9,7 +9,7 @@ use Rattle.sentences.specs.Sentences.{positionText, betweenText, wordTex
 
 position-plain : (rule : ℕ) → Plain (positionText rule)
 unfolding positionText
-position-plain rule = both Plain _ _ _ (λ t. plain-text _ refl) (λ t. both Plain _ _ _ (λ t. plain-text _ refl) (λ t. both Plain _ _ _ (λ t. plain-text _ refl) (λ t. both Plain _ _ _ (λ t. plain-text _ refl) (λ t. plain-text _ refl))))
+position-plain rule = both Plain _ _ _ (λ t. plain-text _ refl) (λ t. both Plain _ _ _ (λ t. plain-text _ refl) (λ t. both Plain _ _ _ (λ t. plain-text _ refl) (λ t. both Plain _ _ _ (λ t. plain-text _ refl) (λ t. both Plain _ _ _ (λ t. plain-text _ refl) (λ t. plain-text _ refl)))))
 
 between-plain : (rule : ℕ) → Plain (betweenText rule)
 unfolding betweenText

@@ -5,13 +5,14 @@ use Prim.Native.Nat.{ℕ}
 use Rattle.number.specs.Choice.{if_then_else_, _<?_, _=?_}
 use Rattle.ascii.specs.Ascii.{ascii}
 
--- of 8, by the rule: where the directory and the pool may stand
+-- of 8, by the rule (`positionRule` of the crate `broken`): where the directory and the pool may stand; 5 where the file is as libxpt writes it (`isGenuine` of `adopt`)
 unfoldable pub positionText : ℕ → List ℕ
 positionText rule =
     if rule =? 1 then ascii "the directory's offset is not a multiple of 4" else
     if rule =? 2 then ascii "the directory does not fit between the first annotation and the pool" else
     if rule =? 3 then ascii "the pool's offset is below 33 or past the file's end" else
     if rule =? 4 then ascii "there are no interfaces, but the directory's offset is not 0" else
+    if rule =? 5 then ascii "libxpt wrote it so: its directory offset counts from 1; `xpt adopt FILE OUT` writes it in the published layout" else
     ascii "the offset of the pool or the directory does not fit the file"
 
 -- of 16, by the rule: its number among the rules between fields, or 8 for a constant's type
@@ -75,7 +76,7 @@ linkText n =
     if n =? 23 then ascii "one interface has two different descriptors" else
     if n =? 24 then ascii "in the union the parents of this interface run in a circle" else
     if n =? 25 then ascii "the union has more than 1,024 interfaces" else
-    if n =? 26 then ascii "the normal form would have more than 1,048,576 bytes" else
+    if n =? 26 then ascii "the output would have more than 1,048,576 bytes" else
     ascii "the output has room for fewer bytes than are needed"
 
 -- all of them but 29 and 30, whose sentences have numbers of the file in them (crate `reasons`)

@@ -27,6 +27,11 @@ fn put_position(rule: u8, text: &mut [u8; ROOM], at: usize) -> usize
             at,
             b"there are no interfaces, but the directory's offset is not 0",
         ),
+        5 => text::put_bytes(
+            text,
+            at,
+            b"libxpt wrote it so: its directory offset counts from 1; `xpt adopt FILE OUT` writes it in the published layout",
+        ),
         _ => text::put_bytes(
             text,
             at,
@@ -200,11 +205,7 @@ fn put_link(no: u8, text: &mut [u8; ROOM], at: usize) -> usize
             b"in the union the parents of this interface run in a circle",
         ),
         25 => text::put_bytes(text, at, b"the union has more than 1,024 interfaces"),
-        26 => text::put_bytes(
-            text,
-            at,
-            b"the normal form would have more than 1,048,576 bytes",
-        ),
+        26 => text::put_bytes(text, at, b"the output would have more than 1,048,576 bytes"),
         _ => text::put_bytes(
             text,
             at,

@@ -39,7 +39,7 @@ pub record Reached (s : List ℕ) (l : Layout) (i n j : ℕ) : Type 0 where
   pub within : j ≤ l .count
   pub same : (es : List (Entry ℕ)) → LaidOut s l es → chainOf es j ≡ higher n (chainOf es i)
 
--- the text that is left: the methods that are left of the owner, and those of the entries between it and the asked one
+-- the text that is left: the methods that are left of the owner, and those of the entries below it, down to the asked one
 pub record RowsLeft (s : List ℕ) (l : Layout) (t : TableAt) (text : List ℕ) : Type 0 where
   pub entries : List (Entry ℕ)
   pub laid : LaidOut s l entries
@@ -79,7 +79,7 @@ pub record Stepped (s : List ℕ) (l : Layout) (t : TableAt) (before : List ℕ)
   pub fewer : rowTurns (r .table) < rowTurns t
   pub room : r .at ≤ at + lineRoom
 
--- the table of the entry of index i, but for its first line; the slot is the total
+-- the table of the entry of index i, without `undetermined INDEX`; the slot is the total
 pub record Begins (s : List ℕ) (l : Layout) (i : ℕ) (t : TableAt) : Type 0 where
   pub each : (es : List (Entry ℕ)) → LaidOut s l es → RowsLeft s l t (rowLines es (rowsOf (chainOf es i)))
   pub total : (es : List (Entry ℕ)) → LaidOut s l es → t .slot ≡ slotAs (totalOf (chainOf es i))

@@ -15,7 +15,7 @@ use Rattle.sayings.specs.Sayings.{Saying, saying, sayInterface}
 use Rattle.answers.specs.Commands.{spaceOf}
 use Rattle.listed.specs.Text.{shown, closing}
 
--- in a batch the table is one line; `none` and a refusal are one line anywhere
+-- in a batch the table is one line, however many it has by itself, none too; `none` and a refusal are one line anywhere
 unfoldable pub keyedSaying : Bool → List (Entry ℕ) → InterfaceAnswer → Saying
 keyedSaying inBatch es (Found i) = saying (shown inBatch (tableOf es i) ++ closing inBatch) Answered
 keyedSaying inBatch es None = sayInterface None

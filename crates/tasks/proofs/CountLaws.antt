@@ -22,6 +22,7 @@ words-few (verb.Ask Constant) = omega arith
 words-few verb.List = omega arith
 words-few verb.Table = omega arith
 words-few verb.Normal = omega arith
+words-few verb.Adopt = omega arith
 words-few verb.Link = omega arith
 words-few verb.Unknown = omega arith
 
@@ -32,5 +33,6 @@ files-few (Run (verb.Ask q)) = omega arith
 files-few (Run verb.List) = omega arith
 files-few (Run verb.Table) = omega arith
 files-few (Run verb.Normal) = omega arith
+files-few (Run verb.Adopt) = omega arith
 files-few (Run verb.Link) = omega arith
 files-few (Run verb.Unknown) = omega arith

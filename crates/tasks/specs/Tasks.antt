@@ -25,6 +25,7 @@ writesFile (verb.Ask q) = false
 writesFile verb.List = false
 writesFile verb.Table = false
 writesFile verb.Normal = true
+writesFile verb.Adopt = true
 writesFile verb.Link = true
 writesFile verb.Unknown = false
 
@@ -63,6 +64,7 @@ filesRead (verb.Ask q) = 1
 filesRead verb.List = 1
 filesRead verb.Table = 1
 filesRead verb.Normal = 1
+filesRead verb.Adopt = 1
 filesRead verb.Link = 2
 filesRead verb.Unknown = 0
 

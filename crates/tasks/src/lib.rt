@@ -42,6 +42,7 @@ fn writes_file(verb: Verb) -> bool
         Verb::List => false,
         Verb::Table => false,
         Verb::Normal => true,
+        Verb::Adopt => true,
         Verb::Link => true,
         Verb::Unknown => false,
     }
@@ -133,6 +134,7 @@ fn files_read(verb: Verb) -> usize
         Verb::List => 1,
         Verb::Table => 1,
         Verb::Normal => 1,
+        Verb::Adopt => 1,
         Verb::Link => 2,
         Verb::Unknown => 0,
     }
@@ -196,9 +198,10 @@ fn usage(verb: Verb, text: &mut [u8; ANSWER_ROOM]) -> Said
         Verb::List => sayings::mistake(b"error the words are: list FILE\n", text),
         Verb::Table => sayings::mistake(b"error the words are: table FILE NAMESPACE NAME\n", text),
         Verb::Normal => sayings::mistake(b"error the words are: normal [-f] FILE OUT\n", text),
+        Verb::Adopt => sayings::mistake(b"error the words are: adopt [-f] FILE OUT\n", text),
         Verb::Link => sayings::mistake(b"error the words are: link [-f] A B OUT\n", text),
         Verb::Unknown => sayings::mistake(
-            b"error unknown command; the commands are: check list table iid looks key method slot const normal link\n",
+            b"error unknown command; the commands are: check list table iid looks key method slot const normal adopt link\n",
             text,
         ),
     }

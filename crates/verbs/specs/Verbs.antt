@@ -8,7 +8,7 @@ use Rattle.verbs.specs.declared.Question.the-variants.{Check, Iid, Looks
 use Rattle.verbs.specs.declared.Verb.{Verb}
 use Rattle.verbs.specs.declared.Verb.the-variants as verb
 
--- the words `check`, `list`, `table`, `iid`, `looks`, `key`, `method`, `slot`, `const`, `normal` and `link`
+-- the words `check`, `list`, `table`, `iid`, `looks`, `key`, `method`, `slot`, `const`, `normal`, `adopt` and `link`
 abbrev pub check : List ℕ
 check = 99 ∷ 104 ∷ 101 ∷ 99 ∷ 107 ∷ []
 
@@ -39,6 +39,9 @@ const = 99 ∷ 111 ∷ 110 ∷ 115 ∷ 116 ∷ []
 abbrev pub normal : List ℕ
 normal = 110 ∷ 111 ∷ 114 ∷ 109 ∷ 97 ∷ 108 ∷ []
 
+abbrev pub adopt : List ℕ
+adopt = 97 ∷ 100 ∷ 111 ∷ 112 ∷ 116 ∷ []
+
 abbrev pub link : List ℕ
 link = 108 ∷ 105 ∷ 110 ∷ 107 ∷ []
 
@@ -65,6 +68,7 @@ verbOf w =
     if sameWord w list then verb.List else
     if sameWord w table then verb.Table else
     if sameWord w normal then verb.Normal else
+    if sameWord w adopt then verb.Adopt else
     if sameWord w link then verb.Link else
     questionOf w
 
@@ -90,6 +94,8 @@ wordsIn verb.List = 2
 wordsIn verb.Table = 4
 -- normal FILE OUT
 wordsIn verb.Normal = 3
+-- adopt FILE OUT
+wordsIn verb.Adopt = 3
 -- link A B OUT
 wordsIn verb.Link = 4
 wordsIn verb.Unknown = 0

@@ -22,6 +22,7 @@ pub enum Verb {
     List,
     Table,
     Normal,
+    Adopt,
     Link,
     Unknown,
 }
@@ -74,6 +75,9 @@ pub fn verb_of(word: &[u8]) -> Verb
     if words::is_same(word, b"normal") {
         return Verb::Normal;
     }
+    if words::is_same(word, b"adopt") {
+        return Verb::Adopt;
+    }
     if words::is_same(word, b"link") {
         return Verb::Link;
     }
@@ -103,6 +107,7 @@ pub fn words_of(verb: Verb) -> usize
         Verb::List => 2,
         Verb::Table => 4,
         Verb::Normal => 3,
+        Verb::Adopt => 3,
         Verb::Link => 4,
         Verb::Unknown => 0,
     }

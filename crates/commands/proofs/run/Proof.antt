@@ -20,11 +20,14 @@ returns-4 : tie.Need-returns-4
 returns-4 c = rw (c .before .before .before .before .before .enum-told3 .given .1) (c .before .before .normal .ensures _ _ _)
 
 returns-5 : tie.Need-returns-5
-returns-5 c = rw (c .before .before .before .before .before .enum-told4 .given .1) (c .before .before .link .ensures _ _)
+returns-5 c = rw (c .before .before .before .before .before .enum-told4 .given .1) (c .before .before .adopt .ensures _ _ _)
 
 returns-6 : tie.Need-returns-6
+returns-6 c = rw (c .before .before .before .before .before .enum-told5 .given .1) (c .before .before .link .ensures _ _)
+
+returns-7 : tie.Need-returns-7
 unfolding verbAnswer
-returns-6 c = rw (c .before .before .before .enum-told5 .given .1) (says-replies _ _ _ _ _ _ _ _ (c .before .tell .ensures) (c .answered2 .ensures))
+returns-7 c = rw (c .before .before .before .enum-told6 .given .1) (says-replies _ _ _ _ _ _ _ _ (c .before .tell .ensures) (c .answered2 .ensures))
 
 pub run-spec : {M : Type 1} → statement M
 run-spec =
@@ -45,6 +48,8 @@ run-spec =
     (λ c κs. search needs)
     (λ c. search needs)
     (λ c κs. search needs)
+    (λ c. search needs)
+    (λ c κs. search needs)
     (λ c κs. search needs)
     returns
     returns-2
@@ -53,4 +58,6 @@ run-spec =
     returns-4
     (λ c. search needs)
     returns-5
-    returns-6)
+    (λ c. search needs)
+    returns-6
+    returns-7)

@@ -27,7 +27,11 @@ returns-5 c = rw (c .before .before .enum-told4 .given .1) (c .one5 .ensures)
 
 returns-6 : tie.Need-returns-6
 unfolding helpOf
-returns-6 c = rw (c .before .before .enum-told5 .given .1) (c .help .ensures)
+returns-6 c = rw (c .before .before .enum-told5 .given .1) (c .one6 .ensures)
+
+returns-7 : tie.Need-returns-7
+unfolding helpOf
+returns-7 c = rw (c .before .before .enum-told6 .given .1) (c .help .ensures)
 
 pub help-of-spec : {M : Type 1} → statement M
 help-of-spec =
@@ -45,9 +49,12 @@ help-of-spec =
     (λ c κs. search needs)
     (λ c. search needs)
     (λ c κs. search needs)
+    (λ c. search needs)
+    (λ c κs. search needs)
     returns
     returns-2
     returns-3
     returns-4
     returns-5
-    returns-6)
+    returns-6
+    returns-7)

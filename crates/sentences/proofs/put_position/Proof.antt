@@ -23,10 +23,14 @@ unfolding positionText if_then_else_ _=?_
 returns-4 c = (rw (c .before .before .before .match .keys4) (wrote _ _ _ (c .put-bytes4 .ensures)), omega arith)
 
 returns-5 : tie.Need-returns-5
+unfolding positionText if_then_else_ _=?_
+returns-5 c = (rw (c .before .before .before .match .keys5) (wrote _ _ _ (c .put-bytes5 .ensures)), omega arith)
+
+returns-6 : tie.Need-returns-6
 unfolding positionText
-returns-5 c =
+returns-6 c =
     let r = c .before .before .before .match .rest in
-    (wrote-as (no-eq _ _ _ _ (r .0 .0 .0 .1) (no-eq _ _ _ _ (r .0 .0 .1) (no-eq _ _ _ _ (r .0 .1) (no-eq _ _ _ _ (r .1) refl)))) (wrote _ _ _ (c .put-bytes5 .ensures)), omega arith)
+    (wrote-as (no-eq _ _ _ _ (r .0 .0 .0 .0 .1) (no-eq _ _ _ _ (r .0 .0 .0 .1) (no-eq _ _ _ _ (r .0 .0 .1) (no-eq _ _ _ _ (r .0 .1) (no-eq _ _ _ _ (r .1) refl))))) (wrote _ _ _ (c .put-bytes6 .ensures)), omega arith)
 
 pub put-position-spec : {M : Type 1} → statement M
 put-position-spec =
@@ -42,8 +46,11 @@ put-position-spec =
     (λ c κs. omega arith)
     (λ c. search needs)
     (λ c κs. omega arith)
+    (λ c. search needs)
+    (λ c κs. omega arith)
     returns
     returns-2
     returns-3
     returns-4
-    returns-5)
+    returns-5
+    returns-6)

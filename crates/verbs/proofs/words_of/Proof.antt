@@ -28,6 +28,10 @@ returns-6 : tie.Need-returns-6
 unfolding wordsIn
 returns-6 c = rw (c .enum-told5 .given .1) refl
 
+returns-7 : tie.Need-returns-7
+unfolding wordsIn
+returns-7 c = rw (c .enum-told6 .given .1) refl
+
 pub words-of-spec : {M : Type 1} → statement M
 words-of-spec =
     tie.close
@@ -39,9 +43,11 @@ words-of-spec =
     (λ c. search needs)
     (λ c. search needs)
     (λ c. search needs)
+    (λ c. search needs)
     returns
     returns-2
     returns-3
     returns-4
     returns-5
-    returns-6)
+    returns-6
+    returns-7)

@@ -1,0 +1,10 @@
+pub mod Front
+pub mod Stored
+pub mod Answers
+pub mod Passing
+pub mod Alike
+pub mod Moved
+pub mod Adopted
+pub mod Values
+pub mod Theorems
+pub mod Examples

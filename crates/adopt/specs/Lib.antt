@@ -1,0 +1,5 @@
+pub mod Adopt
+pub mod Headed
+pub mod Genuine
+pub mod Placed
+pub mod Theorems
