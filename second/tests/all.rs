@@ -45,8 +45,8 @@ fn marked_files() {
     assert_eq!(answer(&p3, "constant 1 4b"), "found i16 -2");
 }
 
-#[test]
-fn readings_of_the_check() {
+/// A file of the tables with other bytes at places, some put in, or cut.
+fn of_recipe(recipe: &str) -> Vec<u8> {
     let [p1, p2, p3] = marked();
     let number = Parameter::new(0, Type::with(POINTER | INTERFACE_IS, [9, 0, 0]));
     let bad = Method::new(0, b"m", vec![number], Parameter::simple(0, 0));
@@ -61,24 +61,52 @@ fn readings_of_the_check() {
         ("call", Typelib::of(vec![bad, Method::plain(0, b"n")]).bytes()),
         ("pair", Typelib::of(constructors.to_vec()).bytes()),
     ];
-    for (reading, expected) in rows(include_str!("readings.txt"), ": ") {
-        let mut words = reading.split(' ');
-        let name = words.next().unwrap();
-        let mut file = files.iter().find(|(file, _)| *file == name).unwrap().1.clone();
-        for word in words {
-            if let Some((at, new)) = word.split_once('=') {
-                let (at, new): (usize, _) = (at.parse().unwrap(), bytes(new).unwrap());
-                file[at..at + new.len()].copy_from_slice(&new);
-            } else {
-                let length: usize = word[1..].parse().unwrap();
-                file.truncate(length);
-                if word.starts_with('|') {
-                    file[20..24].copy_from_slice(&(length as u32).to_be_bytes());
-                }
+    let mut words = recipe.split(' ');
+    let name = words.next().unwrap();
+    let mut file = files.iter().find(|(file, _)| *file == name).unwrap().1.clone();
+    for word in words {
+        if let Some((at, new)) = word.split_once('=') {
+            let place: usize = at.trim_start_matches('+').parse().unwrap();
+            let new = bytes(new).unwrap();
+            let old = if at.starts_with('+') { 0 } else { new.len() };
+            file.splice(place..place + old, new);
+        } else {
+            let length: usize = word[1..].parse().unwrap();
+            file.truncate(length);
+            if word.starts_with('|') {
+                file[20..24].copy_from_slice(&(length as u32).to_be_bytes());
             }
         }
-        assert_eq!(shown(check(&file)), expected, "{reading}");
     }
+    file
+}
+
+#[test]
+fn readings_of_the_check() {
+    for (recipe, expected) in rows(include_str!("readings.txt"), ": ") {
+        assert_eq!(shown(check(&of_recipe(recipe))), expected, "{recipe}");
+    }
+}
+
+#[test]
+fn adopted_files() {
+    for (recipe, expected) in rows(include_str!("adoptions.txt"), ": ") {
+        let (file, mut out) = (of_recipe(recipe), [7; 100]);
+        let answer = (OWN.adopt)(&file, &mut out);
+        if expected.starts_with("refused ") {
+            assert_eq!((shown(answer), out), (expected.to_string(), [7; 100]), "{recipe}");
+            continue;
+        }
+        let expected = of_recipe(expected);
+        let length = expected.len();
+        assert_eq!(answer, Ok(length), "{recipe}");
+        assert_eq!((&out[..length], &out[length..]), (&expected[..], &[7; 100][length..]));
+        let short = Err(Refusal { number: 27, place: length });
+        assert_eq!((OWN.adopt)(&file, &mut out[..length - 1]), short);
+    }
+    // At the greatest size a byte more is one too many.
+    let long = Typelib::plain(1).filled_to(MAX_FILE).bytes();
+    assert_eq!(shown((OWN.adopt)(&long, &mut vec![0; MAX_FILE + 4])), "refused 26 0");
 }
 
 /// Entries 2 to 4 in a complete chain, 4 the lowest. 5 unresolved, 6 below it, 7 below 6. 1, 8 and
@@ -369,10 +397,11 @@ fn what_is_told_and_counted() {
         "questions",
         "lists",
         "looks",
+        "adoptions",
         "links",
         "listings",
         "batches",
         "alone",
     ];
-    assert_eq!(parts.map(|part| floors(part).len()).iter().sum::<usize>(), 1022);
+    assert_eq!(parts.map(|part| floors(part).len()).iter().sum::<usize>(), 1115);
 }

@@ -10,7 +10,7 @@ use std::panic::{catch_unwind, AssertUnwindSafe};
 
 /// What the library can be asked.
 pub const LIBRARY: Program =
-    Program { check, iid, looks, key, method, slot, constant, normalise, link, on_list };
+    Program { check, iid, looks, key, method, slot, constant, normalise, adopt, link, on_list };
 
 /// Both sides know how long a list must be.
 const _: () = assert!(saniotka::ROOM == second::library::lists::ROOM);
@@ -93,6 +93,10 @@ fn normalise(file: &[u8], out: &mut [u8]) -> Result<usize, Refusal> {
     known(|| saniotka::normalise(file, out)).map_or(Err(NONSENSE), |told| told.map_err(refusal))
 }
 
+fn adopt(file: &[u8], out: &mut [u8]) -> Answer {
+    known(|| saniotka::adopt(file, out)).map_or(Err(NONSENSE), |told| told.map_err(refusal))
+}
+
 fn link(first: &[u8], second: &[u8], out: &mut [u8]) -> Result<usize, LinkRefusal> {
     let which = |which| match which {
         Which::Link => 0,
@@ -112,6 +116,7 @@ fn on_list(asked: &Asked, files: &[&[u8]], out: &mut [u8], list: &mut [u64]) -> 
         Asked::Looks(iid) => lists::iid_counted(file, iid, list),
         Asked::Kind(index, name, kind) => lists::method(file, *index, name, *kind, list),
         Asked::Normal(_) => lists::normal(file, out, list),
+        Asked::Adopt(_) => lists::adopt(file, out, list),
         Asked::Link(_) => lists::link(file, files[1], out, list),
         Asked::Question(question) => match question {
             Question::Iid(iid) => lists::iid(file, iid, list),

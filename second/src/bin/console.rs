@@ -1,16 +1,17 @@
 //! Writes the typelibs of examples/ into the folder given: a console's alarm lists as two suppliers
-//! compiled them (see console.txt), an older file of the second that says otherwise, and its file as
-//! a bad transfer left it.
+//! compiled them (see console.txt), an older file of the second that says otherwise, its file as a
+//! bad transfer left it, and a file in the layout of libxpt.
 
-use second::making::builder::*;
+use second::making::{builder::*, genuine::genuine};
 use std::{path::Path, process::ExitCode};
 
 /// Types by name, and how a method is called.
-const TYPES: [(&str, u8); 7] = [
+const TYPES: [(&str, u8); 8] = [
     ("bool", 10),
     ("double", 9),
     ("uint32", UINT32),
     ("string", POINTER | 16),
+    ("cstring", POINTER | 24),
     ("iid", POINTER | REFERENCE | IID),
     ("object", POINTER | INTERFACE),
     ("of_iid", POINTER | INTERFACE_IS),
@@ -47,6 +48,7 @@ fn add(lib: &mut Typelib, line: &str) {
             entry.descriptor = parent.map(|parent| lib.add(below(parent)));
             lib.entries.push(entry);
         }
+        ["minor", minor] => lib.minor = number(minor) as u8,
         [how, name, ref more @ ..] => {
             let (name, d) = (name.as_bytes(), lib.descriptors.last_mut().expect("an interface"));
             if how == "const" {
@@ -81,7 +83,10 @@ fn main() -> ExitCode {
     let mut files: Vec<_> = libs.into_iter().map(|(name, lib)| (name, lib.bytes())).collect();
     files.push(("gas_torn.xpt", whole[..whole.len() * 2 / 3].to_vec()));
     files.push(("gas_mailed.xpt", [&whole[..], b"-- \nSent from the control room\n"].concat()));
-    for (name, bytes) in files {
+    for (name, mut bytes) in files {
+        if name == "pumps.xpt" {
+            bytes = genuine(&bytes, 3, 0).expect("a good file").bytes;
+        }
         let path = Path::new(&folder).join(name);
         if let Err(error) = std::fs::write(&path, bytes) {
             eprintln!("{}: {error}", path.display());

@@ -6,6 +6,7 @@ use super::questions::{Found, Question, Reply};
 use super::{lists, Program, OWN};
 use crate::program::{link::LinkRefusal, questions::Kind, Answer, Refusal};
 use crate::tally::hash;
+use std::fmt::Debug;
 use std::time::{Duration, Instant};
 
 /// How long a difference may be made smaller.
@@ -21,6 +22,7 @@ pub enum Asked {
     Kind(u64, Vec<u8>, u64),
     /// With the length of the buffer.
     Normal(usize),
+    Adopt(usize),
     Link(usize),
     /// Answered in a list of so many numbers.
     List(Box<Asked>, usize),
@@ -41,7 +43,10 @@ impl Case {
             Asked::Check => shown((program.check)(files[0])),
             Asked::Question(question) => format!("{:?}", program.ask(files[0], question)),
             Asked::Looks(iid) => format!("{:?}", (program.looks)(files[0], iid)),
-            Asked::Normal(room) | Asked::Link(room) => written(program, &files, *room),
+            Asked::Normal(room) | Asked::Link(room) => {
+                written(*room, |out| program.write(&files, out))
+            }
+            Asked::Adopt(room) => written(*room, |out| (program.adopt)(files[0], out)),
             Asked::Kind(..) => lists::call(program, &self.asked, &files, lists::ROOM).to_string(),
             Asked::List(asked, room) => lists::call(program, asked, &files, *room).to_string(),
         };
@@ -74,10 +79,9 @@ pub fn noise(room: usize) -> Vec<u8> {
     (0..room + 2 * GUARD).map(|i| (i * 7 + 13) as u8).collect()
 }
 
-/// What a program answers that writes into a buffer of this length, and what is in and around it.
-fn written(program: &Program, files: &[&[u8]], room: usize) -> String {
-    let before = noise(room);
-    let (answer, bytes) = lent(&before, room, |out| program.write(files, out));
+/// What a call answers that writes into a buffer of this length, and what is in and around it.
+fn written<T: Debug>(room: usize, call: impl FnOnce(&mut [u8]) -> T) -> String {
+    let (answer, bytes) = lent(&noise(room), room, call);
     format!("{answer:?}, bytes of hash {:016x}", hash(&[&bytes]))
 }
 

@@ -33,7 +33,7 @@ const NORMAL: &[&str] = numbered!("normal ", "");
 pub type Room = (&'static str, fn(usize, &mut Rng) -> usize);
 
 /// Those that are the same for all files come last.
-const ROOMS: [Room; 9] = [
+pub const ROOMS: [Room; 9] = [
     ("buffer empty", |_, _| 0),
     ("buffer short by one", |needed, _| needed - 1),
     ("buffer short", |needed, rng| rng.below(needed)),

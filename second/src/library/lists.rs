@@ -6,8 +6,8 @@ use super::links::{lent, short, wide};
 use super::questions::{self, Found, Question, Reply};
 use super::{Program, Session, OWN};
 use crate::making::{builder::Typelib, damage, generate, model, rng::Rng};
-use crate::program::check::check;
 use crate::program::questions::{of, Constant, Kind, Lookup, Method, Slot, MALFORMED};
+use crate::program::{check::check, Answer};
 use crate::tally::{hash, Came};
 use std::fmt;
 
@@ -63,6 +63,13 @@ fn of_kind(file: &[u8], index: u64, name: &[u8], kind: u64) -> Reply {
     answer.map(Found::Method)
 }
 
+fn written(answer: Answer) -> Vec<u64> {
+    match answer {
+        Ok(length) => vec![0, length as u64],
+        Err(why) => vec![3, why.number.into(), why.place as u64],
+    }
+}
+
 fn numbers(asked: &Asked, files: &[&[u8]], out: &mut [u8]) -> Vec<u64> {
     match asked {
         Asked::Check => match check(files[0]) {
@@ -76,10 +83,8 @@ fn numbers(asked: &Asked, files: &[&[u8]], out: &mut [u8]) -> Vec<u64> {
             Err(why) => vec![3, why.number.into(), why.place as u64],
         },
         Asked::Kind(index, name, kind) => reply(of_kind(files[0], *index, name, *kind)),
-        Asked::Normal(_) => match (OWN.normalise)(files[0], out) {
-            Ok(length) => vec![0, length as u64],
-            Err(why) => vec![3, why.number.into(), why.place as u64],
-        },
+        Asked::Normal(_) => written((OWN.normalise)(files[0], out)),
+        Asked::Adopt(_) => written((OWN.adopt)(files[0], out)),
         Asked::Link(_) => match (OWN.link)(files[0], files[1], out) {
             Ok(length) => vec![0, length as u64],
             Err((which, why)) => vec![3, which.into(), why.number.into(), why.place as u64],
@@ -131,7 +136,7 @@ const BESIDE: usize = 4;
 pub fn call(program: &Program, asked: &Asked, files: &[&[u8]], room: usize) -> Left {
     let mut list = vec![KEPT; room + 2 * BESIDE];
     let buffer = match asked {
-        Asked::Normal(length) | Asked::Link(length) => *length,
+        Asked::Normal(length) | Asked::Adopt(length) | Asked::Link(length) => *length,
         _ => 0,
     };
     let (returned, out) = lent(&noise(buffer), buffer, |out| {
@@ -167,6 +172,7 @@ fn about(asked: &Asked) -> &'static str {
         Asked::Question(Question::Constant(..)) => "constant",
         Asked::Kind(..) => "no kind",
         Asked::Normal(_) => "normal form",
+        Asked::Adopt(_) => "adoption",
         Asked::Link(_) => "link",
         Asked::List(asked, _) => about(asked),
     }
@@ -190,7 +196,10 @@ fn ask(session: &mut Session, rng: &mut Rng, bytes: &[u8], [own, lib]: [&Typelib
         let needed = OWN.write(files, &mut scratch).unwrap_or(1_000);
         let (_, room) = if rng.percent(20) { short(rng) } else { wide(rng) };
         let length = room(needed, rng);
-        asked.push(if files.len() == 1 { Asked::Normal(length) } else { Asked::Link(length) });
+        match files.len() {
+            1 => asked.extend([Asked::Normal(length), Asked::Adopt(length)]),
+            _ => asked.push(Asked::Link(length)),
+        }
     }
     for asked in asked {
         for room in (0..ROOM).chain([ROOM + rng.below(4)]) {

@@ -1,5 +1,6 @@
 //! Comparing through the library: its calls beside this program's, on all that is made.
 
+pub mod adoptions;
 pub mod cases;
 pub mod checks;
 pub mod links;
@@ -10,7 +11,8 @@ pub mod questions;
 use crate::in_parallel;
 use crate::program::questions::{of as asked, Constant, Kind, Looked, Lookup, Method};
 use crate::program::{
-    check, check::accept, link::link, link::LinkRefusal, normal::normalise, Answer, Refusal,
+    adopt::adopt, check, check::accept, link::link, link::LinkRefusal, normal::normalise, Answer,
+    Refusal,
 };
 use crate::tally::Tally;
 use cases::{Asked, Case};
@@ -27,6 +29,7 @@ pub struct Program {
     pub slot: fn(&[u8], u64, u64) -> Lookup<Method>,
     pub constant: fn(&[u8], u64, &[u8]) -> Lookup<Constant>,
     pub normalise: fn(&[u8], &mut [u8]) -> Result<usize, Refusal>,
+    pub adopt: fn(&[u8], &mut [u8]) -> Answer,
     pub link: fn(&[u8], &[u8], &mut [u8]) -> Result<usize, LinkRefusal>,
     /// Any of these, answered in a list of numbers: what is asked, of which files, the buffer for
     /// bytes and the list. What it returns is 0, or 1 where the list is too short.
@@ -42,6 +45,7 @@ pub const OWN: Program = Program {
     slot: |file, index, slot| asked(file, |lib| lib.method_by_slot(index, slot)),
     constant: |file, index, name| asked(file, |lib| lib.constant(index, name)),
     normalise,
+    adopt,
     link,
     on_list: lists::on_list,
 };
@@ -64,12 +68,13 @@ impl Session {
 /// A part: its name, what it runs, and the rows that count comparisons.
 type Part = (&'static str, fn(&mut Session), &'static [&'static str]);
 
-pub const PARTS: [Part; 5] = [
+pub const PARTS: [Part; 6] = [
     ("links", links::run, &["links", "normal forms"]),
     ("checks", checks::run, &["checks"]),
     ("questions", questions::run, &["questions"]),
     ("lists", lists::run, &["calls"]),
     ("looks", looks::run, &["looks"]),
+    ("adoptions", adoptions::run, &["adoptions"]),
 ];
 
 /// What a run is asked for: names of parts, none for all, a seed, and how many seeds from there.

@@ -123,10 +123,7 @@ pub fn written(files: &[&[u8]]) -> Outcome {
             let line = Outcome::line("written", format!("written {length}"));
             Outcome { written: Some(room[..length].into()), ..line }
         }
-        (1, Err((_, why))) if why.number == refusal::FORM_SIZE => {
-            Outcome::refused("refused 26", why)
-        }
-        (1, Err((_, why))) => Outcome::refused("file refused", why),
+        (1, Err((_, why))) => not_written(why),
         (_, Err((which, why))) => {
             let whats = ["refused 21 to 26", "first file refused", "second file refused"];
             let text = format!("refused {which} {} {}", why.number, why.place);
@@ -134,6 +131,26 @@ pub fn written(files: &[&[u8]]) -> Outcome {
             Outcome { refusal: Some((which, why)), ..line }
         }
     }
+}
+
+/// Adopts a file of libxpt: what is written, and what the check says of that.
+pub fn adopted(files: &[&[u8]]) -> Outcome {
+    let mut room = vec![0; MAX_FILE];
+    match (OWN.adopt)(files[0], &mut room) {
+        Ok(length) => {
+            let told = (OWN.check)(&room[..length]);
+            let what = if told.is_ok() { "written, accepted" } else { "written, refused" };
+            let line = Outcome::line(what, format!("written {length} {}", shown(told)));
+            Outcome { written: Some(room[..length].into()), ..line }
+        }
+        Err(why) => not_written(why),
+    }
+}
+
+/// One file's refusal, where something was to be written.
+fn not_written(why: Refusal) -> Outcome {
+    let is_of_form = why.number == refusal::FORM_SIZE;
+    Outcome::refused(if is_of_form { "refused 26" } else { "file refused" }, why)
 }
 
 /// What a question is answered by this command.

@@ -27,7 +27,7 @@ pub fn every_kind(script: &mut Script, file: &Name, good: &Name, out: &Name) {
 }
 
 /// The words that each command takes.
-const USAGES: [&str; 11] = [
+const USAGES: [&str; 12] = [
     "check FILE",
     "list FILE",
     "table FILE NAMESPACE NAME",
@@ -38,10 +38,11 @@ const USAGES: [&str; 11] = [
     "slot FILE INDEX SLOT",
     "const FILE INDEX NAME",
     "normal [-f] FILE OUT",
+    "adopt [-f] FILE OUT",
     "link [-f] A B OUT",
 ];
 
-const COMMANDS: &str = "check list table iid looks key method slot const normal link";
+const COMMANDS: &str = "check list table iid looks key method slot const normal adopt link";
 
 /// What the error says, of the kinds where that is fixed.
 fn told(kind: &str, words: &[Vec<u8>]) -> Option<String> {
@@ -58,12 +59,14 @@ fn told(kind: &str, words: &[Vec<u8>]) -> Option<String> {
 }
 
 /// Every command, with good words.
-const GOOD: [&str; 13] = [
+const GOOD: [&str; 15] = [
     "check F",
     "list F",
     "normal F O",
     "link F G O",
     "normal -f F O",
+    "adopt F O",
+    "adopt -f F O",
     "link -f F G O",
     "iid F 00000000000000000000000000000001",
     "looks F 00000000000000000000000000000001",
@@ -94,7 +97,14 @@ const KINDS: [(&str, Line); 23] = [
         rng.pick(&readers).replacen('F', "-f F", 1).into()
     }),
     ("-f too late", |rng, _, _| {
-        let lines = ["normal F -f O", "normal F O -f", "link F -f G O", "link F G -f O"];
+        let lines = [
+            "normal F -f O",
+            "normal F O -f",
+            "adopt F -f O",
+            "adopt F O -f",
+            "link F -f G O",
+            "link F G -f O",
+        ];
         (*rng.pick(&lines)).into()
     }),
     ("a space too many", |rng, _, _| {
@@ -120,19 +130,21 @@ const KINDS: [(&str, Line); 23] = [
         some.replacen('F', &"f".repeat(*rng.pick(&[256, 5_000])), 1).into()
     }),
     ("file name with a zero byte", |rng, _, _| {
-        (*rng.pick(&["check G\0", "list G\0", "slot G\0 1 0", "normal G O\0"])).into()
+        (*rng.pick(&["check G\0", "list G\0", "slot G\0 1 0", "normal G O\0", "adopt G O\0"]))
+            .into()
     }),
     ("second file absent", |rng, _, _| (*rng.pick(&["link G O O", "link -f G O O"])).into()),
     ("output in no folder", |rng, _, _| {
-        let outputs = ["normal G none/o", "link G G none/o", "normal -f G none/o"];
+        let outputs =
+            ["normal G none/o", "link G G none/o", "normal -f G none/o", "adopt G none/o"];
         (*rng.pick(&outputs)).into()
     }),
     ("output is a folder", |rng, _, _| {
-        let starts = ["normal G", "link G G", "normal -f G", "link -f G G"];
+        let starts = ["normal G", "link G G", "normal -f G", "link -f G G", "adopt G"];
         format!("{} {SUBFOLDER}", rng.pick(&starts)).into()
     }),
     ("output name too long", |rng, _, _| {
-        let start = rng.pick(&["normal", "normal -f"]);
+        let start = rng.pick(&["normal", "normal -f", "adopt", "adopt -f"]);
         format!("{start} G {}", "o".repeat(*rng.pick(&[256, 5_000]))).into()
     }),
 ];

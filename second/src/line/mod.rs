@@ -66,6 +66,7 @@ fn batch(s: &mut Script, supply: &Supply, k: usize) {
     if k == 0 {
         stories::headers(s);
     }
+    stories::genuine(s, part(&supply.genuine, k, BATCHES));
     part(&supply.large, k, BATCHES).for_each(|file| stories::large_file(s, file));
     part(&supply.pairs, k, BATCHES).for_each(|(_, files)| stories::pair(s, files));
 }
@@ -87,6 +88,7 @@ fn alone(s: &mut Script, supply: &Supply, k: usize) {
     let bad = supply.refused(k);
     bad.iter().for_each(|bytes| stories::checked(s, bytes, &one));
     stories::normalised(s);
+    stories::genuine(s, part(&supply.genuine, k, 40));
     stories::linked(s);
     match k % 4 {
         0 => stories::rewritten(s, bad[0]),

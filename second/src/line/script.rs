@@ -217,7 +217,7 @@ impl Script {
     /// writes, and more words after them.
     fn command(&mut self, start: &[What], names: &[&Name], more: Words, answer: To) -> &mut Step {
         let command = start[0];
-        let writes = matches!(command, "normal" | "link");
+        let writes = matches!(command, "normal" | "link" | "adopt");
         let (files, out) = names.split_at(names.len() - usize::from(writes));
         let names = names.iter().map(|name| name.word.clone().into_bytes());
         let words = start.iter().map(|word| word.as_bytes().to_vec());
@@ -243,7 +243,8 @@ impl Script {
             let number = NUMBER[refusal.number as usize];
             counts.push(("refused", number, Some(refusal.place as u64)));
             let whose = if which == 0 { files } else { &files[usize::from(which) - 1..][..1] };
-            let own = reads.get(usize::from(which).wrapping_sub(1));
+            // The reason is fixed for what is read as the check reads it.
+            let own = reads.get(usize::from(which).wrapping_sub(1)).filter(|_| command != "adopt");
             let reason = own.map_or_else(Default::default, |file| answers::reason(file, refusal));
             (refusal, whose.iter().map(|file| file.word.clone()).collect(), reason)
         });
@@ -307,7 +308,7 @@ impl Script {
         if is_long || is_empty {
             let what = if is_long { "over 65,535 bytes" } else { "with an empty word" };
             step.counts.push(("line", what, None));
-            step.outcome.or_error = !alone;
+            step.outcome.or_error |= !alone;
         }
     }
 
@@ -320,15 +321,20 @@ impl Script {
     /// linked both ways. The papers leave open what a refused file with one that can't be read
     /// gives.
     pub fn write(&mut self, names: &[&Name], order: Option<What>, forced: bool) {
-        let stood = self.stands(names[names.len() - 1]);
         let command = if names.len() == 2 { "normal" } else { "link" };
-        let start = &[command, FORCED][..1 + usize::from(forced)];
-        let step = self.command(start, names, Vec::new(), &answers::written);
+        let step = self.write_by(command, names, forced, &answers::written);
         if let (Some(order), Some((why, ..))) = (order, &step.told) {
             if !refusal::is_of_file(why.number) {
                 step.counts.push((LINK[why.number as usize], order, Some(why.place as u64)));
             }
         }
+    }
+
+    /// A command that writes, with the output last, and what becomes of that.
+    fn write_by(&mut self, command: What, names: &[&Name], forced: bool, answer: To) -> &mut Step {
+        let stood = self.stands(names[names.len() - 1]);
+        let start = &[command, FORCED][..1 + usize::from(forced)];
+        let step = self.command(start, names, Vec::new(), answer);
         let what = match (step.outcome.written.is_some(), stood) {
             (true, Stands::Nothing) => "output made",
             (true, _) => "output replaced",
@@ -339,6 +345,13 @@ impl Script {
         if what == "output made" && !forced {
             step.counts.push((command, "output made without -f", None));
         }
+        step
+    }
+
+    /// With `-f` or now and then without.
+    pub fn adopt(&mut self, file: &Name, out: &Name) {
+        let forced = self.forced();
+        self.write_by("adopt", &[file, out], forced, &answers::adopted);
     }
 
     /// With `-f` or now and then without.

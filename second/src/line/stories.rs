@@ -3,7 +3,8 @@
 use super::script::{Name, Script, FORCED, INPUT, SUBFOLDER};
 use super::{answers::Bytes, malformed};
 use crate::library::{links::ORDERS, looks, questions::question, questions::Question};
-use crate::making::{builder::*, generate, hostile, model, pairs, rng::Rng};
+use crate::making::{builder::*, generate, genuine, genuine::Genuine};
+use crate::making::{hostile, model, pairs, rng::Rng};
 use crate::program::{check::check, listing::MAX_INPUT};
 
 /// A file and how it counts.
@@ -194,6 +195,36 @@ pub fn normalised(script: &mut Script) {
     }
 }
 
+/// A file of libxpt with what adopting it gives, where that is known; then asked.
+pub fn adopted(script: &mut Script, made: &Genuine) {
+    let (file, out) = (script.place(made.bytes.clone()), output(script));
+    script.story();
+    script.adopt(&file, &out);
+    script.count("adopt", made.how);
+    script.check(&out);
+    questions(script, &out, 2);
+    if script.rng.percent(10) {
+        let copy = script.alias(&file);
+        script.adopt(&copy, &file);
+        script.check(&file);
+    }
+    // Where the output was there already it may have been left.
+    let adopted = script.content(&out).cloned();
+    if let Some(twin) = made.twin.as_ref().filter(|twin| adopted.as_deref() == Some(&twin[..])) {
+        let twin = script.place(twin.clone());
+        script.law(["adopted: its twin", ""], &out, &twin);
+    }
+}
+
+/// Files of libxpt: good ones, and those of the supply.
+pub fn genuine<'m>(script: &mut Script, others: impl Iterator<Item = &'m Genuine>) {
+    for _ in 0..4 {
+        let made = genuine::any(&mut script.rng);
+        adopted(script, &made);
+    }
+    others.for_each(|made| adopted(script, made));
+}
+
 /// A pair in both orders.
 pub fn pair(script: &mut Script, files: &[Bytes; 2]) {
     let [a, b] = files.each_ref().map(|bytes| script.place(bytes.clone()));
@@ -366,6 +397,7 @@ pub fn no_ordinary_file(script: &mut Script, bad: &Bytes) {
         script.write(&[&a, out], None, false);
         script.link(&a, &a, out);
         script.normal(&bad, out);
+        script.adopt(&a, out);
         script.link(&a, &bad, out);
     }
 }
@@ -390,13 +422,14 @@ pub fn standard_input(script: &mut Script, bytes: &Bytes) {
     let (file, other, out) = (script.place(bytes.clone()), placed(script), output(script));
     let input = Name { path: file.path, word: INPUT.to_string() };
     script.story();
-    for turn in 0..6 {
+    for turn in 0..7 {
         match turn {
             0 => script.check(&input),
             1 => script.list(&input),
             2 => script.normal(&input, &out),
             3 => script.link(&input, &other, &out),
             4 => script.link(&other, &input, &out),
+            5 => script.adopt(&input, &out),
             _ => questions(script, &input, 2),
         }
         script.count("file", "standard input");
@@ -491,6 +524,7 @@ pub fn large_file(script: &mut Script, (what, bytes): &Named) {
     questions(script, &file, 4);
     let out = output(script);
     script.normal(&file, &out);
+    script.adopt(&file, &out);
     script.check(&out);
     script.link(&file, &small, &out);
     script.link(&small, &file, &out);

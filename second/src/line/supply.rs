@@ -1,7 +1,7 @@
 //! Generated files that many scripts take from.
 
 use super::{answers::Bytes, stories};
-use crate::making::{damage, pairs, rng::Rng};
+use crate::making::{damage, genuine, genuine::Genuine, pairs, rng::Rng};
 use crate::program::{check::check, link::link, Answer, Refusal, MAX_FILE};
 use std::collections::BTreeMap;
 
@@ -11,6 +11,8 @@ pub struct Supply {
     /// Pairs whose union is large, with the number of their refusal.
     pub pairs: Vec<(u32, [Bytes; 2])>,
     pub large: Vec<stories::Named>,
+    /// Files of libxpt, of each kind.
+    pub genuine: Vec<Genuine>,
 }
 
 impl Supply {
@@ -26,7 +28,7 @@ impl Supply {
             (linked.map_or_else(|(_, refusal)| refusal.number, |_| 0), files)
         };
         let pairs = made.into_iter().map(pair).collect();
-        Supply { checked, pairs, large: stories::large(rng) }
+        Supply { checked, pairs, large: stories::large(rng), genuine: of_libxpt(seed, rng) }
     }
 
     /// A refused file of each number, for other k at other places where there are some.
@@ -54,6 +56,21 @@ pub fn of_each<T>(all: &[(u32, T)], k: usize) -> Vec<&T> {
 /// The k-th of so many parts.
 pub fn part<T>(all: &[T], k: usize, parts: usize) -> impl Iterator<Item = &T> {
     all.iter().skip(k % parts).step_by(parts)
+}
+
+/// Up to 40 files of libxpt of each kind, few of them long; others with other seeds.
+fn of_libxpt(seed: u64, rng: &mut Rng) -> Vec<Genuine> {
+    let mut kinds: BTreeMap<(&str, bool), usize> = BTreeMap::new();
+    let mut kept = Vec::new();
+    genuine::everything(seed, &mut |made| {
+        let is_long = made.bytes.len() > 100_000;
+        let count = kinds.entry((made.how, is_long)).or_default();
+        if *count < if is_long { 3 } else { 40 } && (is_long || rng.percent(20)) {
+            *count += 1;
+            kept.push(made);
+        }
+    });
+    kept
 }
 
 /// Up to 40 files of each kind, few of them long.

@@ -514,6 +514,11 @@ impl Typelib {
         self.build().bytes
     }
 
+    /// Where the annotations end.
+    pub fn annotations_end(&self) -> usize {
+        self.annotations().at()
+    }
+
     fn annotations(&self) -> Writer {
         use Field::*;
         let mut writer = Writer::new(HEADER, 0);

@@ -5,6 +5,7 @@ pub mod builder;
 pub mod damage;
 pub mod faults;
 pub mod generate;
+pub mod genuine;
 pub mod hostile;
 pub mod model;
 pub mod pairs;

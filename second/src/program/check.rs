@@ -32,28 +32,37 @@ struct Typelib<'a> {
 
 /// Header and positions: 1 to 8 in number order, with 29 and 30 in the position of 6.
 fn header(file: &[u8]) -> Result<Typelib<'_>, Refusal> {
+    let (n, pool) = head(file)?;
+    let (minor, directory) = (file[17], word(file, 24));
+    let is_so = match n {
+        0 => directory == 0,
+        _ => directory.is_multiple_of(4) && stands(directory, n, pool),
+    };
+    refuse_if(!is_so, refusal::POSITION, 24)?;
+    Ok(Typelib { file, minor, n, directory, pool })
+}
+
+/// All of a header but the directory: the number of interfaces and where the pool starts.
+pub(crate) fn head(file: &[u8]) -> Result<(usize, usize), Refusal> {
     refuse_if(file.len() < HEADER, refusal::TOO_SHORT, file.len())?;
     refuse_if(file.len() > MAX_FILE, refusal::TOO_LONG, MAX_FILE)?;
     if let Some(at) = (0..MAGIC.len()).find(|&i| file[i] != MAGIC[i]) {
         return refused(refusal::MAGIC, at);
     }
-    let minor = file[17];
     refuse_if(file[16] != 1, refusal::MAJOR, 16)?;
-    refuse_if(minor > MAX_MINOR, refusal::MINOR, 17)?;
+    refuse_if(file[17] > MAX_MINOR, refusal::MINOR, 17)?;
     refuse_if(file.len() < word(file, 20), refusal::CUT, 20)?;
     refuse_if(file.len() > word(file, 20), refusal::PADDED, 20)?;
     let n = usize::from(u16::from_be_bytes([file[18], file[19]]));
     refuse_if(n > MAX_INTERFACES, refusal::COUNT, 18)?;
     let pool = word(file, 28);
     refuse_if(pool <= HEADER || pool > file.len(), refusal::POSITION, 28)?;
-    let directory = word(file, 24);
-    let room = (HEADER + 1..=pool).contains(&directory).then(|| pool - directory);
-    let stands = match n {
-        0 => directory == 0,
-        _ => directory.is_multiple_of(4) && room.is_some_and(|room| ENTRY * n <= room),
-    };
-    refuse_if(!stands, refusal::POSITION, 24)?;
-    Ok(Typelib { file, minor, n, directory, pool })
+    Ok((n, pool))
+}
+
+/// Whether a directory of n entries has room there, between the first annotation and the pool.
+pub(crate) fn stands(directory: usize, n: usize, pool: usize) -> bool {
+    directory > HEADER && directory + ENTRY * n <= pool
 }
 
 /// The 4-byte number at `at`, which lies inside the file.

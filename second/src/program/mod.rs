@@ -1,7 +1,8 @@
 //! The independent program: the check of a typelib, its questions, listing, tables, normal form and
-//! links, written from the documents and the readings alone.
+//! links, and libxpt's files, written from the documents and the readings alone.
 
 pub mod accepted;
+pub mod adopt;
 pub mod check;
 pub mod format;
 pub mod link;

@@ -22,6 +22,7 @@ extern "C" {
     fn saniotka_slot(f: In, fl: usize, i: u64, slot: u64, a: List, al: usize) -> i32;
     fn saniotka_constant(f: In, fl: usize, i: u64, n: In, nl: usize, a: List, al: usize) -> i32;
     fn saniotka_normal(f: In, fl: usize, o: Out, ol: usize, a: List, al: usize) -> i32;
+    fn saniotka_adopt(f: In, fl: usize, o: Out, ol: usize, a: List, al: usize) -> i32;
     fn saniotka_link(f: In, fl: usize, g: In, gl: usize, o: Out, ol: usize, a: List, al: usize) -> i32;
 }
 
@@ -71,6 +72,11 @@ pub fn constant(file: &[u8], index: u64, name: &[u8], answer: &mut [u64]) -> i32
 pub fn normal(file: &[u8], out: &mut [u8], answer: &mut [u64]) -> i32 {
     let (f, a, o, o_length) = (file, answer, out.as_mut_ptr(), out.len());
     unsafe { saniotka_normal(f.as_ptr(), f.len(), o, o_length, a.as_mut_ptr(), a.len()) }
+}
+
+pub fn adopt(file: &[u8], out: &mut [u8], answer: &mut [u64]) -> i32 {
+    let (f, a, o, o_length) = (file, answer, out.as_mut_ptr(), out.len());
+    unsafe { saniotka_adopt(f.as_ptr(), f.len(), o, o_length, a.as_mut_ptr(), a.len()) }
 }
 
 pub fn link(first: &[u8], second: &[u8], out: &mut [u8], answer: &mut [u64]) -> i32 {

@@ -130,14 +130,12 @@ pub fn constant_by_name(file: &[u8], index: u64, name: &[u8]) -> Answer<Constant
 /// Writes the normal form of a file to the front of `out`: its length. Where it is refused `out` is as
 /// it was; 27 has the length that is needed as its place.
 pub fn normalise(file: &[u8], out: &mut [u8]) -> Result<usize, Refusal> {
-    told(
-        |list| lists::normal(file, out, list),
-        |numbers| match *numbers {
-            [0, length] => Some(Ok(length as usize)),
-            [3, number, place] => Some(Err(refusal(number, place)?)),
-            _ => None,
-        },
-    )
+    told(|list| lists::normal(file, out, list), written)
+}
+
+/// Writes a file of libxpt in the published layout to the front of `out`, likewise.
+pub fn adopt(file: &[u8], out: &mut [u8]) -> Result<usize, Refusal> {
+    told(|list| lists::adopt(file, out, list), written)
 }
 
 /// Writes the normal form of the union of two files to the front of `out`, likewise.
@@ -185,6 +183,14 @@ fn asked<T>(
 
 fn refusal(number: u64, place: u64) -> Option<Refusal> {
     Some(Refusal { number: number.try_into().ok()?, place: place as usize })
+}
+
+fn written(numbers: &Numbers) -> Option<Result<usize, Refusal>> {
+    match *numbers {
+        [0, length] => Some(Ok(length as usize)),
+        [3, number, place] => Some(Err(refusal(number, place)?)),
+        _ => None,
+    }
 }
 
 fn interface(numbers: &Numbers) -> Option<usize> {
