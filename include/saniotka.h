@@ -1,4 +1,5 @@
-/* Saniotka for C and C++: the check of XPCOM typelibs, the five questions, the normal form and the link of two files.
+/* Saniotka for C and C++: the check of XPCOM typelibs, the five questions, the normal form, the adoption of a
+ * file that libxpt wrote, and the link of two files.
  *
  * Every function is proved to answer what the definitions in the sources say, for every input. docs/FORMAT.md there says
  * what a typelib is, what each refusal means and what its place counts. The library is made by `rt staticlib cabi`, as
@@ -38,7 +39,7 @@ extern "C" {
 /* Numbers that any answer fits in. */
 #define SANIOTKA_ROOM 8
 
-/* Bytes that any normal form and any link fit in; a longer file is none. */
+/* Bytes that any normal form, any adopted file and any link fit in; a longer file is none. */
 #define SANIOTKA_BUFFER 1048576
 
 /* Bytes of stack that are enough for any call. */
@@ -50,7 +51,7 @@ enum {
     SANIOTKA_TOO_SHORT = 1
 };
 
-/* The first number of an answer to a question, and of a normal form or a link. */
+/* The first number of an answer to a question, and of a normal form, an adopted file or a link. */
 enum {
     SANIOTKA_FOUND = 0,
     SANIOTKA_WRITTEN = 0,
@@ -91,7 +92,7 @@ enum {
  * 30 are of a file, and 21 to 25 of a link. */
 enum {
     SANIOTKA_MALFORMED = 20,    /* the question; its place is 0 */
-    SANIOTKA_OVER_LIMIT = 26,   /* the normal form has more than SANIOTKA_BUFFER bytes; its place is 0 */
+    SANIOTKA_OVER_LIMIT = 26,   /* what is to be written has more than SANIOTKA_BUFFER bytes; its place is 0 */
     SANIOTKA_SHORT_BUFFER = 27, /* its place is the length that is needed */
     SANIOTKA_CUT = 29,          /* the file has fewer bytes than its header says; its place is 20 */
     SANIOTKA_PADDED = 30        /* it has more; its place is 20 */
@@ -170,6 +171,16 @@ int saniotka_constant(const uint8_t *file, size_t length, uint64_t index, const 
  */
 int saniotka_normal(const uint8_t *file, size_t length, uint8_t *out, size_t out_length, uint64_t *answer,
                     size_t answers);
+
+/* A file as libxpt writes it, its directory offset counted from 1, in the published layout, at the front of `out`, with
+ * which it is as above. Whether the result is a typelib the check tells.
+ *
+ *     SANIOTKA_WRITTEN, n               n bytes were written
+ *     SANIOTKA_REFUSED, number, place   1 to 5, 7, 29 and 30 as in the check; 8 at 28 or 24, SANIOTKA_OVER_LIMIT, or
+ *                                       SANIOTKA_SHORT_BUFFER
+ */
+int saniotka_adopt(const uint8_t *file, size_t length, uint8_t *out, size_t out_length, uint64_t *answer,
+                   size_t answers);
 
 /* The normal form of the union of two files, at the front of `out`, with which it is as above.
  *

@@ -161,6 +161,25 @@ static void forms(void) {
     HOLD(untouched_from(0));
 }
 
+/* The normal form as libxpt writes it: the directory right after the annotation, at 33, and its offset counted from 1. */
+static void adoptions(void) {
+    uint8_t *genuine = again + 1024;
+    memcpy(genuine, again, 33);
+    memcpy(genuine + 33, again + 36, 379 - 36);
+    genuine[23] = (uint8_t)(genuine[23] - 3);
+    genuine[27] = 34;
+    genuine[31] = (uint8_t)(genuine[31] - 3);
+    EXPECT(saniotka_check(genuine, 376, list(), NUMBERS), "0: [0] 8 [1] 24");
+    EXPECT(saniotka_adopt(genuine, 376, out, sizeof out, list(), NUMBERS), "0: [0] 0 [1] 379");
+    HOLD(untouched_from(379) && memcmp(out, again, 379) == 0);
+    EXPECT(saniotka_adopt(genuine, 376, out, 378, list(), NUMBERS), "0: [0] 3 [1] 27 [2] 379");
+    HOLD(untouched_from(0));
+    EXPECT(saniotka_adopt(genuine, 375, out, sizeof out, list(), NUMBERS), "0: [0] 3 [1] 29 [2] 20");
+    genuine[27] = 33;
+    EXPECT(saniotka_adopt(genuine, 376, out, sizeof out, list(), NUMBERS), "0: [0] 3 [1] 8 [2] 24");
+    HOLD(untouched_from(0));
+}
+
 static void links(void) {
     EXPECT(saniotka_link(FILE_OF(gas), FILE_OF(gas_old), out, sizeof out, list(), NUMBERS),
            "0: [0] 3 [1] 0 [2] 23 [3] 3");
@@ -193,6 +212,8 @@ static void short_lists(void) {
         EXPECT(saniotka_slot(FILE_OF(alarms), 3, 2, list(), room), "1:");
         EXPECT(saniotka_constant(FILE_OF(alarms), 3, TEXT("NO_ALARM"), list(), room), "1:");
         EXPECT(saniotka_normal(FILE_OF(alarms), out, sizeof out, list(), room), "1:");
+        HOLD(untouched_from(0));
+        EXPECT(saniotka_adopt(FILE_OF(alarms), out, sizeof out, list(), room), "1:");
         HOLD(untouched_from(0));
         EXPECT(saniotka_link(FILE_OF(alarms), FILE_OF(gas), out, sizeof out, list(), room), "1:");
         HOLD(untouched_from(0));
@@ -247,6 +268,7 @@ int main(int count, char **arguments) {
     members();
     kinds();
     forms();
+    adoptions();
     links();
     short_lists();
     names();
