@@ -11,6 +11,7 @@ ghost use Rattle.cabi.specs.Kind.{askKind};
 
 mod kinds;
 mod links;
+mod piles;
 
 // What a call returns.
 pub const ANSWERED: i32 = 0;
