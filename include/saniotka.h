@@ -1,5 +1,5 @@
 /* Saniotka for C and C++: the check of XPCOM typelibs, the five questions, the normal form, the adoption of a
- * file that libxpt wrote, and the link of two files.
+ * file that libxpt wrote, and the link of two files and of many.
  *
  * Every function is proved to answer what the definitions in the sources say, for every input. docs/FORMAT.md there says
  * what a typelib is, what each refusal means and what its place counts. The library is made by `rt staticlib cabi`, as
@@ -42,6 +42,9 @@ extern "C" {
 /* Bytes that any normal form, any adopted file and any link fit in; a longer file is none. */
 #define SANIOTKA_BUFFER 1048576
 
+/* Files of a pile. */
+#define SANIOTKA_PILE 256
+
 /* Bytes of stack that are enough for any call. */
 #define SANIOTKA_STACK 131072
 
@@ -51,11 +54,13 @@ enum {
     SANIOTKA_TOO_SHORT = 1
 };
 
-/* The first number of an answer to a question, and of a normal form, an adopted file or a link. */
+/* The first number of an answer to a question, and of a normal form, an adopted file, a link or a pile. */
 enum {
     SANIOTKA_FOUND = 0,
     SANIOTKA_WRITTEN = 0,
+    SANIOTKA_GROWN = 0,
     SANIOTKA_NONE = 1,
+    SANIOTKA_FULL = 1,
     SANIOTKA_UNDETERMINED = 2,
     SANIOTKA_REFUSED = 3
 };
@@ -192,6 +197,28 @@ int saniotka_adopt(const uint8_t *file, size_t length, uint8_t *out, size_t out_
  */
 int saniotka_link(const uint8_t *first, size_t first_length, const uint8_t *second, size_t second_length, uint8_t *out,
                   size_t out_length, uint64_t *answer, size_t answers);
+
+/* A pile of files, linked one by one: the first with the second, what they left with the third, and so on, up to
+ * SANIOTKA_PILE of them. The caller holds one file at a time. A pile is two numbers, 0 and 0 at first: how many files it
+ * has, and the length of what they left, which stands at the front of `one` after an odd number of files, else of
+ * `other`. The same two buffers of SANIOTKA_BUFFER bytes are lent to each call, and nothing else is written there in
+ * between. `one` and `other` share no byte with each other nor with `file`. A refusal leaves both as they were.
+ *
+ *     SANIOTKA_GROWN, files, left       the pile with this file
+ *     SANIOTKA_FULL                     it has SANIOTKA_PILE files already
+ *     SANIOTKA_REFUSED, which, number, place, step
+ *                                       as for a link, and which link it was, counted from 1. From the second on
+ *                                       SANIOTKA_FIRST is what the files before left. The first file's own refusal is
+ *                                       one of the first link; SANIOTKA_SHORT_BUFFER if it has no room in `one`
+ */
+int saniotka_pile_add(uint64_t files, uint64_t left, const uint8_t *file, size_t length, uint8_t *one, size_t one_length,
+                      uint8_t *other, size_t other_length, uint64_t *answer, size_t answers);
+
+/* After the last file: a pile of two or more is as it was, and a single file is linked with the empty typelib, so that
+ * what is left is a normal form. Answered as above; of no files the empty typelib is left.
+ */
+int saniotka_pile_end(uint64_t files, uint64_t left, uint8_t *one, size_t one_length, uint8_t *other, size_t other_length,
+                      uint64_t *answer, size_t answers);
 
 #ifdef __cplusplus
 }

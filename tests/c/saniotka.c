@@ -15,7 +15,7 @@
 
 static uint8_t alarms[4096], gas[4096], gas_old[4096], gas_torn[4096];
 static size_t alarms_length, gas_length, gas_old_length, gas_torn_length;
-static uint8_t out[SANIOTKA_BUFFER], again[SANIOTKA_BUFFER];
+static uint8_t out[SANIOTKA_BUFFER], again[SANIOTKA_BUFFER], one[SANIOTKA_BUFFER], other[SANIOTKA_BUFFER];
 static uint64_t answer[NUMBERS];
 static int runs, failures;
 
@@ -200,6 +200,39 @@ static void links(void) {
            "0: [0] 0 [1] 5 [2] 0 [3] 0 [4] 16 [5] 0 [6] 0 [7] 18");
 }
 
+/* The pile so far, and one more file of it. */
+#define ADD(files, left, name)                                                                                         \
+    saniotka_pile_add(files, left, FILE_OF(name), one, sizeof one, other, sizeof other, list(), NUMBERS)
+#define END(files, left) saniotka_pile_end(files, left, one, sizeof one, other, sizeof other, list(), NUMBERS)
+
+/* `again` holds the link of gas and alarms, of 786 bytes. */
+static void piles(void) {
+    EXPECT(ADD(0, 0, gas), "0: [0] 0 [1] 1 [2] 407");
+    HOLD(memcmp(one, gas, 407) == 0);
+    EXPECT(ADD(1, 407, alarms), "0: [0] 0 [1] 2 [2] 786");
+    HOLD(memcmp(one, gas, 407) == 0 && memcmp(other, again, 786) == 0);
+    EXPECT(ADD(2, 786, gas), "0: [0] 0 [1] 3 [2] 786");
+    HOLD(memcmp(one, again, 786) == 0);
+    EXPECT(ADD(3, 786, gas_torn), "0: [0] 3 [1] 2 [2] 29 [3] 20 [4] 3");
+    EXPECT(ADD(3, 786, gas_old), "0: [0] 3 [1] 0 [2] 23 [3] 4 [4] 3");
+    HOLD(memcmp(one, again, 786) == 0);
+    EXPECT(END(3, 786), "0: [0] 0 [1] 3 [2] 786");
+    EXPECT(ADD(256, 786, gas), "0: [0] 1");
+    HOLD(memcmp(one, again, 786) == 0);
+    EXPECT(ADD(0, 0, gas_torn), "0: [0] 3 [1] 1 [2] 29 [3] 20 [4] 1");
+    EXPECT(saniotka_pile_add(0, 0, FILE_OF(gas), NULL, 0, NULL, 0, list(), NUMBERS),
+           "0: [0] 3 [1] 0 [2] 27 [3] 407 [4] 1");
+    /* a single file, as its normal form, and none */
+    ADD(0, 0, gas);
+    EXPECT(END(1, 407), "0: [0] 0 [1] 2 [2] 379");
+    saniotka_normal(FILE_OF(gas), out, sizeof out, list(), NUMBERS);
+    HOLD(memcmp(other, out, 379) == 0);
+    EXPECT(END(0, 0), "0: [0] 0 [1] 1 [2] 36");
+    HOLD(answer[0] == SANIOTKA_GROWN);
+    ADD(SANIOTKA_PILE, 36, gas);
+    HOLD(answer[0] == SANIOTKA_FULL);
+}
+
 /* A list with too little room: every call says so, and neither the list nor the buffer changes. */
 static void short_lists(void) {
     size_t room;
@@ -216,6 +249,10 @@ static void short_lists(void) {
         EXPECT(saniotka_adopt(FILE_OF(alarms), out, sizeof out, list(), room), "1:");
         HOLD(untouched_from(0));
         EXPECT(saniotka_link(FILE_OF(alarms), FILE_OF(gas), out, sizeof out, list(), room), "1:");
+        HOLD(untouched_from(0));
+        EXPECT(saniotka_pile_add(0, 0, FILE_OF(gas), out, sizeof out, NULL, 0, list(), room), "1:");
+        HOLD(untouched_from(0));
+        EXPECT(saniotka_pile_end(0, 0, out, sizeof out, NULL, 0, list(), room), "1:");
         HOLD(untouched_from(0));
     }
     list();
@@ -270,6 +307,7 @@ int main(int count, char **arguments) {
     forms();
     adoptions();
     links();
+    piles();
     short_lists();
     names();
     printf("%d comparisons, %d wrong\n", runs, failures);
