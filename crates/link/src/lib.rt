@@ -28,8 +28,8 @@ pub enum Linked {
     Refused(LinkRefusal),
 }
 
-// An accepted file is linked with one that has no entries.
-fn normalise_accepted(file: &[u8], out: &mut [u8]) -> Normalised
+// The same of an accepted file: it is linked with one that has no entries.
+pub fn normalise_accepted(file: &[u8], out: &mut [u8]) -> Normalised
     requires { ⌜ Accepted (decode (now file)) ⌝ }
     ensures { λ r. ⌜ (r ≡ normaliseAnswer (now (file .entry)) (now (out .entry))) × (now (out .exit) ≡ normaliseBuffer (now (file .entry)) (now (out .entry))) ⌝ }
 {

@@ -92,7 +92,7 @@ module _ (up : ℕ → ℕ) where
       rw (← s) (climb-add k (m - k) i ∙ ap (climb (m - k) up) e ∙ climb-zero (m - k))
 
   -- what is met again is met for ever
-  climb-again : (d x : ℕ) → 1 ≤ d → climb d up x ≡ x → (k : ℕ) → (m : ℕ) × (k ≤ m) × (climb m up x ≡ x)
+  pub climb-again : (d x : ℕ) → 1 ≤ d → climb d up x ≡ x → (k : ℕ) → (m : ℕ) × (k ≤ m) × (climb m up x ≡ x)
   climb-again d x l e zero = (0, omega arith, refl)
   climb-again d x l e (suc k) =
       let r = climb-again d x l e k in
@@ -149,7 +149,7 @@ module _ (up : ℕ → ℕ) (n : ℕ) (parents : (i : ℕ) → i < n → up i �
   rise-below zero l = l
   rise-below (suc i) l = parents i l
 
-  climb-below : (k i : ℕ) → i ≤ n → climb k up i ≤ n
+  pub climb-below : (k i : ℕ) → i ≤ n → climb k up i ≤ n
   climb-below zero i l = l
   climb-below (suc k) i l = climb-below k (rise up i) (rise-below i l)
 

@@ -88,18 +88,18 @@ module _ (s : List ℕ) (h : Header) where
 -- ---- the way there
 
 -- header, annotations and directory as they were read
-abbrev FrontSays : List ℕ → Front → Type 0
+abbrev pub FrontSays : List ℕ → Front → Type 0
 FrontSays s (front h notes rows) =
     HeaderAt s h × ((e : ℕ) × ShowsNotes ShowsText s 32 notes e × (e ≤ annotationLimit h)) × NotesRule notes
     × ((e : ℕ) × (readDirectory s (poolOf h s) (h .count) (h .directory) ≡ got rows e))
 
 -- no key stood earlier, and every chain ends
-across-facts : (K : ℕ → Key) (up : ℕ → ℕ) (n d e : ℕ) → Facts (λ m a. ((firstRepeated K n <? n) ≡ false) × ((firstCircling up n <? n) ≡ false) × (a ≡ e)) (readAcross K up n d e)
+pub across-facts : (K : ℕ → Key) (up : ℕ → ℕ) (n d e : ℕ) → Facts (λ m a. ((firstRepeated K n <? n) ≡ false) × ((firstCircling up n <? n) ≡ false) × (a ≡ e)) (readAcross K up n d e)
 unfolding readAcross
 across-facts K up n d e = f-unless _ _ _ _ _ (λ keys. f-unless _ _ _ _ _ (λ chains. f-got _ _ _ (keys, chains, refl)))
 
 module _ (s : List ℕ) where
-  front-facts : Facts (λ f e. FrontSays s f × (e ≡ length s)) (readFront s)
+  pub front-facts : Facts (λ f e. FrontSays s f × (e ≡ length s)) (readFront s)
   unfolding readFront readListed
   front-facts =
       f-next _ _ _ _ (f-read (λ h e. HeaderAt s h) (readHeader s) (λ h e q. header-at s q .1)) (λ h _ a.

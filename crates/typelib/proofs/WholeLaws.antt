@@ -115,6 +115,24 @@ pub parent-index : (i : ℕ) → parentIndex (indexed i) ≡ i
 unfolding indexed parentIndex if_then_else_
 parent-index i = both (λ (o : Option ℕ). parentIndex o ≡ i) (i =? 0) none (some i) (λ z. sym (from-yes-eq i 0 z)) (λ _. refl)
 
+-- the parent of an accepted descriptor, read where its pointer leads
+module _ (c : Context) (s pool : List ℕ) (d k : ℕ) where
+  pub above-own : (o : Option (Descriptor ℕ)) → Leads c pool (be 4 s (d + 28 * k + 24)) o → above o ≡ aboveOn s pool d k
+  unfolding aboveOn ownPointer
+  above-own o (nowhere z w) = ap above w ∙ is-eq _ _ _ _ z (above-none)
+  above-own o (descriptor x b z l q w) =
+      ap above w ∙ above-some x ∙ no-eq _ _ _ _ z (ap parentIndex (descriptor-parent c pool _ q .is) ∙ parent-index _)
+
+  pub own-inside : (o : Option (Descriptor ℕ)) → Leads c pool (be 4 s (d + 28 * k + 24)) o → (be 4 s (d + 28 * k + 24) ≡ 0 → ⊥) → be 4 s (d + 28 * k + 24) - 1 + 2 ≤ length pool
+  own-inside o (nowhere z w) u = absurd (u z)
+  own-inside o (descriptor x b z l q w) u = descriptor-parent c pool _ q .fits
+
+  pub own-entry : (n : ℕ) → c .count ≡ n → (o : Option (Descriptor ℕ)) → Leads c pool (be 4 s (d + 28 * k + 24)) o → aboveOn s pool d k ≤ n
+  unfolding aboveOn ownPointer
+  own-entry n m o (nowhere z w) = rw (← is-eq (be 4 s (d + 28 * k + 24)) 0 0 (be 2 pool (be 4 s (d + 28 * k + 24) - 1)) z refl) (omega arith)
+  own-entry n m o (descriptor x b z l q w) =
+      rw (← no-eq (be 4 s (d + 28 * k + 24)) 0 0 (be 2 pool (be 4 s (d + 28 * k + 24) - 1)) z refl, ← m) (descriptor-parent c pool _ q .entry)
+
 module _ (s pool : List ℕ) (n d : ℕ) {rows : List Row} {e : ℕ} (h : readDirectory s pool n d ≡ got rows e) where
   pub rows-named : Named s pool n d
   unfolding namePointer spacePointer
@@ -131,31 +149,15 @@ module _ (s pool : List ℕ) (n d : ℕ) {rows : List Row} {e : ℕ} (h : readDi
     unfolding keysIn keyOn namePointer spacePointer
     keys-same k l = ap entryKey (entries-at rows ds k (rw (rows-length s pool n d h) l)) ∙ with-key (getD rows k noRow) (getD ds k none) ∙ row-told s pool n d h k l .keyed
 
-    above-own : (k : ℕ) (o : Option (Descriptor ℕ)) → Leads c pool (be 4 s (d + 28 * k + 24)) o → above o ≡ aboveOn s pool d k
-    unfolding aboveOn ownPointer
-    above-own k o (nowhere z w) = ap above w ∙ is-eq _ _ _ _ z (above-none)
-    above-own k o (descriptor x b z l q w) =
-        ap above w ∙ above-some x ∙ no-eq _ _ _ _ z (ap parentIndex (descriptor-parent c pool _ q .is) ∙ parent-index _)
-
     above-same : (k : ℕ) → k < n → aboveIn (entriesOf rows ds) k ≡ aboveOn s pool d k
     unfolding aboveIn descriptorIn
     above-same k l =
         ap (λ (x : Entry ℕ). above (entryDescriptor x)) (entries-at rows ds k (rw (rows-length s pool n d h) l))
-        ∙ ap above (with-descriptor (getD rows k noRow) (getD ds k none)) ∙ above-own k (getD ds k none) (own-leads k l)
-
-    own-inside : (k : ℕ) (o : Option (Descriptor ℕ)) → Leads c pool (be 4 s (d + 28 * k + 24)) o → (be 4 s (d + 28 * k + 24) ≡ 0 → ⊥) → be 4 s (d + 28 * k + 24) - 1 + 2 ≤ length pool
-    own-inside k o (nowhere z w) u = absurd (u z)
-    own-inside k o (descriptor x b z l q w) u = descriptor-parent c pool _ q .fits
-
-    own-entry : c .count ≡ n → (k : ℕ) (o : Option (Descriptor ℕ)) → Leads c pool (be 4 s (d + 28 * k + 24)) o → aboveOn s pool d k ≤ n
-    unfolding aboveOn ownPointer
-    own-entry m k o (nowhere z w) = rw (← is-eq (be 4 s (d + 28 * k + 24)) 0 0 (be 2 pool (be 4 s (d + 28 * k + 24) - 1)) z refl) (omega arith)
-    own-entry m k o (descriptor x b z l q w) =
-        rw (← no-eq (be 4 s (d + 28 * k + 24)) 0 0 (be 2 pool (be 4 s (d + 28 * k + 24) - 1)) z refl, ← m) (descriptor-parent c pool _ q .entry)
+        ∙ ap above (with-descriptor (getD rows k noRow) (getD ds k none)) ∙ above-own c s pool d k (getD ds k none) (own-leads k l)
 
     pub owns-rooted : c .count ≡ n → length pool ≤ 1048576 → Rooted s pool n d
     unfolding ownPointer
-    owns-rooted m l = record { small = l; inside = λ k a z. own-inside k _ (own-leads k a) z; entry = λ k a. own-entry m k _ (own-leads k a) }
+    owns-rooted m l = record { small = l; inside = λ k a z. own-inside c s pool d k _ (own-leads k a) z; entry = λ k a. own-entry c s pool d k n m _ (own-leads k a) }
 
     pub across-told : (b : ℕ) {z : Verdict} → c .count ≡ n → length pool ≤ 1048576 → z ≡ countOf (readAcross (keyOn s pool d) (aboveOn s pool d) n d 0) → z ≡ countOf (readAcross (keysIn (entriesOf rows ds)) (aboveIn (entriesOf rows ds)) n d b)
     across-told b m l w = w ∙ sym (across-ext (aboveIn (entriesOf rows ds)) (aboveOn s pool d) n above-same (owns-rooted m l .entry) (keysIn (entriesOf rows ds)) (keyOn s pool d) keys-same d b 0)

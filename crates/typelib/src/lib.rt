@@ -6,4 +6,7 @@ mod own;
 mod whole;
 
 pub use front::check_front;
+pub use keys::first_repeated;
+pub use own::check_own;
+pub use own::first_pointing;
 pub use whole::check_typelib;

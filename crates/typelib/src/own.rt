@@ -3,7 +3,7 @@ ghost use mathlib.Core.Path.{_≡_};
 ghost use Prim.Native.Nat.{_+_, _*_, _≤_, _<_};
 ghost use lib.ListN.{length};
 ghost use Rattle.number.specs.Limits.{fileLimit, entryWidth};
-ghost use Rattle.number.specs.Scan.{some};
+ghost use Rattle.number.specs.Scan.{scan};
 ghost use Rattle.reading.specs.Got.{stepOf, many};
 ghost use Rattle.typelib.specs.Entry.{readOwn};
 ghost use Rattle.typelib.specs.Own.{Settled};
@@ -14,7 +14,7 @@ use reading::Refusal;
 use reading::Step;
 
 // The verdict on the descriptor of the entry at p.
-fn check_own(file: &[u8], pool: &[u8], c: Context, p: usize) -> Step
+pub fn check_own(file: &[u8], pool: &[u8], c: Context, p: usize) -> Step
     requires { ⌜ (p + entryWidth ≤ length (now file)) × (length (now file) ≤ fileLimit) × (c .base + length (now pool) ≤ fileLimit) ⌝ }
     ensures { λ r. ⌜ r ≡ stepOf (readOwn c (now (file .entry)) (now (pool .entry)) p) ⌝ }
 {
@@ -43,19 +43,19 @@ fn points_to(file: &[u8], n: usize, d: usize, j: usize, q: u32) -> bool
     number::u32_at(file, d + ENTRY_WIDTH * j + 24) == q
 }
 
-// Whether one of the first k entries does.
-fn stood_earlier(file: &[u8], n: usize, d: usize, k: usize, q: u32) -> bool
+// The first of the first k entries that does, or k.
+pub fn first_pointing(file: &[u8], n: usize, d: usize, k: usize, q: u32) -> usize
     requires { ⌜ Lies (now file) n d × (k ≤ n) ⌝ }
-    ensures { λ r. ⌜ r ≡ some (pointsTo (now (file .entry)) d q) k ⌝ }
+    ensures { λ r. ⌜ r ≡ scan (pointsTo (now (file .entry)) d q) k 0 ⌝ }
 {
     let mut j: usize = 0;
     while j < k {
         if points_to(file, n, d, j, q) {
-            return true;
+            return j;
         }
         j += 1;
     }
-    false
+    j
 }
 
 // The verdict on the descriptor of entry k, where those before it were accepted.
@@ -65,7 +65,7 @@ fn check_once(file: &[u8], pool: &[u8], c: Context, n: usize, d: usize, k: usize
 {
     let p = d + ENTRY_WIDTH * k;
     let q = number::u32_at(file, p + 24);
-    if stood_earlier(file, n, d, k, q) {
+    if first_pointing(file, n, d, k, q) < k {
         return Step::End(p + ENTRY_WIDTH);
     }
     check_own(file, pool, c, p)

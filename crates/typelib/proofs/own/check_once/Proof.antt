@@ -1,7 +1,9 @@
 -- `typelib::own::check_once` meets its contract.
 -- Assumes nothing.
 use Rattle.typelib.proofs.OwnLaws.{own-shared}
-use mathlib.Core.Path.{sym, _∙_}
+use native.Mathlib.Omega.{arith}
+use Rattle.number.specs.Scan.{some}
+use Rattle.number.proofs.Choice.{yes-lt}
 use borrow.Author.Needs.{needs}
 use Rattle.typelib.proofs.own.check_once.Statement.{statement}
 use Rattle.typelib.proofs.own.check_once.Tie as tie
@@ -18,14 +20,14 @@ add-u32-at c = search needs
 u32-at-requires : tie.Need-u32-at-requires
 u32-at-requires c κs = search needs
 
-stood-earlier-requires : tie.Need-stood-earlier-requires
-stood-earlier-requires c κs = search needs
+first-pointing-requires : tie.Need-first-pointing-requires
+first-pointing-requires c κs = search needs
 
 add-t11 : tie.Need-add-t11
 add-t11 c = search needs
 
 returns : tie.Need-returns
-returns c = own-shared _ _ _ _ _ _ (c .before .before .before .before .before .pre .3) (c .before .before .u32-at .ensures) (sym (c .before .stood-earlier .ensures) ∙ c .if1 .taken)
+returns c = own-shared _ _ _ _ _ _ (c .before .before .before .before .before .pre .3) (c .before .before .u32-at .ensures) (unfold some in yes-lt _ _ (omega arith))
 
 check-own-requires : tie.Need-check-own-requires
 check-own-requires c κs = search needs
@@ -41,7 +43,7 @@ check-once-spec =
     add-p
     add-u32-at
     u32-at-requires
-    stood-earlier-requires
+    first-pointing-requires
     add-t11
     returns
     check-own-requires

@@ -1,0 +1,10 @@
+pub mod Spans
+pub mod Cycles
+pub mod Bytes
+pub mod Fronts
+pub mod Entries
+pub mod Accepts
+pub mod Mends
+pub mod Marks
+pub mod Steps
+pub mod Tells
