@@ -3,20 +3,16 @@
 use mathlib.Core.List.{List, [], _∷_}
 use mathlib.Core.Bool.{Bool}
 use mathlib.Core.Option.{Option, none, some}
-use Prim.Native.Nat.{ℕ, _+_, _-_, _^_}
-use lib.IntN.{ℤ, pos, negsuc}
-use Rattle.number.specs.Choice.{if_then_else_, _<?_, _=?_}
+use Prim.Native.Nat.{ℕ}
+use Rattle.number.specs.Choice.{if_then_else_, _=?_}
 use Rattle.key.specs.Word.{sameWord}
+unfoldable pub use Rattle.signed.specs.Bits.{signed}
 use Rattle.reader.specs.Values.{Constant, constant, constantName, constantsOf}
 use Rattle.lookup.specs.declared.Value.{Value}
 use Rattle.lookup.specs.declared.Value.the-variants.{I16, I32, U16, U32}
 use Rattle.lookup.specs.declared.constants.OwnConstant.{OwnConstant}
 use Rattle.lookup.specs.declared.constants.OwnConstant.the-variants.{Held, Missing}
 use Rattle.lookup.specs.Chain.{Level, level, Chain, chain, Sought, seek}
-
--- a number of k + 1 bits as two's complement
-unfoldable pub signed : ℕ → ℕ → ℤ
-signed k v = if v <? 2 ^ k then pos v else negsuc (2 ^ (k + 1) - 1 - v)
 
 -- a constant of type byte 1, 2, 5 or 6: signed for 1 and 2
 unfoldable pub valueOf : Constant → Value

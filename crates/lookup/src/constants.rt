@@ -7,7 +7,7 @@ ghost use Rattle.reader.specs.Values.{constantsOf};
 ghost use Rattle.reader.specs.Records.{ShowsConstant};
 ghost use Rattle.reader.specs.Layout.{Lies, Stands, Tells, Rows};
 ghost use Rattle.lookup.specs.Chain.{chainOf};
-ghost use Rattle.lookup.specs.Constant.{signed, valueOf, isCalled, firstOf, ownAs, constantNamed};
+ghost use Rattle.lookup.specs.Constant.{valueOf, isCalled, firstOf, ownAs, constantNamed};
 ghost use Rattle.lookup.specs.Question.{soughtConstant, constantAnswer};
 ghost use Rattle.lookup.specs.Holding.{Answers, PoolOf, NamedConstant, NamedDescriptor};
 use crate::ConstantAnswer;
@@ -21,35 +21,14 @@ pub enum OwnConstant {
     Missing,
 }
 
-// Two's complement.
-fn to_i16(x: u16) -> i16
-    ensures { λ r. ⌜ r ≡ signed 15 x ⌝ }
-{
-    if x < 32768 {
-        x as i16
-    } else {
-        -1 - ((65535 - x) as i16)
-    }
-}
-
-fn to_i32(x: u32) -> i32
-    ensures { λ r. ⌜ r ≡ signed 31 x ⌝ }
-{
-    if x < 2147483648 {
-        x as i32
-    } else {
-        -1 - ((4294967295 - x) as i32)
-    }
-}
-
 // The value of the constant at `at`.
 fn value_of(pool: &[u8], at: usize) -> Value
     requires { ⌜ Stands (ShowsConstant (now pool) at) × (length (now pool) ≤ fileLimit) ⌝ }
     ensures { λ r. ⌜ Tells (ShowsConstant (now (pool .entry)) at) valueOf r ⌝ }
 {
     match reader::record::constant_type(pool, at) {
-        1 => Value::I16(to_i16(number::u16_at(pool, at + 5))),
-        2 => Value::I32(to_i32(number::u32_at(pool, at + 5))),
+        1 => Value::I16(signed::to_i16(number::u16_at(pool, at + 5))),
+        2 => Value::I32(signed::to_i32(number::u32_at(pool, at + 5))),
         5 => Value::U16(number::u16_at(pool, at + 5)),
         _ => Value::U32(number::u32_at(pool, at + 5)),
     }

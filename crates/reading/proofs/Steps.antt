@@ -7,12 +7,12 @@ use Prim.Native.Nat.{ℕ, zero, suc, _+_, _-_, _≤_, _<_}
 use native.Mathlib.Omega.{arith}
 use lib.ListN.{length, getD}
 use Rattle.number.specs.Choice.{if_then_else_, _<?_, _≤?_, _=?_, _≠?_}
-use Rattle.number.specs.Number.{be}
+use Rattle.number.specs.Number.{Endian, big, num, be}
 use Rattle.number.proofs.Choice.{yes-lt, not-lt, yes-le, not-le, yes-eq, not-eq, yes-ne, not-ne, from-not-le}
 use Rattle.reading.specs.declared.Step.{Step}
 use Rattle.reading.specs.declared.Step.the-variants.{End, Refused}
 use Rattle.reading.specs.declared.Context.{Context}
-use Rattle.reading.specs.Got.{Got, got, bad, stepOf, next, many, byte, field}
+use Rattle.reading.specs.Got.{Got, got, bad, stepOf, next, many, byteOr, fieldOr, byte, field}
 
 abbrev pub refused : ℕ → ℕ → Step
 refused n q = Refused (record { no = n; place = q })
@@ -102,23 +102,41 @@ unfolding next stepOf
 next-last (got x e) f h = h
 next-last (bad n q) f h = h
 
--- a byte and a field, with the value that stands there
+-- a byte and a field, with the value that stands there; n and q are the refusal's
+module _ {Y : Type 0} (n q : ℕ) (s : List ℕ) (p : ℕ) (k : ℕ → ℕ → Got Y) where
+  pub byte-or-in : {z : Step} → p < length s → z ≡ stepOf (k (getD s p 0) (p + 1)) → z ≡ stepOf (next (byteOr n q s p) k)
+  unfolding next if_then_else_
+  byte-or-in h j = rw (not-le _ _ h) j
+
+  pub byte-or-out : length s ≤ p → refused n q ≡ stepOf (next (byteOr n q s p) k)
+  unfolding next if_then_else_ stepOf
+  byte-or-out h = rw (yes-le _ _ h)
+
+  pub field-or-in : (o : Endian) (w : ℕ) {z : Step} → p + w ≤ length s → z ≡ stepOf (k (num o w s p) (p + w)) → z ≡ stepOf (next (fieldOr n q o w s p) k)
+  unfolding next if_then_else_
+  field-or-in o w h j = rw (not-lt _ _ h) j
+
+  pub field-or-out : (o : Endian) (w : ℕ) → length s < p + w → refused n q ≡ stepOf (next (fieldOr n q o w s p) k)
+  unfolding next if_then_else_ stepOf
+  field-or-out o w h = rw (yes-lt _ _ h)
+
+-- those of the pool
 module _ {Y : Type 0} (c : Context) (s : List ℕ) (p : ℕ) (k : ℕ → ℕ → Got Y) where
   pub byte-in : {z : Step} → p < length s → z ≡ stepOf (k (getD s p 0) (p + 1)) → z ≡ stepOf (next (byte c s p) k)
-  unfolding next byte if_then_else_
-  byte-in h j = rw (not-le _ _ h) j
+  unfolding byte
+  byte-in h j = byte-or-in _ _ s p k h j
 
   pub byte-out : length s ≤ p → refused 13 (c .base + p) ≡ stepOf (next (byte c s p) k)
-  unfolding next byte if_then_else_ stepOf
-  byte-out h = rw (yes-le _ _ h)
+  unfolding byte
+  byte-out h = byte-or-out _ _ s p k h
 
   pub field-in : (w : ℕ) {z : Step} → p + w ≤ length s → z ≡ stepOf (k (be w s p) (p + w)) → z ≡ stepOf (next (field w c s p) k)
-  unfolding next field if_then_else_
-  field-in w h j = rw (not-lt _ _ h) j
+  unfolding field
+  field-in w h j = field-or-in _ _ s p k big w h j
 
   pub field-out : (w : ℕ) → length s < p + w → refused 13 (c .base + p) ≡ stepOf (next (field w c s p) k)
-  unfolding next field if_then_else_ stepOf
-  field-out w h = rw (yes-lt _ _ h)
+  unfolding field
+  field-out w h = field-or-out _ _ s p k big w h
 
 -- ---- a definition that gives a value: what passed (the reverse direction)
 

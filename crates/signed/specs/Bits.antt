@@ -1,7 +1,8 @@
--- Signed numbers as natural ones.
+-- Signed numbers as natural ones, and natural ones as signed.
 -- Assumes nothing.
-use Prim.Native.Nat.{ℕ, _-_, _^_}
+use Prim.Native.Nat.{ℕ, _+_, _-_, _^_}
 use lib.IntN.{ℤ, pos, negsuc}
+use Rattle.number.specs.Choice.{if_then_else_, _<?_}
 
 -- the k bits of a number, two's complement
 unfoldable pub bitsOf : ℕ → ℤ → ℕ
@@ -12,3 +13,7 @@ bitsOf k (negsuc n) = 2 ^ k - 1 - n
 unfoldable pub orZero : ℤ → ℕ
 orZero (pos n) = n
 orZero (negsuc n) = 0
+
+-- a number of k + 1 bits as two's complement
+unfoldable pub signed : ℕ → ℕ → ℤ
+signed k v = if v <? 2 ^ k then pos v else negsuc (2 ^ (k + 1) - 1 - v)

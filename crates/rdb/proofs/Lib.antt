@@ -1,0 +1,4 @@
+pub mod AnswerLaws
+pub mod Refusals
+pub mod Theorems
+pub mod Readings

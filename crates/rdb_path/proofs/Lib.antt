@@ -1,0 +1,4 @@
+pub mod Words
+pub mod Reaching
+pub mod PathLaws
+pub mod Walks

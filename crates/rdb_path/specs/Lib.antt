@@ -1,0 +1,3 @@
+pub mod Path
+pub mod Reached
+pub mod Place
