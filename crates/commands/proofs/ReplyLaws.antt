@@ -2,18 +2,24 @@
 -- Assumes nothing.
 use mathlib.Core.Path.{_≡_, refl}
 use mathlib.Core.Bool.{Bool}
-use mathlib.Core.List.{List}
+use mathlib.Core.List.{List, []}
 use Prim.Native.Nat.{ℕ}
+use native.Mathlib.Omega.{arith}
 use Rattle.sayings.specs.declared.Said.{Said}
-use Rattle.sayings.specs.Sayings.{Saying, Says}
+use Rattle.sayings.specs.declared.Why.the-variants.{Answered}
+use Rattle.sayings.specs.Sayings.{Saying, Says, saying}
 use Rattle.listed.specs.declared.Opened.{Opened}
 use Rattle.listed.specs.Rest.{noRest, Opens}
 use Rattle.listed.proofs.OpenLaws.{says-opens}
 use Rattle.commands.specs.declared.Reply.{Reply}
-use Rattle.commands.specs.Answer.{answered, oneLine, openedReply, Replies}
+use Rattle.commands.specs.Answer.{silence, answered, oneLine, openedReply, Replies}
 
 pub says-replies : (b : Bool) (x : Saying) (s before : List ℕ) (said : Said) (r : Reply) (out after : List ℕ) → Says x before said after → r ≡ oneLine said → Replies b (answered x out) s before r out after
 says-replies b x s before said r out after h e = rw e (record { opens = says-opens b x s before said noRest after h refl; whose = refl; save = refl; output = refl })
+
+-- nothing is said where nothing was written
+pub silent-says : (said : Said) (text : List ℕ) → said ≡ silence → Says (saying [] Answered) text said text
+silent-says said text e = rw e (record { long = refl; why = refl; stored = refl; fits = omega arith })
 
 -- what was opened is the answer's beginning
 pub opens-replies : (b : Bool) (x : Saying) (s before : List ℕ) (begun : Opened) (r : Reply) (out after : List ℕ) → Opens b x s before begun after → r ≡ openedReply begun → Replies b (answered x out) s before r out after

@@ -5,8 +5,6 @@ use mathlib.Core.Path.{_≡_}
 use mathlib.Core.Bool.{Bool}
 use Prim.Native.Nat.{ℕ, _≤_}
 use lib.ListN.{length}
-use Rattle.number.specs.Choice.{_<?_}
-use Rattle.number.proofs.Choice.{both, from-not-lt}
 use Rattle.reading.specs.declared.Refusal.{Refusal}
 use Rattle.reader.specs.Reader.{decode}
 use Rattle.joining.specs.Outcome.{Outcome, refused, written, inRoom, normalisedAs, refusal}
@@ -14,24 +12,14 @@ use Rattle.words.specs.Words.{wordsOf}
 use Rattle.verbs.specs.declared.Verb.{Verb}
 use Rattle.verbs.specs.declared.Verb.the-variants as verb
 use Rattle.tasks.specs.declared.Task.{Task}
-use Rattle.tasks.specs.declared.Task.the-variants.{Mistaken, Run}
+use Rattle.tasks.specs.declared.Task.the-variants.{Mistaken, Run, Pile}
 use Rattle.tasks.specs.Tasks.{inBatch, taskOf}
 use Rattle.link.specs.declared.Which.the-variants.{Union}
 use Rattle.adopt.specs.Adopt.{adoptIn, adoptAnswer}
 use Rattle.link.specs.Outcome.{normaliseIn, normalOf, normaliseAnswer, linkIn, linkOf, linkedAs, linkAnswer, refusalOf}
+use Rattle.pile.proofs.Rooms.{Fits, in-room}
 use Rattle.commands.specs.declared.Save.{Save}
 use Rattle.commands.specs.Answer.{normalisedSave, linkedSave, verbAnswer, taskAnswer, answerOf, SavedIn}
-
--- an outcome of at most `room` bytes
-abbrev Fits : {X : Type 0} → ℕ → Outcome X → Type 0
-Fits room (refused x) = Unit {0}
-Fits room (written bytes) = length bytes ≤ room
-
-in-room : {X : Type 0} (stop : ℕ → ℕ → X) (room : ℕ) (o : Outcome X) → Fits room (inRoom stop room o)
-unfolding inRoom
-in-room stop room (refused x) = tt
-in-room {X} stop room (written bytes) =
-    both (λ (o : Outcome X). Fits room o) (room <? length bytes) (refused (stop 27 (length bytes))) (written bytes) (λ _. tt) (λ t. from-not-lt room (length bytes) t)
 
 normalised-saves : (room : ℕ) (o : Outcome Refusal) → SavedIn room (normalisedSave (normalisedAs (inRoom refusal room o)))
 unfolding normalisedAs normalisedSave
@@ -74,3 +62,4 @@ answer-saves separator line first second out n {s} k e = rw (← k, e) (task (ta
     task : (t : Task) → SavedIn (length out) (taskAnswer (inBatch separator) t (wordsOf separator line) first second out .save)
     task (Mistaken m) = tt
     task (Run v) = verb-saves (inBatch separator) v (wordsOf separator line) first second out
+    task (Pile k) = tt

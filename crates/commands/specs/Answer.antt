@@ -8,8 +8,9 @@ use lib.ListN.{take}
 use Rattle.words.specs.Words.{wordsOf, wordIn}
 use Rattle.verbs.specs.declared.Verb.{Verb}
 use Rattle.verbs.specs.declared.Verb.the-variants as verb
+use Rattle.sayings.specs.declared.Why.the-variants.{Answered}
 use Rattle.sayings.specs.declared.Said.{Said}
-use Rattle.sayings.specs.Sayings.{Saying, mistaken}
+use Rattle.sayings.specs.Sayings.{Saying, saying, mistaken}
 use Rattle.questions.specs.Lines.{askedSaying}
 use Rattle.joining.specs.declared.Normalised.{Normalised}
 use Rattle.joining.specs.declared.Normalised.the-variants as normalised
@@ -27,7 +28,7 @@ use Rattle.listed.specs.Rest.{noRest, Opens}
 use Rattle.tabled.specs.Text.{tableSaying}
 use Rattle.tasks.specs.declared.Mistake.the-variants.{Words}
 use Rattle.tasks.specs.declared.Task.{Task}
-use Rattle.tasks.specs.declared.Task.the-variants.{Mistaken, Run}
+use Rattle.tasks.specs.declared.Task.the-variants.{Mistaken, Run, Pile}
 use Rattle.tasks.specs.Tasks.{inBatch, taskOf}
 use Rattle.tasks.specs.Mistakes.{mistakeText}
 use Rattle.commands.specs.declared.Save.{Save}
@@ -80,9 +81,11 @@ verbAnswer b verb.Link ws first second out =
     record { saying = sayLinked l; whose = linkedWhose l; save = linkedSave l; output = linkBuffer first second out }
 verbAnswer b verb.Unknown ws first second out = answered (mistaken (mistakeText (Words verb.Unknown))) out
 
+-- a pile is answered file by file (crate `piling`), and here nothing is said of it
 unfoldable pub taskAnswer : Bool → Task → List (List ℕ) → List ℕ → List ℕ → List ℕ → Answer
 taskAnswer b (Mistaken m) ws first second out = answered (mistaken (mistakeText m)) out
 taskAnswer b (Run v) ws first second out = verbAnswer b v ws first second out
+taskAnswer b (Pile n) ws first second out = answered (saying [] Answered) out
 
 -- the line, about the bytes of the file or files that it names
 unfoldable pub answerOf : ℕ → List ℕ → List ℕ → List ℕ → List ℕ → Answer
@@ -92,6 +95,9 @@ answerOf separator line first second out = taskAnswer (inBatch separator) (taskO
 abbrev pub SavedIn : ℕ → Save → Type 0
 SavedIn room Nothing = Unit {0}
 SavedIn room (FirstBytes n) = n ≤ room
+
+abbrev pub silence : Said
+silence = record { length = 0; why = Answered }
 
 -- the reply of one line
 abbrev pub oneLine : Said → Reply

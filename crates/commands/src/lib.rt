@@ -6,6 +6,7 @@ use listed::Opened;
 use listed::Rest;
 use sayings::ANSWER_ROOM;
 use sayings::Said;
+use sayings::Why;
 use tasks::Mistake;
 use tasks::Task;
 use verbs::Verb;
@@ -16,7 +17,7 @@ ghost use Prim.Native.Nat.{ℕ};
 ghost use Rattle.words.specs.Words.{wordsOf};
 ghost use Rattle.verbs.specs.declared.Verb.the-variants as verb;
 ghost use Rattle.tasks.specs.Tasks.{inBatch};
-ghost use Rattle.commands.specs.Answer.{oneLine, openedReply, normalisedSave, linkedSave, linkedWhose, verbAnswer, answerOf, Replies};
+ghost use Rattle.commands.specs.Answer.{silence, oneLine, openedReply, normalisedSave, linkedSave, linkedWhose, verbAnswer, answerOf, Replies};
 
 // What of the output is to be saved: nothing, or its first bytes.
 pub enum Save {
@@ -30,6 +31,16 @@ pub struct Reply {
     pub rest: Rest,
     pub whose: Which,
     pub save: Save,
+}
+
+// Nothing is said.
+fn silent() -> Said
+    ensures { λ r. ⌜ r ≡ silence ⌝ }
+{
+    Said {
+        length: 0,
+        why: Why::Answered,
+    }
 }
 
 // An answer of one line from the first file.
@@ -178,7 +189,7 @@ fn run(
     }
 }
 
-// The answer to a line about the bytes of the file or files that it names; a command that reads one file does not look at the second.
+// The answer to a line about the bytes of the file or files that it names; a command that reads one file does not look at the second, and a pile is answered elsewhere (crate `piling`).
 pub fn answer(
     line: &[u8],
     separator: u8,
@@ -192,5 +203,6 @@ pub fn answer(
     match tasks::task_of(line, separator) {
         Task::Mistaken(what) => answered(tasks::tell(what, text)),
         Task::Run(verb) => run(verb, line, separator, first, second, out, text),
+        Task::Pile(_) => answered(silent()),
     }
 }

@@ -35,7 +35,7 @@ verbWords verb.List = ascii "list FILE"
 verbWords verb.Table = ascii "table FILE NAMESPACE NAME"
 verbWords verb.Normal = ascii "normal [-f] FILE OUT"
 verbWords verb.Adopt = ascii "adopt [-f] FILE OUT"
-verbWords verb.Link = ascii "link [-f] A B OUT"
+verbWords verb.Link = ascii "link [-f] A B .. OUT"
 verbWords verb.Unknown = []
 
 unfoldable pub lineTooLongText : List ℕ

@@ -4,12 +4,9 @@ use mathlib.Core.Path.{_≡_}
 use mathlib.Core.Bool.{true}
 use mathlib.Core.List.{List}
 use Prim.Native.Nat.{ℕ, _≤_}
-use Rattle.words.specs.declared.Span.{Span}
 use Rattle.kept.specs.declared.Kept.{Kept}
 use Rattle.kept.specs.Table.{Tidy}
-use Rattle.kept.specs.Room.{storeBytes}
-use Rattle.number.specs.Part.{part}
-use Rattle.kept.specs.Files.{isFound, keptFile}
+use Rattle.kept.specs.Files.{isFound}
 use Rattle.tasks.specs.Tasks.{argument}
 use Rattle.held.specs.declared.Wanting.{Wanting}
 use Rattle.held.specs.declared.Wanting.the-variants.{Nothing, Input, First, Second}
@@ -31,9 +28,3 @@ WhereHad P (Second e) = Unit {0}
 pub record FetchesAll (n : ℕ) (ws : List (List ℕ)) (r : Fetched) (table text : List ℕ) : Type 0 where
   pub tidy : Tidy table (r .kept)
   pub held : WhereHad (Held n ws (r .kept) table text) (r .wanting)
-
--- s is the place in the store of the file of this name, or of no bytes
-pub record Lies (name : List ℕ) (kept : Kept) (rows store : List ℕ) (s : Span) : Type 0 where
-  pub ordered : s .from ≤ s .end
-  pub inside : s .end ≤ storeBytes
-  pub bytes : part store (s .from) (s .end) ≡ keptFile name kept rows store

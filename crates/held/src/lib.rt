@@ -3,9 +3,7 @@ use commands::Reply;
 use kept::Kept;
 use number::FILE_LIMIT;
 use sayings::ANSWER_ROOM;
-use store::Asked;
 use store::Loaded;
-use words::Span;
 ghost use mathlib.Core.Path.{_≡_};
 ghost use mathlib.Core.Bool.{true};
 ghost use Prim.Native.Nat.{ℕ, _≤_};
@@ -17,8 +15,7 @@ ghost use Rattle.kept.specs.Files.{isFound, keptFile};
 ghost use Rattle.kept.specs.Room.{Roomy};
 ghost use Rattle.commands.specs.Answer.{answerOf, SavedIn, Replies};
 ghost use Rattle.store.specs.declared.Loaded.the-variants as loaded;
-ghost use Rattle.store.specs.Loading.{isBarred, Loads};
-ghost use Rattle.held.specs.Held.{Held, WhereHad, FetchesAll, Lies};
+ghost use Rattle.held.specs.Held.{Held, WhereHad, FetchesAll};
 
 // Whether a file is wanting: none, standard input, which has the commands of a batch, or the first or second, by errno's number.
 pub enum Wanting {
@@ -54,30 +51,6 @@ fn second_wanting(file: Loaded) -> Wanting
     }
 }
 
-// The file of the k-th word into the store.
-fn fetch(
-    line: &[u8],
-    separator: u8,
-    k: usize,
-    kept: Kept,
-    rows: &mut [usize; 256],
-    store: &mut [u8; 4210688],
-) -> Asked
-    requires { ⌜ (k ≤ 2) × (Tidy (now rows) kept × Roomy 1 kept) ⌝ }
-    ensures { λ r. ⌜ Loads (isBarred (inBatch separator) (argument k (wordsOf separator (now (line .entry))))) (argument k (wordsOf separator (now (line .entry)))) kept (now (rows .entry)) (now (store .entry)) r (now (rows .exit)) (now (store .exit)) ⌝ }
-{
-    let name = tasks::argument(line, separator, k);
-    let from = name.from;
-    let end = name.end;
-    store::load(
-        &line[from..end],
-        tasks::in_batch(separator),
-        kept,
-        rows,
-        store,
-    )
-}
-
 // The second file, where the first is kept.
 fn fetch_second(
     line: &[u8],
@@ -89,7 +62,7 @@ fn fetch_second(
     requires { ⌜ (Tidy (now rows) kept × Roomy 1 kept) × (isFound (argument 1 (wordsOf separator (now line))) kept (now rows) (now store) ≡ true) ⌝ }
     ensures { λ r. ⌜ ((n : ℕ) → FetchesAll n (wordsOf separator (now (line .entry))) r (now (rows .exit)) (now (store .exit))) ⌝ }
 {
-    let asked = fetch(line, separator, 2, kept, rows, store);
+    let asked = named::fetch(line, separator, 2, kept, rows, store);
     let kept = asked.kept;
     let file = asked.file;
     Fetched {
@@ -145,7 +118,7 @@ pub fn fetch_all(
             wanting: Wanting::Nothing,
         };
     }
-    let asked = fetch(line, separator, 1, kept, rows, store);
+    let asked = named::fetch(line, separator, 1, kept, rows, store);
     let kept = asked.kept;
     let file = asked.file;
     let wanting = first_wanting(file);
@@ -153,24 +126,6 @@ pub fn fetch_all(
         return Fetched { kept, wanting };
     }
     fetch_next(line, separator, wanting, kept, rows, store)
-}
-
-// The place in the store of the file of the k-th word, or of no bytes.
-pub fn file_at(
-    line: &[u8],
-    separator: u8,
-    k: usize,
-    kept: Kept,
-    rows: &[usize; 256],
-    store: &[u8; 4210688],
-) -> Span
-    requires { ⌜ (k ≤ 2) × Tidy (now rows) kept ⌝ }
-    ensures { λ r. ⌜ Lies (argument k (wordsOf separator (now (line .entry)))) kept (now (rows .entry)) (now (store .entry)) r ⌝ }
-{
-    let name = tasks::argument(line, separator, k);
-    let from = name.from;
-    let end = name.end;
-    kept::file_of(&line[from..end], kept, rows, store)
 }
 
 // The answer to the line, from the files that are kept under the names in it.
@@ -186,8 +141,8 @@ pub fn answer(
     requires { ⌜ Tidy (now rows) kept × Held (filesOf (taskOf separator (now line))) (wordsOf separator (now line)) kept (now rows) (now store) ⌝ }
     ensures { λ r. ⌜ SavedIn fileLimit (r .save) × Replies (inBatch separator) (answerOf separator (now (line .entry)) (keptFile (argument 1 (wordsOf separator (now (line .entry)))) kept (now (rows .entry)) (now (store .entry))) (keptFile (argument 2 (wordsOf separator (now (line .entry)))) kept (now (rows .entry)) (now (store .entry))) (now (out .entry))) (keptFile (argument 1 (wordsOf separator (now (line .entry)))) kept (now (rows .entry)) (now (store .entry))) (now (text .entry)) r (now (out .exit)) (now (text .exit)) ⌝ }
 {
-    let first = file_at(line, separator, 1, kept, rows, store);
-    let second = file_at(line, separator, 2, kept, rows, store);
+    let first = named::file_at(line, separator, 1, kept, rows, store);
+    let second = named::file_at(line, separator, 2, kept, rows, store);
     let a = first.from;
     let b = first.end;
     let c = second.from;

@@ -29,7 +29,7 @@ purposeText verb.List = ascii "every interface with its methods and constants"
 purposeText verb.Table = ascii "every slot of the interface of this name in order, inherited ones first; ? for a slot that is not known"
 purposeText verb.Normal = ascii "writes the normal form of FILE to OUT"
 purposeText verb.Adopt = ascii "writes a FILE of libxpt, its directory counted from 1, to OUT in the published layout"
-purposeText verb.Link = ascii "writes the union of A and B to OUT"
+purposeText verb.Link = ascii "writes the union of two files or more, up to 256, to OUT"
 purposeText verb.Unknown = []
 
 -- a line with its words, and one that says what it is for
@@ -63,7 +63,7 @@ outputText = (((entryText verb.Normal ++ entryText verb.Adopt) ++ entryText verb
 
 -- what the words stand for
 abbrev pub fileNote : List ℕ
-fileNote = ascii "FILE, A and B are typelibs; - is standard input. An OUT that is there already is written over with -f only." ++ newline
+fileNote = ascii "FILE, A, B and so on are typelibs; - is standard input. An OUT that is there already is written over with -f only." ++ newline
 
 abbrev pub hexNote : List ℕ
 hexNote = ascii "HEX is an IID: 32 hexadecimal digits, or in groups of 8-4-4-4-12, with braces around them or without." ++ newline

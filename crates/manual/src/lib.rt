@@ -70,7 +70,11 @@ fn put_purpose(verb: Verb, text: &mut [u8; ROOM], at: usize) -> usize
             at,
             b"writes a FILE of libxpt, its directory counted from 1, to OUT in the published layout",
         ),
-        Verb::Link => text::put_bytes(text, at, b"writes the union of A and B to OUT"),
+        Verb::Link => text::put_bytes(
+            text,
+            at,
+            b"writes the union of two files or more, up to 256, to OUT",
+        ),
         Verb::Unknown => at,
     }
 }
@@ -134,7 +138,7 @@ fn put_notes(text: &mut [u8; ROOM], at: usize) -> usize
     let hex = text::put_bytes(
         text,
         at,
-        b"FILE, A and B are typelibs; - is standard input. An OUT that is there already is written over with -f only.\n",
+        b"FILE, A, B and so on are typelibs; - is standard input. An OUT that is there already is written over with -f only.\n",
     );
     let index = text::put_bytes(
         text,

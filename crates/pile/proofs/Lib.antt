@@ -4,3 +4,4 @@ pub mod Firsts
 pub mod Piles
 pub mod Claim
 pub mod Taken
+pub mod Rooms

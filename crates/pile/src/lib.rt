@@ -14,7 +14,8 @@ use link::Which;
 use reading::Refusal;
 use reading::Verdict;
 
-const MOST_FILES: usize = 256;
+// Files of a pile.
+pub const MOST_FILES: usize = 256;
 
 // How many files there are in a pile, and the length of what they left. It stands at the front of the first buffer after
 // an odd number of files, else of the second.

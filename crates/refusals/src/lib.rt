@@ -2,6 +2,7 @@
 use failures::ROOM;
 use kept::Kept;
 use link::Which;
+use pile::PileRefusal;
 use reading::Refusal;
 use tasks::Task;
 use verbs::Question;
@@ -10,6 +11,7 @@ ghost use Prim.Native.Nat.{_≤_};
 ghost use lib.ListN.{length};
 ghost use Rattle.failures.specs.Room.{wordLimit};
 ghost use Rattle.kept.specs.Table.{Tidy};
+ghost use Rattle.pile.specs.Pile.{pileLimit};
 
 fn is_adopting(line: &[u8], separator: u8) -> bool {
     if let Task::Run(verb) = tasks::task_of(line, separator) {
@@ -31,10 +33,10 @@ fn say_file(
     store: &[u8; 4210688],
     text: &mut [u8; ROOM],
 )
-    requires { ⌜ (k ≤ 2) × ((length (now line) ≤ wordLimit) × Tidy (now rows) kept) ⌝ }
+    requires { ⌜ (k ≤ pileLimit) × ((length (now line) ≤ wordLimit) × Tidy (now rows) kept) ⌝ }
 {
     let name = tasks::argument(line, separator, k);
-    let file = held::file_at(line, separator, k, kept, rows, store);
+    let file = named::file_at(line, separator, k, kept, rows, store);
     let a = name.from;
     let b = name.end;
     let c = file.from;
@@ -61,7 +63,7 @@ fn say_union(
 {
     let first = tasks::argument(line, separator, 1);
     let second = tasks::argument(line, separator, 2);
-    let file = held::file_at(line, separator, 1, kept, rows, store);
+    let file = named::file_at(line, separator, 1, kept, rows, store);
     let a = first.from;
     let b = first.end;
     let c = second.from;
@@ -120,5 +122,87 @@ pub fn say(
         Which::First => say_file(line, separator, 1, why, kept, rows, store, text),
         Which::Second => say_file(line, separator, 2, why, kept, rows, store, text),
         Which::Union => say_union(line, separator, why, kept, rows, store, text),
+    }
+}
+
+// What the links of a pile before its k-th file left, in words.
+fn put_before(k: usize, words: &mut [u8; 32]) -> usize
+    requires { ⌜ (3 ≤ k) × (k ≤ pileLimit) ⌝ }
+    ensures { λ r. ⌜ r ≤ 32 ⌝ }
+{
+    let n = text::put_labelled(words, 0, b"what step ", (k - 2) as u64);
+    text::put_bytes(words, n, b" left")
+}
+
+// The link of these with the k-th file. The place counts interfaces of what they left, which no file has.
+fn say_left(
+    line: &[u8],
+    separator: u8,
+    k: usize,
+    why: Refusal,
+    words: &mut [u8; 32],
+    text: &mut [u8; ROOM],
+)
+    requires { ⌜ ((3 ≤ k) × (k ≤ pileLimit)) × (length (now line) ≤ wordLimit) ⌝ }
+{
+    let n = put_before(k, words);
+    let name = tasks::argument(line, separator, k);
+    let from = name.from;
+    let end = name.end;
+    if end - from <= 4095 {
+        let all: &[u8] = words;
+        remarks::united(&all[0..n], &line[from..end], b"", why, text);
+    }
+}
+
+fn say_before(line: &[u8], separator: u8, k: usize, why: Refusal, text: &mut [u8; ROOM])
+    requires { ⌜ ((3 ≤ k) × (k ≤ pileLimit)) × (length (now line) ≤ wordLimit) ⌝ }
+{
+    let mut words = [0u8; 32];
+    say_left(line, separator, k, why, &mut words, text)
+}
+
+// The link of a pile with the k-th file.
+fn say_link(
+    line: &[u8],
+    separator: u8,
+    k: usize,
+    why: Refusal,
+    kept: Kept,
+    rows: &[usize; 256],
+    store: &[u8; 4210688],
+    text: &mut [u8; ROOM],
+)
+    requires { ⌜ (k ≤ pileLimit) × ((length (now line) ≤ wordLimit) × Tidy (now rows) kept) ⌝ }
+{
+    if k < 3 {
+        return say_union(line, separator, why, kept, rows, store, text);
+    }
+    say_before(line, separator, k, why, text)
+}
+
+// A pile: the file that was refused, or the link of those before with the next.
+pub fn say_step(
+    line: &[u8],
+    separator: u8,
+    x: PileRefusal,
+    kept: Kept,
+    rows: &[usize; 256],
+    store: &[u8; 4210688],
+    text: &mut [u8; ROOM],
+)
+    requires { ⌜ (length (now line) ≤ wordLimit) × Tidy (now rows) kept ⌝ }
+{
+    let link = x.why;
+    let step = x.step;
+    let which = link.which;
+    let why = link.why;
+    if 255 < step {
+        return;
+    }
+    match which {
+        Which::First => say_file(line, separator, 1, why, kept, rows, store, text),
+        Which::Second => say_file(line, separator, step + 1, why, kept, rows, store, text),
+        Which::Union => say_link(line, separator, step + 1, why, kept, rows, store, text),
     }
 }

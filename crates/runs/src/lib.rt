@@ -9,9 +9,16 @@ use held::Wanting;
 use kept::Kept;
 use listed::Rest;
 use number::FILE_LIMIT;
+use pile::Added;
+use pile::PileRefusal;
+use piling::Replied;
+use piling::Saves;
+use piling::Went;
 use saving::Saved;
 use sayings::ANSWER_ROOM;
 use sayings::Why;
+use store::Loaded;
+use tasks::Task;
 ghost use mathlib.Core.List.{List};
 ghost use Prim.Native.Nat.{ℕ, _≤_};
 ghost use lib.ListN.{length};
@@ -20,10 +27,12 @@ ghost use Rattle.failures.specs.Room.{room, wordLimit};
 ghost use Rattle.words.specs.Words.{wordsOf};
 ghost use Rattle.tasks.specs.Tasks.{inBatch, argument, taskOf, filesOf};
 ghost use Rattle.sayings.specs.Sayings.{answerRoom};
+ghost use Rattle.pile.specs.Pile.{pileLimit};
 ghost use Rattle.kept.specs.Table.{Tidy};
 ghost use Rattle.kept.specs.Files.{keptFile};
 ghost use Rattle.listed.specs.Rest.{LeftIn};
 ghost use Rattle.held.specs.Held.{Held, WhereHad};
+ghost use Rattle.piling.specs.Answers.{SavesIn};
 ghost use Rattle.runs.specs.Settled.{Settled};
 
 // What standard output got: an answer, a line for a mistake in the words, or nothing any more.
@@ -46,15 +55,32 @@ fn answered(is_open: bool) -> Told {
     Told::Closed
 }
 
+// Standard input has the commands.
+fn say_input(text: &mut [u8; ROOM]) -> Told {
+    let n = failures::input_in_batch(text);
+    answered(streams::put_error(text, n))
+}
+
 // The k-th file could not be read.
 fn say_unread(line: &[u8], separator: u8, k: usize, error: i32, text: &mut [u8; ROOM]) -> Told
-    requires { ⌜ (k ≤ 2) × (length (now line) ≤ wordLimit) ⌝ }
+    requires { ⌜ (k ≤ pileLimit) × (length (now line) ≤ wordLimit) ⌝ }
 {
     let name = tasks::argument(line, separator, k);
     let from = name.from;
     let end = name.end;
     let n = failures::unread(&line[from..end], error, text);
     answered(streams::put_error(text, n))
+}
+
+// Why the k-th file is wanting.
+fn say_wanting(line: &[u8], separator: u8, k: usize, file: Loaded, text: &mut [u8; ROOM]) -> Told
+    requires { ⌜ (k ≤ pileLimit) × (length (now line) ≤ wordLimit) ⌝ }
+{
+    match file {
+        Loaded::Kept => Told::Answer,
+        Loaded::InBatch => say_input(text),
+        Loaded::Failed(error) => say_unread(line, separator, k, error, text),
+    }
 }
 
 // What is left of the listing of the first file.
@@ -68,7 +94,7 @@ fn put_rest(
 ) -> bool
     requires { ⌜ Tidy (now rows) kept × ((text : List ℕ) × LeftIn (inBatch separator) (keptFile (argument 1 (wordsOf separator (now line))) kept (now rows) (now store)) rest text) ⌝ }
 {
-    let file = held::file_at(line, separator, 1, kept, rows, store);
+    let file = named::file_at(line, separator, 1, kept, rows, store);
     let from = file.from;
     let end = file.end;
     let all: &[u8] = store;
@@ -257,10 +283,7 @@ fn answer(
 {
     match wanting {
         Wanting::Nothing => reply(line, separator, kept, rows, store, out, text),
-        Wanting::Input => {
-            let n = failures::input_in_batch(text);
-            answered(streams::put_error(text, n))
-        }
+        Wanting::Input => say_input(text),
         Wanting::First(error) => say_unread(line, separator, 1, error, text),
         Wanting::Second(error) => say_unread(line, separator, 2, error, text),
     }
@@ -279,8 +302,8 @@ fn settle(line: &[u8], separator: u8, kept: Kept, rows: &mut [usize; 256], store
     }
 }
 
-// The command of a line.
-pub fn run(
+// A command that reads one file, or two.
+fn run_few(
     line: &[u8],
     separator: u8,
     kept: Kept,
@@ -299,6 +322,131 @@ pub fn run(
     let told = answer(line, separator, wanting, kept, rows, store, out, text);
     settle(line, separator, kept, rows, store);
     Ran { kept, told }
+}
+
+// What a pile saves to the file that the line names.
+fn save_pile(
+    line: &[u8],
+    separator: u8,
+    saves: Saves,
+    out: &[u8; FILE_LIMIT],
+    work: &[u8; FILE_LIMIT],
+) -> Saved
+    requires { ⌜ SavesIn fileLimit saves ⌝ }
+{
+    match saves {
+        Saves::Nothing => Saved::Done,
+        Saves::First(n) => save_output(line, separator, n, out),
+        Saves::Second(n) => save_output(line, separator, n, work),
+    }
+}
+
+// The line at the front of `head`, and on standard error why a pile was refused.
+fn say_refused(
+    line: &[u8],
+    separator: u8,
+    x: PileRefusal,
+    n: usize,
+    head: &[u8; ANSWER_ROOM],
+    kept: Kept,
+    rows: &[usize; 256],
+    store: &[u8; 4210688],
+    text: &mut [u8; ROOM],
+) -> Told
+    requires { ⌜ ((length (now line) ≤ wordLimit) × (n ≤ answerRoom)) × Tidy (now rows) kept ⌝ }
+{
+    if !streams::put(head, n) {
+        return Told::Closed;
+    }
+    refusals::say_step(line, separator, x, kept, rows, store, text);
+    Told::Answer
+}
+
+// What came of a pile: its file is written and its line said, or the line for a file that is wanting.
+fn reply_pile(
+    line: &[u8],
+    separator: u8,
+    replied: Replied,
+    rows: &[usize; 256],
+    store: &[u8; 4210688],
+    out: &[u8; FILE_LIMIT],
+    work: &[u8; FILE_LIMIT],
+    head: &[u8; ANSWER_ROOM],
+    text: &mut [u8; ROOM],
+) -> Told
+    requires { ⌜ ((length (now line) ≤ wordLimit) × (replied .count ≤ pileLimit)) × ((replied .said .length ≤ answerRoom) × (SavesIn fileLimit (replied .saves) × Tidy (now rows) (replied .kept))) ⌝ }
+{
+    let kept = replied.kept;
+    let k = replied.count;
+    let went = replied.went;
+    let said = replied.said;
+    let saves = replied.saves;
+    let n = said.length;
+    match went {
+        Went::Added(added) => match added {
+            Added::Grown(_) => {
+                let saved = save_pile(line, separator, saves, out, work);
+                say_saved(line, separator, saved, n, head, text)
+            }
+            Added::Refused(x) => say_refused(line, separator, x, n, head, kept, rows, store, text),
+            Added::Full => say_mistake(line, separator, head, n, text),
+        },
+        Went::Wanting(file) => say_wanting(line, separator, k, file, text),
+    }
+}
+
+// A link of n files.
+fn run_pile(
+    line: &[u8],
+    separator: u8,
+    n: usize,
+    kept: Kept,
+    rows: &mut [usize; 256],
+    store: &mut [u8; 4210688],
+    out: &mut [u8; FILE_LIMIT],
+    work: &mut [u8; FILE_LIMIT],
+    text: &mut [u8; ROOM],
+) -> Ran
+    requires { ⌜ (n ≤ pileLimit) × ((length (now line) ≤ wordLimit) × Tidy (now rows) kept) ⌝ }
+    ensures { λ r. ⌜ Settled separator (now (line .entry)) (r .kept) (now (rows .exit)) (now (store .exit)) ⌝ }
+{
+    let mut head = [0u8; ANSWER_ROOM];
+    let replied = piling::answer(line, separator, n, kept, rows, store, out, work, &mut head);
+    let kept = replied.kept;
+    let told = reply_pile(
+        line,
+        separator,
+        replied,
+        rows,
+        store,
+        out,
+        work,
+        &head,
+        text,
+    );
+    settle(line, separator, kept, rows, store);
+    Ran { kept, told }
+}
+
+// The command of a line.
+pub fn run(
+    line: &[u8],
+    separator: u8,
+    kept: Kept,
+    rows: &mut [usize; 256],
+    store: &mut [u8; 4210688],
+    out: &mut [u8; FILE_LIMIT],
+    work: &mut [u8; FILE_LIMIT],
+    text: &mut [u8; ROOM],
+) -> Ran
+    requires { ⌜ (length (now line) ≤ wordLimit) × Tidy (now rows) kept ⌝ }
+    ensures { λ r. ⌜ Settled separator (now (line .entry)) (r .kept) (now (rows .exit)) (now (store .exit)) ⌝ }
+{
+    let task = tasks::task_of(line, separator);
+    if let Task::Pile(n) = task {
+        return run_pile(line, separator, n, kept, rows, store, out, work, text);
+    }
+    run_few(line, separator, kept, rows, store, out, text)
 }
 
 // The line of a batch that was too long.

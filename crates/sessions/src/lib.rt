@@ -47,6 +47,7 @@ fn take_line(
     rows: &mut [usize; 256],
     store: &mut [u8; 4210688],
     out: &mut [u8; FILE_LIMIT],
+    work: &mut [u8; FILE_LIMIT],
     text: &mut [u8; ROOM],
 ) -> Turn
     requires { ⌜ ((taken .from ≤ taken .end) × (taken .end ≤ inputRoom)) × (Fed (now input) (taken .feed) × Tidy (now rows) kept) ⌝ }
@@ -56,7 +57,7 @@ fn take_line(
     let end = taken.end;
     let feed = taken.feed;
     let all: &[u8] = input;
-    let ran = runs::run(&all[from..end], b' ', kept, rows, store, out, text);
+    let ran = runs::run(&all[from..end], b' ', kept, rows, store, out, work, text);
     let kept = ran.kept;
     let told = ran.told;
     Turn {
@@ -74,13 +75,14 @@ fn go_on(
     rows: &mut [usize; 256],
     store: &mut [u8; 4210688],
     out: &mut [u8; FILE_LIMIT],
+    work: &mut [u8; FILE_LIMIT],
     text: &mut [u8; ROOM],
 ) -> Turn
     requires { ⌜ Fed (now input) feed × Tidy (now rows) kept ⌝ }
     ensures { λ r. ⌜ Fed (now (input .exit)) (r .feed) × Tidy (now (rows .exit)) (r .kept) ⌝ }
 {
     match feed::next(feed, input) {
-        Coming::Line(taken) => take_line(taken, kept, input, rows, store, out, text),
+        Coming::Line(taken) => take_line(taken, kept, input, rows, store, out, work, text),
         Coming::TooLong(after) => {
             let told = runs::say_too_long(text);
             Turn {
@@ -113,6 +115,7 @@ fn run_all(
     rows: &mut [usize; 256],
     store: &mut [u8; 4210688],
     out: &mut [u8; FILE_LIMIT],
+    work: &mut [u8; FILE_LIMIT],
     text: &mut [u8; ROOM],
 ) -> Rest
     requires { ⌜ Fed (now input) from × (256 ≡ length (now rows)) ⌝ }
@@ -123,7 +126,7 @@ fn run_all(
     let mut turns = u64::MAX;
     while 0 < turns {
         turns -= 1;
-        let after = go_on(feed, kept, input, rows, store, out, text);
+        let after = go_on(feed, kept, input, rows, store, out, work, text);
         feed = after.feed;
         kept = after.kept;
         if !after.is_going {
@@ -146,6 +149,7 @@ fn run_one(
     rows: &mut [usize; 256],
     store: &mut [u8; 4210688],
     out: &mut [u8; FILE_LIMIT],
+    work: &mut [u8; FILE_LIMIT],
     text: &mut [u8; ROOM],
 )
     requires { ⌜ (n ≤ inputRoom) × (256 ≡ length (now rows)) ⌝ }
@@ -158,6 +162,7 @@ fn run_one(
         rows,
         store,
         out,
+        work,
         text,
     );
     let told = ran.told;
@@ -176,11 +181,28 @@ fn hold(feed: Feed, input: &mut [u8; INPUT_ROOM], n: usize, in_batch: bool) -> R
     let mut rows = [0usize; 256];
     let mut store = [0u8; 4210688];
     let mut out = [0u8; FILE_LIMIT];
+    let mut work = [0u8; FILE_LIMIT];
     let mut text = [0u8; ROOM];
     if in_batch {
-        return run_all(feed, input, &mut rows, &mut store, &mut out, &mut text);
+        return run_all(
+            feed,
+            input,
+            &mut rows,
+            &mut store,
+            &mut out,
+            &mut work,
+            &mut text,
+        );
     }
-    run_one(input, n, &mut rows, &mut store, &mut out, &mut text);
+    run_one(
+        input,
+        n,
+        &mut rows,
+        &mut store,
+        &mut out,
+        &mut work,
+        &mut text,
+    );
     Rest {
         feed,
         is_going: false,

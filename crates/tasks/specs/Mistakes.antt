@@ -8,7 +8,7 @@ use Rattle.verbs.specs.declared.Verb.the-variants as verb
 use Rattle.text.specs.Line.{newline}
 use Rattle.failures.specs.Lines.{verbWords}
 use Rattle.tasks.specs.declared.Mistake.{Mistake}
-use Rattle.tasks.specs.declared.Mistake.the-variants.{Blank, CarriageReturn, Spaces, Words}
+use Rattle.tasks.specs.declared.Mistake.the-variants.{Blank, CarriageReturn, Spaces, Words, Files}
 
 -- the words that a command takes
 abbrev pub wordsAre : Verb → List ℕ
@@ -28,3 +28,4 @@ mistakeText Blank = ascii "error the line is blank\n"
 mistakeText CarriageReturn = ascii "error the line ends in a carriage return; a newline alone ends a line\n"
 mistakeText Spaces = ascii "error words are parted by single spaces, with none at the ends of a line\n"
 mistakeText (Words v) = usageText v
+mistakeText Files = ascii "error a link takes at most 256 files\n"

@@ -5,16 +5,17 @@ use mathlib.Core.List.{List}
 use Prim.Native.Nat.{ℕ, _+_, _-_}
 use lib.ListN.{length, getD}
 use Rattle.ascii.specs.Ascii.{ascii}
-use Rattle.number.specs.Choice.{if_then_else_, _=?_}
+use Rattle.number.specs.Choice.{if_then_else_, _<?_, _=?_}
 use Rattle.key.specs.Word.{sameWord}
+use Rattle.pile.specs.Pile.{pileLimit}
 use Rattle.words.specs.Words.{wordsOf, wordIn}
 use Rattle.verbs.specs.declared.Verb.{Verb}
 use Rattle.verbs.specs.declared.Verb.the-variants as verb
 use Rattle.verbs.specs.Verbs.{verbOf, wordsIn}
 use Rattle.verbs.specs.Empty.{hasEmpty}
-use Rattle.tasks.specs.declared.Mistake.the-variants.{Blank, CarriageReturn, Spaces, Words}
+use Rattle.tasks.specs.declared.Mistake.the-variants.{Blank, CarriageReturn, Spaces, Words, Files}
 use Rattle.tasks.specs.declared.Task.{Task}
-use Rattle.tasks.specs.declared.Task.the-variants.{Mistaken, Run}
+use Rattle.tasks.specs.declared.Task.the-variants.{Mistaken, Run, Pile}
 
 -- the separator of a batch
 unfoldable pub inBatch : ℕ → Bool
@@ -41,11 +42,28 @@ shift ws = if isForced ws then 1 else 0
 abbrev pub argument : ℕ → List (List ℕ) → List ℕ
 argument k ws = wordIn (k + shift ws) ws
 
+-- a link of n words, which are not those of two files; `more` of them stand before the first file. Beside the files there are its name and that of the output.
+unfoldable pub pileTask : ℕ → ℕ → Task
+pileTask n more =
+    if n <? 5 + more then Mistaken (Words verb.Link) else
+    if pileLimit <? n - (2 + more) then Mistaken Files else
+    Pile (n - (2 + more))
+
+-- a command with another number of words than it takes: of links some have more files
+unfoldable pub otherTask : Verb → ℕ → ℕ → Task
+otherTask (verb.Ask q) n more = Mistaken (Words (verb.Ask q))
+otherTask verb.List n more = Mistaken (Words verb.List)
+otherTask verb.Table n more = Mistaken (Words verb.Table)
+otherTask verb.Normal n more = Mistaken (Words verb.Normal)
+otherTask verb.Adopt n more = Mistaken (Words verb.Adopt)
+otherTask verb.Link n more = pileTask n more
+otherTask verb.Unknown n more = Mistaken (Words verb.Unknown)
+
 -- the command of the first word, with as many words as it takes
 unfoldable pub wordsTask : List (List ℕ) → Task
 wordsTask ws =
     let v : Verb = verbOf (wordIn 0 ws) in
-    if length ws =? wordsIn v + shift ws then Run v else Mistaken (Words v)
+    if length ws =? wordsIn v + shift ws then Run v else otherTask v (length ws) (shift ws)
 
 -- a line of a batch: single spaces part its words, and a newline alone ended it
 unfoldable pub lineTask : List ℕ → Task
@@ -71,11 +89,13 @@ filesRead verb.Unknown = 0
 unfoldable pub filesOf : Task → ℕ
 filesOf (Mistaken m) = 0
 filesOf (Run v) = filesRead v
+filesOf (Pile n) = n
 
 -- it writes a file, which its last word names
 unfoldable pub isWriting : Task → Bool
 isWriting (Mistaken m) = false
 isWriting (Run v) = writesFile v
+isWriting (Pile n) = true
 
 abbrev pub outputWord : ℕ → List ℕ → List ℕ
 outputWord separator line = argument (filesOf (taskOf separator line) + 1) (wordsOf separator line)

@@ -1,5 +1,6 @@
 // What a line asks for: a command with its words, or a mistake. Words are parted by a separator, which is a space in a batch and a zero byte between
 // arguments.
+use pile::MOST_FILES;
 use sayings::ANSWER_ROOM;
 use sayings::Said;
 use verbs::Question;
@@ -11,7 +12,7 @@ ghost use Rattle.words.specs.Words.{wordsOf, wordIn, Spans};
 ghost use Rattle.verbs.specs.Verbs.{verbOf};
 ghost use Rattle.verbs.specs.declared.Verb.the-variants.{Ask};
 ghost use Rattle.sayings.specs.Sayings.{Says, mistaken};
-ghost use Rattle.tasks.specs.Tasks.{inBatch, writesFile, isForced, shift, wordsTask, lineTask, taskOf, filesRead, filesOf, isWriting};
+ghost use Rattle.tasks.specs.Tasks.{inBatch, writesFile, isForced, shift, pileTask, otherTask, wordsTask, lineTask, taskOf, filesRead, filesOf, isWriting};
 ghost use Rattle.tasks.specs.Mistakes.{usageText, mistakeText};
 
 // What is wrong with a line; `Words` has the command whose words are not as many as it takes, or none that there is.
@@ -20,11 +21,14 @@ pub enum Mistake {
     CarriageReturn,
     Spaces,
     Words(Verb),
+    Files,
 }
 
+// A command, or a link of so many files, where they are more than two.
 pub enum Task {
     Mistaken(Mistake),
     Run(Verb),
+    Pile(usize),
 }
 
 // Whether the separator is that of a batch.
@@ -83,10 +87,41 @@ fn shift(line: &[u8], separator: u8) -> usize
 
 // The k-th word of the command, from 1; `-f` is not counted.
 pub fn argument(line: &[u8], separator: u8, k: usize) -> Span
-    requires { ⌜ k ≤ 4 ⌝ }
+    requires { ⌜ k ≤ 257 ⌝ }
     ensures { λ r. ⌜ Spans (now (line .entry)) separator (k + shift (wordsOf separator (now (line .entry)))) r ⌝ }
 {
     words::word(line, separator, k + shift(line, separator))
+}
+
+// A link of n words, which are not those of two files; `more` of them stand before the first file.
+fn pile_task(n: usize, more: usize) -> Task
+    requires { ⌜ more ≤ 1 ⌝ }
+    ensures { λ r. ⌜ r ≡ pileTask n more ⌝ }
+{
+    if n < 5 + more {
+        return Task::Mistaken(Mistake::Words(Verb::Link));
+    }
+    let files = n - (2 + more);
+    if MOST_FILES < files {
+        return Task::Mistaken(Mistake::Files);
+    }
+    Task::Pile(files)
+}
+
+// A command with another number of words than it takes.
+fn other_task(verb: Verb, n: usize, more: usize) -> Task
+    requires { ⌜ more ≤ 1 ⌝ }
+    ensures { λ r. ⌜ r ≡ otherTask verb n more ⌝ }
+{
+    match verb {
+        Verb::Ask(question) => Task::Mistaken(Mistake::Words(Verb::Ask(question))),
+        Verb::List => Task::Mistaken(Mistake::Words(Verb::List)),
+        Verb::Table => Task::Mistaken(Mistake::Words(Verb::Table)),
+        Verb::Normal => Task::Mistaken(Mistake::Words(Verb::Normal)),
+        Verb::Adopt => Task::Mistaken(Mistake::Words(Verb::Adopt)),
+        Verb::Link => pile_task(n, more),
+        Verb::Unknown => Task::Mistaken(Mistake::Words(Verb::Unknown)),
+    }
 }
 
 fn words_task(line: &[u8], separator: u8) -> Task
@@ -94,10 +129,11 @@ fn words_task(line: &[u8], separator: u8) -> Task
 {
     let verb = verb_in(line, separator);
     let count = words::word_count(line, separator);
-    if count == verbs::words_of(verb) + shift(line, separator) {
+    let more = shift(line, separator);
+    if count == verbs::words_of(verb) + more {
         return Task::Run(verb);
     }
-    Task::Mistaken(Mistake::Words(verb))
+    other_task(verb, count, more)
 }
 
 fn line_task(line: &[u8]) -> Task
@@ -147,6 +183,7 @@ pub fn files_of(task: Task) -> usize
     match task {
         Task::Mistaken(_) => 0,
         Task::Run(verb) => files_read(verb),
+        Task::Pile(n) => n,
     }
 }
 
@@ -157,6 +194,7 @@ pub fn is_writing(task: Task) -> bool
     match task {
         Task::Mistaken(_) => false,
         Task::Run(verb) => writes_file(verb),
+        Task::Pile(_) => true,
     }
 }
 
@@ -199,7 +237,7 @@ fn usage(verb: Verb, text: &mut [u8; ANSWER_ROOM]) -> Said
         Verb::Table => sayings::mistake(b"error the words are: table FILE NAMESPACE NAME\n", text),
         Verb::Normal => sayings::mistake(b"error the words are: normal [-f] FILE OUT\n", text),
         Verb::Adopt => sayings::mistake(b"error the words are: adopt [-f] FILE OUT\n", text),
-        Verb::Link => sayings::mistake(b"error the words are: link [-f] A B OUT\n", text),
+        Verb::Link => sayings::mistake(b"error the words are: link [-f] A B .. OUT\n", text),
         Verb::Unknown => sayings::mistake(
             b"error unknown command; the commands are: check list table iid looks key method slot const normal adopt link\n",
             text,
@@ -222,5 +260,6 @@ pub fn tell(what: Mistake, text: &mut [u8; ANSWER_ROOM]) -> Said
             text,
         ),
         Mistake::Words(verb) => usage(verb, text),
+        Mistake::Files => sayings::mistake(b"error a link takes at most 256 files\n", text),
     }
 }

@@ -7,9 +7,9 @@ use Rattle.sessions.proofs.go_on.Tie as tie
 
 take-line-requires : tie.Need-take-line-requires
 take-line-requires c κs =
-    let a = c .before .before .before .before .before .before .before .before .before .before .args in
-    let k = subst (Comes (a .input .now) (a .feed)) (c .before .before .before .before .before .before .taken .given .1) (c .before .before .before .before .before .before .before .before .next .ensures) in
-    ((k .ordered, k .inside), (k .fed, c .before .before .before .before .before .before .before .before .before .before .pre .1))
+    let a = c .before .before .before .before .before .before .before .before .before .before .before .args in
+    let k = subst (Comes (a .input .now) (a .feed)) (c .before .before .before .before .before .before .before .taken .given .1) (c .before .before .before .before .before .before .before .before .before .next .ensures) in
+    ((k .ordered, k .inside), (k .fed, c .before .before .before .before .before .before .before .before .before .before .before .pre .1))
 
 read-more-requires : tie.Need-read-more-requires
 read-more-requires c κs =

@@ -8,10 +8,10 @@ use Rattle.sessions.proofs.run_all.Statement.{statement}
 use Rattle.sessions.proofs.run_all.Tie as tie
 
 abbrev Inv-loop : tie.InvT-loop
-Inv-loop input₀ rows₀ store₀ out₀ text₀ feed₀ kept₀ turns₀ input rows store out text feed kept turns = Fed input feed × Tidy rows kept
+Inv-loop input₀ rows₀ store₀ out₀ work₀ text₀ feed₀ kept₀ turns₀ input rows store out work text feed kept turns = Fed input feed × Tidy rows kept
 
 abbrev μ-loop : tie.MeasureT-loop
-μ-loop input₀ rows₀ store₀ out₀ text₀ feed₀ kept₀ turns₀ input rows store out text feed kept turns = turns
+μ-loop input₀ rows₀ store₀ out₀ work₀ text₀ feed₀ kept₀ turns₀ input rows store out work text feed kept turns = turns
 
 pub run-all-spec : {M : Type 1} → statement M
 run-all-spec =
@@ -21,7 +21,7 @@ run-all-spec =
     μ-loop
     (λ c. (c .pre .0, tidy-nothing _ (c .pre .1)))
     (λ c. search needs)
-    (λ c κs. c .before .before .before .before .before .before .loop .inv)
+    (λ c κs. c .before .before .before .before .before .before .before .loop .inv)
     (λ c. search needs)
     (λ c. omega arith)
     (λ c. search needs)

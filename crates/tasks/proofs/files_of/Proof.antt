@@ -13,5 +13,7 @@ files-of-spec =
     (λ c. search needs)
     (λ c. search needs)
     (λ c κs. search needs)
+    (λ c. search needs)
     (λ c. rw (c .enum-told .given .1) refl)
-    (λ c. rw (c .before .before .task .given .1) (c .files-read .ensures)))
+    (λ c. rw (c .before .before .task .given .1) (c .files-read .ensures))
+    (λ c. rw (c .before .task2 .given .1) refl))

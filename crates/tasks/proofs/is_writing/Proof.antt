@@ -13,5 +13,7 @@ is-writing-spec =
     (λ c. search needs)
     (λ c. search needs)
     (λ c κs. search needs)
+    (λ c. search needs)
     (λ c. rw (c .enum-told .given .1) refl)
-    (λ c. rw (c .before .before .task .given .1) (c .writes-file .ensures)))
+    (λ c. rw (c .before .before .task .given .1) (c .writes-file .ensures))
+    (λ c. rw (c .enum-told2 .given .1) refl))

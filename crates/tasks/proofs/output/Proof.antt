@@ -7,10 +7,14 @@ use Rattle.tasks.proofs.output.Statement.{statement}
 use Rattle.tasks.proofs.output.Tie as tie
 
 add-argument : tie.Need-add-argument
-add-argument c = omega (arith, c .files-of .ensures, files-few (c .before .task-of .result))
+add-argument c =
+    let a = c .before .before .before .args in
+    omega (arith, c .files-of .ensures, ap filesOf (c .before .task-of .ensures), files-few (a .separator) (a .line .now))
 
 argument-requires : tie.Need-argument-requires
-argument-requires c κs = omega (arith, c .files-of .ensures, files-few (c .before .task-of .result))
+argument-requires c κs =
+    let a = c .before .before .before .args in
+    omega (arith, c .files-of .ensures, ap filesOf (c .before .task-of .ensures), files-few (a .separator) (a .line .now))
 
 returns : tie.Need-returns
 returns c = rw (← c .before .before .task-of .ensures, ← c .before .files-of .ensures) (c .argument .ensures)

@@ -1,9 +1,9 @@
--- `held::fetch` meets its contract.
+-- `named::fetch` meets its contract.
 -- Assumes nothing.
 use Rattle.number.proofs.Tools.{needs}
 use Rattle.tasks.proofs.SpanLaws.{word-bytes}
-use Rattle.held.proofs.fetch.Statement.{statement}
-use Rattle.held.proofs.fetch.Tie as tie
+use Rattle.named.proofs.fetch.Statement.{statement}
+use Rattle.named.proofs.fetch.Tie as tie
 
 returns : tie.Need-returns
 returns c = rw (← word-bytes _ (c .before .before .before .before .before .argument .ensures), ← c .before .before .before .in-batch .ensures) (c .load .ensures)

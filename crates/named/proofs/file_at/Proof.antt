@@ -1,9 +1,9 @@
--- `held::file_at` meets its contract.
+-- `named::file_at` meets its contract.
 -- Assumes nothing.
 use Rattle.number.proofs.Tools.{needs}
 use Rattle.tasks.proofs.SpanLaws.{word-bytes}
-use Rattle.held.proofs.file_at.Statement.{statement}
-use Rattle.held.proofs.file_at.Tie as tie
+use Rattle.named.proofs.file_at.Statement.{statement}
+use Rattle.named.proofs.file_at.Tie as tie
 
 returns : tie.Need-returns
 returns c =

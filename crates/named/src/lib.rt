@@ -1,0 +1,54 @@
+// The files that the words of a line name, in the store.
+use kept::Kept;
+use store::Asked;
+use words::Span;
+ghost use Prim.Native.Nat.{_≤_};
+ghost use Rattle.words.specs.Words.{wordsOf};
+ghost use Rattle.pile.specs.Pile.{pileLimit};
+ghost use Rattle.tasks.specs.Tasks.{inBatch, argument};
+ghost use Rattle.kept.specs.Table.{Tidy};
+ghost use Rattle.kept.specs.Room.{Roomy};
+ghost use Rattle.store.specs.Loading.{isBarred, Loads};
+ghost use Rattle.named.specs.Places.{Lies};
+
+// The file of the k-th word into the store.
+pub fn fetch(
+    line: &[u8],
+    separator: u8,
+    k: usize,
+    kept: Kept,
+    rows: &mut [usize; 256],
+    store: &mut [u8; 4210688],
+) -> Asked
+    requires { ⌜ (k ≤ pileLimit) × (Tidy (now rows) kept × Roomy 1 kept) ⌝ }
+    ensures { λ r. ⌜ Loads (isBarred (inBatch separator) (argument k (wordsOf separator (now (line .entry))))) (argument k (wordsOf separator (now (line .entry)))) kept (now (rows .entry)) (now (store .entry)) r (now (rows .exit)) (now (store .exit)) ⌝ }
+{
+    let name = tasks::argument(line, separator, k);
+    let from = name.from;
+    let end = name.end;
+    store::load(
+        &line[from..end],
+        tasks::in_batch(separator),
+        kept,
+        rows,
+        store,
+    )
+}
+
+// The place in the store of the file of the k-th word, or of no bytes.
+pub fn file_at(
+    line: &[u8],
+    separator: u8,
+    k: usize,
+    kept: Kept,
+    rows: &[usize; 256],
+    store: &[u8; 4210688],
+) -> Span
+    requires { ⌜ (k ≤ pileLimit) × Tidy (now rows) kept ⌝ }
+    ensures { λ r. ⌜ Lies (argument k (wordsOf separator (now (line .entry)))) kept (now (rows .entry)) (now (store .entry)) r ⌝ }
+{
+    let name = tasks::argument(line, separator, k);
+    let from = name.from;
+    let end = name.end;
+    kept::file_of(&line[from..end], kept, rows, store)
+}

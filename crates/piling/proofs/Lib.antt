@@ -1,0 +1,2 @@
+pub mod PileLaws
+pub mod AnswerLaws
