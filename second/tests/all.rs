@@ -2,9 +2,12 @@
 //! file; and that a planted difference is found and made smaller.
 
 use second::library::cases::{bytes, shown, Asked, Case};
-use second::library::{checks, links, lists, lists::ROOM, questions, questions::Question};
+use second::library::{
+    adoptions, checks, links, lists, lists::ROOM, looks, questions, questions::Question,
+};
 use second::library::{Program, Session, OWN};
-use second::line::{answers::asked, answers::reason, compare::is_told, compare::tells, listing};
+use second::line::answers::{asked, reason, salvaged};
+use second::line::{compare::is_told, compare::tells, listing};
 use second::making::{builder::*, generate::marked, generate::rich};
 use second::program::{check::check, questions::Lookup};
 use second::tally::{floors, Came, Tally};
@@ -159,13 +162,13 @@ fn readings_of_the_questions() {
 
 /// How often the numbers from `low` to `high` are looked at until the one sought, or where it would
 /// stand, is met: by the definition.
-fn looks(low: usize, high: usize, is_at: usize, is_there: bool) -> usize {
+fn count(low: usize, high: usize, is_at: usize, is_there: bool) -> usize {
     let middle = (low + high) / 2;
     match is_at.cmp(&middle) {
         _ if low > high => 0,
         Ordering::Equal if is_there => 1,
-        Ordering::Greater => 1 + looks(middle + 1, high, is_at, is_there),
-        _ => 1 + looks(low, middle - 1, is_at, is_there),
+        Ordering::Greater => 1 + count(middle + 1, high, is_at, is_there),
+        _ => 1 + count(low, middle - 1, is_at, is_there),
     }
 }
 
@@ -183,7 +186,7 @@ fn looks_by_halving() {
         for iid in 1..2 * n + 2 {
             let is_there = iid % 2 == 0;
             let is_at = iid.div_ceil(2);
-            let looked = looks(1, n, is_at, is_there);
+            let looked = count(1, n, is_at, is_there);
             let answer = (OWN.looks)(&bytes, &(iid as u128).to_be_bytes());
             assert_eq!(answer, Ok((is_there.then_some(is_at), looked)), "{iid} of {n}");
             most = most.max(looked);
@@ -212,15 +215,24 @@ fn file(entries: &str) -> Vec<u8> {
     lib.bytes()
 }
 
+fn piled(files: &[&[u8]]) -> Result<Vec<u8>, String> {
+    let told = |((which, why), step): ((u8, Refusal), usize)| {
+        format!("refused {which} {} {} step {step}", why.number, why.place)
+    };
+    OWN.pile(files).map_err(told)
+}
+
 #[test]
 fn readings_of_links() {
     for (files, expected) in rows(include_str!("links.txt"), " = ") {
-        let (first, second) = files.split_once(" + ").unwrap();
+        let libs: Vec<_> = files.split(" + ").map(file).collect();
+        let libs: Vec<_> = libs.iter().map(|lib| &lib[..]).collect();
         let expected = match expected.contains(':') {
             true => written(&[&file(expected)]),
             false => Err(format!("refused {expected}")),
         };
-        assert_eq!(written(&[&file(first), &file(second)]), expected, "{files}");
+        let answer = if libs.len() == 2 { written(&libs) } else { piled(&libs) };
+        assert_eq!(answer, expected, "{files}");
     }
 }
 
@@ -285,6 +297,21 @@ fn listings() {
     }
 }
 
+#[test]
+fn salvaged_files() {
+    for (recipe, expected) in rows(include_str!("salvages.txt"), ": ") {
+        let bytes = if recipe.contains(':') { file(recipe) } else { of_recipe(recipe) };
+        let outcome = salvaged(&[&bytes]);
+        let text = String::from_utf8(outcome.text.unwrap()).unwrap();
+        assert_eq!(text.trim_end().replace('\n', "; "), expected, "{recipe}");
+        // What is written is its own normal form, and that of the file where nothing changed.
+        if let Some(left) = outcome.written {
+            assert_eq!(written(&[&left]), Ok(left.to_vec()));
+            assert_eq!(written(&[&bytes]) == Ok(left.to_vec()), expected.ends_with("changed 0"));
+        }
+    }
+}
+
 /// Runs a part with a program that is wrong on purpose: the case in which it ends, made smaller.
 fn planted(part: &'static str, run: fn(&mut Session), wrong: Program) -> Case {
     let mut session = Session { seed: 2, other: wrong, tally: Tally::new(part) };
@@ -321,6 +348,25 @@ fn planted_differences() {
         ..OWN
     };
     planted("links", links::run, wrong);
+    // An empty directory is looked at; a field is left as it was.
+    let wrong = Program {
+        looks: |file, iid| (OWN.looks)(file, iid).map(|(index, looked)| (index, looked.max(1))),
+        ..OWN
+    };
+    let case = planted("looks", looks::run, wrong);
+    assert!(case.files[0].len() < 40, "{case:?}");
+    let wrong = Program {
+        adopt: |file, out| {
+            let length = (OWN.adopt)(file, out)?;
+            if file[18..20] == [0; 2] {
+                out[24..28].copy_from_slice(&file[24..28]);
+            }
+            Ok(length)
+        },
+        ..OWN
+    };
+    let case = planted("adoptions", adoptions::run, wrong);
+    assert!(case.files[0].len() < 40, "{case:?}");
     // A kind that there is not is "none"; a list that is too short is told as answered.
     let wrong = Program {
         on_list: |asked, files, out, list| {
@@ -385,6 +431,28 @@ fn what_is_told_and_counted() {
         let lines = &mut told.as_bytes().split_inclusive(|byte| *byte == b'\n');
         assert_eq!(is_told(line.as_bytes(), None, alone, lines), is_so, "{line}: {told}");
     }
+    // Lines have tabs in a batch, and a table may have none.
+    let [p1, _, p3] = marked();
+    let key = Question::parse("key  41").unwrap();
+    for (outcome, alone, in_batch) in [
+        (asked("table", &p3, &key), "", "\n"),
+        (asked("table", &p1, &key), "none\n", "none\n"),
+        (
+            asked("table", &tree(), &Question::parse("key  4534").unwrap()),
+            "undetermined 5\n",
+            "undetermined 5\t\n",
+        ),
+        (
+            salvaged(&[&of_recipe("p3 66=0001")]),
+            "written 66 changed 1\n1 19 36\n",
+            "written 66 changed 1\t1 19 36\t\n",
+        ),
+    ] {
+        for (printed, is_alone) in [(alone, true), (in_batch, false)] {
+            let rest = outcome.eat(printed.as_bytes(), is_alone).map(|(_, rest)| rest);
+            assert_eq!(rest, Some(&[][..]), "{printed}");
+        }
+    }
     let mut tally = Tally::new("checks");
     for place in 1..=3 {
         tally.came("refusal 9", "", Came { place: Some(place), file: Some(1), way: Some("hand") });
@@ -398,10 +466,11 @@ fn what_is_told_and_counted() {
         "lists",
         "looks",
         "adoptions",
+        "piles",
         "links",
         "listings",
         "batches",
         "alone",
     ];
-    assert_eq!(parts.map(|part| floors(part).len()).iter().sum::<usize>(), 1115);
+    assert_eq!(parts.map(|part| floors(part).len()).iter().sum::<usize>(), 1162);
 }

@@ -4,7 +4,7 @@
 use super::links::{lent, GUARD};
 use super::questions::{Found, Question, Reply};
 use super::{lists, Program, OWN};
-use crate::program::{link::LinkRefusal, questions::Kind, Answer, Refusal};
+use crate::program::{link::LinkRefusal, questions::Kind, Answer, Refusal, MAX_FILE};
 use crate::tally::hash;
 use std::fmt::Debug;
 use std::time::{Duration, Instant};
@@ -98,6 +98,20 @@ impl Program {
                 (self.constant)(file, *index, name).map(Found::Constant)
             }
         }
+    }
+
+    /// Links files one by one, in buffers of the greatest length. Of a refusal also which link it is
+    /// of, counted from 1.
+    pub fn pile(&self, files: &[&[u8]]) -> Result<Vec<u8>, (LinkRefusal, usize)> {
+        let (first, others) = files.split_first().expect("a file or more");
+        let mut linked = first.to_vec();
+        for (step, next) in (1..).zip(others) {
+            let mut out = vec![0; MAX_FILE];
+            let length = (self.link)(&linked, next, &mut out).map_err(|why| (why, step))?;
+            out.truncate(length);
+            linked = out;
+        }
+        Ok(linked)
     }
 
     /// Normalises one file or links two.

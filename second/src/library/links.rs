@@ -8,18 +8,18 @@ use crate::tally::{hash, numbered, Came, LINK, REFUSAL};
 use std::collections::HashMap;
 
 /// What a call wrote, or its refusal.
-type Written = Result<Vec<u8>, LinkRefusal>;
+pub type Written = Result<Vec<u8>, LinkRefusal>;
 
 type What = &'static str;
 
 /// A file, with its model where it is accepted.
-struct File {
-    bytes: Vec<u8>,
-    model: Result<Typelib, Refusal>,
+pub struct File {
+    pub bytes: Vec<u8>,
+    pub model: Result<Typelib, Refusal>,
 }
 
 impl File {
-    fn new(bytes: Vec<u8>) -> File {
+    pub fn new(bytes: Vec<u8>) -> File {
         let model = check(&bytes).map(|_| model::read(&bytes));
         File { bytes, model }
     }
@@ -65,9 +65,9 @@ pub fn lent<T>(before: &[u8], room: usize, call: impl FnOnce(&mut [u8]) -> T) ->
     (answer, bytes)
 }
 
-struct Run<'s> {
-    session: &'s mut Session,
-    rng: Rng,
+pub struct Run<'s> {
+    pub session: &'s mut Session,
+    pub rng: Rng,
     /// Buffers are filled with parts of it before each call.
     noise: Vec<u8>,
     scratch: Vec<u8>,
@@ -78,7 +78,7 @@ fn bytes<'f>(files: &[&'f File]) -> Vec<&'f [u8]> {
 }
 
 /// What tells a row of files from others.
-fn together(files: &[&File]) -> Came {
+pub fn together(files: &[&File]) -> Came {
     Came { file: Some(hash(&bytes(files))), ..Came::default() }
 }
 
@@ -87,12 +87,18 @@ fn numbered_by(answer: &Written) -> Option<u64> {
     answer.as_ref().err().map(|(_, refusal)| refusal.number.into())
 }
 
-impl Run<'_> {
-    fn add(&mut self, about: What, what: What) {
+impl<'s> Run<'s> {
+    pub fn new(session: &'s mut Session, rng: &mut Rng) -> Run<'s> {
+        let noise = (0..3 * MAX_FILE).map(|_| rng.byte()).collect();
+        let rng = Rng::new(rng.number());
+        Run { session, rng, noise, scratch: vec![0; MAX_FILE] }
+    }
+
+    pub fn add(&mut self, about: What, what: What) {
         self.session.tally.add(about, what);
     }
 
-    fn came(&mut self, about: What, what: What, came: Came) {
+    pub fn came(&mut self, about: What, what: What, came: Came) {
         self.session.tally.came(about, what, came);
     }
 
@@ -115,7 +121,7 @@ impl Run<'_> {
 
     /// Has both programs write and compares answers and buffers, byte by byte, guards and files
     /// included.
-    fn call(&mut self, files: &[&File], room: usize) -> Written {
+    pub fn call(&mut self, files: &[&File], room: usize) -> Written {
         let (about, asked) = match files.len() {
             1 => ("normal forms", Asked::Normal(room)),
             _ => ("links", Asked::Link(room)),
@@ -139,7 +145,7 @@ impl Run<'_> {
 
     /// Counts a law of linking that holds. Files of which it does not are told of: both programs
     /// have answered alike, so that there is nothing to make smaller.
-    fn law(&mut self, law: &str, holds: bool, what: What, files: &[&File], came: Came) {
+    pub fn law(&mut self, law: &str, holds: bool, what: What, files: &[&File], came: Came) {
         if !holds {
             println!("the law of {law} does not hold");
             self.session.found(law, Asked::Link(MAX_FILE), &bytes(files));
@@ -324,9 +330,7 @@ impl Run<'_> {
 pub fn run(session: &mut Session) {
     let seed = session.seed;
     let rng = &mut Rng::new(seed);
-    let noise = (0..3 * MAX_FILE).map(|_| rng.byte()).collect();
-    let own = Rng::new(rng.number());
-    let mut run = Run { session, rng: own, noise, scratch: vec![0; MAX_FILE] };
+    let mut run = Run::new(session, rng);
     edges(&mut run, rng);
     for (made, files) in pairs::spread(rng) {
         let [a, b] = files.map(|lib| run.file(made, lib.bytes()));

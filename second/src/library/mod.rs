@@ -6,6 +6,7 @@ pub mod checks;
 pub mod links;
 pub mod lists;
 pub mod looks;
+pub mod piles;
 pub mod questions;
 
 use crate::in_parallel;
@@ -68,13 +69,14 @@ impl Session {
 /// A part: its name, what it runs, and the rows that count comparisons.
 type Part = (&'static str, fn(&mut Session), &'static [&'static str]);
 
-pub const PARTS: [Part; 6] = [
+pub const PARTS: [Part; 7] = [
     ("links", links::run, &["links", "normal forms"]),
     ("checks", checks::run, &["checks"]),
     ("questions", questions::run, &["questions"]),
     ("lists", lists::run, &["calls"]),
     ("looks", looks::run, &["looks"]),
     ("adoptions", adoptions::run, &["adoptions"]),
+    ("piles", piles::run, &["links"]),
 ];
 
 /// What a run is asked for: names of parts, none for all, a seed, and how many seeds from there.

@@ -4,7 +4,7 @@ use super::iids;
 use crate::library::{cases::shown, questions::Found, questions::Question, questions::Reply, OWN};
 use crate::making::rng::Rng;
 use crate::program::questions::{of, Constant, Lookup, Method, Slot};
-use crate::program::{check::word, listing::list, refusal, Refusal, MAX_FILE};
+use crate::program::{check::word, listing::list, refusal, salvage::salvage, Refusal, MAX_FILE};
 use std::sync::Arc;
 
 pub type Bytes = Arc<[u8]>;
@@ -15,16 +15,16 @@ pub type Words = Vec<Vec<u8>>;
 #[derive(Default)]
 pub struct Outcome {
     /// What stands on standard output before a newline. Nothing where any error will do. Lines
-    /// of a listing and of a table have their newlines; in a batch they are tabs. A table may have
-    /// no line.
+    /// of a listing, a table and a report have their newlines; in a batch they are tabs. A table may
+    /// have no line.
     pub text: Option<Vec<u8>>,
     /// Whether one line that starts with `error ` will do: where it cannot be asked, and where the
     /// papers leave open whether it can.
     pub or_error: bool,
     /// The row of the table that it counts for.
     pub what: &'static str,
-    /// With the file that it is about, 1 or 2; 0 for a link's own.
-    pub refusal: Option<(u8, Refusal)>,
+    /// With the file that it is about, counted from 1; 0 for a link's own.
+    pub refusal: Option<(usize, Refusal)>,
     /// What the output holds from then on; nothing where it is left as it is.
     pub written: Option<Bytes>,
 }
@@ -115,20 +115,33 @@ pub fn listed(file: &[u8]) -> Outcome {
     Outcome::line("accepted", text)
 }
 
-/// Normalises one file or links two.
-pub fn written(files: &[&[u8]]) -> Outcome {
+/// Writes a file's normal form.
+pub fn normal(files: &[&[u8]]) -> Outcome {
     let mut room = vec![0; MAX_FILE];
-    match (files.len(), OWN.write(files, &mut room)) {
-        (_, Ok(length)) => {
+    match (OWN.normalise)(files[0], &mut room) {
+        Ok(length) => {
             let line = Outcome::line("written", format!("written {length}"));
             Outcome { written: Some(room[..length].into()), ..line }
         }
-        (1, Err((_, why))) => not_written(why),
-        (_, Err((which, why))) => {
+        Err(why) => not_written(why),
+    }
+}
+
+/// Links two files, or more of them one by one.
+pub fn linked(files: &[&[u8]]) -> Outcome {
+    match OWN.pile(files) {
+        Ok(linked) => {
+            let line = Outcome::line("written", format!("written {}", linked.len()));
+            Outcome { written: Some(linked.into()), ..line }
+        }
+        Err(((which, why), step)) => {
             let whats = ["refused 21 to 26", "first file refused", "second file refused"];
-            let text = format!("refused {which} {} {}", why.number, why.place);
+            let step_told = if files.len() > 2 { format!(" step {step}") } else { String::new() };
+            let text = format!("refused {which} {} {}{step_told}", why.number, why.place);
             let line = Outcome::line(whats[usize::from(which)], text);
-            Outcome { refusal: Some((which, why)), ..line }
+            // What was linked before is never refused.
+            let about = [0, 1, step + 1][usize::from(which)];
+            Outcome { refusal: Some((about, why)), ..line }
         }
     }
 }
@@ -141,6 +154,23 @@ pub fn adopted(files: &[&[u8]]) -> Outcome {
             let told = (OWN.check)(&room[..length]);
             let what = if told.is_ok() { "written, accepted" } else { "written, refused" };
             let line = Outcome::line(what, format!("written {length} {}", shown(told)));
+            Outcome { written: Some(room[..length].into()), ..line }
+        }
+        Err(why) => not_written(why),
+    }
+}
+
+/// Salvages a file: what is written, and a line for each entry that was changed.
+pub fn salvaged(files: &[&[u8]]) -> Outcome {
+    let mut room = vec![0; MAX_FILE];
+    match salvage(files[0], &mut room) {
+        Ok((length, changes)) => {
+            let mut text = format!("written {length} changed {}\n", changes.len());
+            for (index, Refusal { number, place }) in &changes {
+                text += &format!("{index} {number} {place}\n");
+            }
+            let whats = ["nothing changed", "one changed", "two or more changed"];
+            let line = Outcome::line(whats[changes.len().min(2)], text);
             Outcome { written: Some(room[..length].into()), ..line }
         }
         Err(why) => not_written(why),

@@ -88,7 +88,8 @@ pub fn tells(line: &[u8], (refusal, files, [held, end]): &Told) -> bool {
 }
 
 /// How the errors begin that are about a command's words as a whole.
-const OF_WORDS: [&[u8]; 3] = [b"the words are: ", b"unknown command", b"no command"];
+const OF_WORDS: [&[u8]; 4] =
+    [b"the words are: ", b"unknown command", b"no command", b"a link takes at most"];
 
 /// What follows such an error of a command alone.
 const HINT: &[u8] = b"xpt: `xpt help` shows the commands and their words\n";

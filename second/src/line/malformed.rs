@@ -1,6 +1,8 @@
 //! Lines that cannot be asked: each gets an error, and must not disturb its neighbours.
 
 use super::script::{Name, Script, LONGEST_LINE, SUBFOLDER};
+use super::stories::MAX_PILE;
+use super::{is_compared, SALVAGES};
 use crate::library::questions::Question;
 use crate::making::{generate, rng::Rng};
 use crate::program::questions::Kind;
@@ -9,7 +11,7 @@ use crate::program::questions::Kind;
 /// absent and stays so.
 pub fn every_kind(script: &mut Script, file: &Name, good: &Name, out: &Name) {
     for (kind, line) in KINDS {
-        let some = *script.rng.pick(&GOOD);
+        let some = one_of(&mut script.rng, &GOOD);
         let line = line(&mut script.rng, script.alone, some);
         let word = |word: &[u8]| match word {
             [b'F'] => file.word.clone().into_bytes(),
@@ -27,7 +29,7 @@ pub fn every_kind(script: &mut Script, file: &Name, good: &Name, out: &Name) {
 }
 
 /// The words that each command takes.
-const USAGES: [&str; 12] = [
+const USAGES: [&str; 13] = [
     "check FILE",
     "list FILE",
     "table FILE NAMESPACE NAME",
@@ -39,16 +41,26 @@ const USAGES: [&str; 12] = [
     "const FILE INDEX NAME",
     "normal [-f] FILE OUT",
     "adopt [-f] FILE OUT",
-    "link [-f] A B OUT",
+    "link [-f] A B .. OUT",
+    "salvage [-f] FILE OUT",
 ];
 
-const COMMANDS: &str = "check list table iid looks key method slot const normal adopt link";
+const COMMANDS: &str = "check list table iid looks key method slot const normal adopt link salvage";
+
+/// One of these lines.
+fn one_of(rng: &mut Rng, lines: &[&'static str]) -> &'static str {
+    let lines: Vec<_> = lines.iter().copied().filter(|line| is_compared(line)).collect();
+    *rng.pick(&lines)
+}
 
 /// What the error says, of the kinds where that is fixed.
 fn told(kind: &str, words: &[Vec<u8>]) -> Option<String> {
     match kind {
         "output is a folder" => Some(format!("cannot write {SUBFOLDER}: it is no ordinary file")),
-        "unknown command" => Some(format!("unknown command; the commands are: {COMMANDS}")),
+        "unknown command" => {
+            let all = if SALVAGES { COMMANDS } else { COMMANDS.trim_end_matches(" salvage") };
+            Some(format!("unknown command; the commands are: {all}"))
+        }
         "too few words" | "too many words" | "-f for a command that only reads" | "-f too late" => {
             let is_own =
                 |usage: &&&str| usage.split(' ').next().map(str::as_bytes) == Some(&words[0]);
@@ -59,7 +71,7 @@ fn told(kind: &str, words: &[Vec<u8>]) -> Option<String> {
 }
 
 /// Every command, with good words.
-const GOOD: [&str; 15] = [
+const GOOD: [&str; 17] = [
     "check F",
     "list F",
     "normal F O",
@@ -67,6 +79,8 @@ const GOOD: [&str; 15] = [
     "normal -f F O",
     "adopt F O",
     "adopt -f F O",
+    "salvage F O",
+    "salvage -f F O",
     "link -f F G O",
     "iid F 00000000000000000000000000000001",
     "looks F 00000000000000000000000000000001",
@@ -81,7 +95,7 @@ type Line = fn(&mut Rng, bool, &str) -> Vec<u8>;
 
 /// The kinds of such lines, each a row of the table: how one is made from a good line, for a command
 /// that may run alone.
-const KINDS: [(&str, Line); 23] = [
+const KINDS: [(&str, Line); 24] = [
     ("blank", |_, _, _| Vec::new()),
     ("spaces alone", |rng, _, _| vec![b' '; rng.range(1, 5)]),
     ("unknown command", unknown_command),
@@ -90,25 +104,24 @@ const KINDS: [(&str, Line); 23] = [
         words[..rng.range(1, words.len() - 1)].join(" ").into()
     }),
     ("too many words", |rng, _, some| {
+        let some = if some.starts_with("link") { "normal F O" } else { some };
         format!("{some} {}", rng.pick(&["more", "0", "-", "F"])).into()
+    }),
+    ("over 256 files", |rng, _, _| {
+        let start = *rng.pick(&["link", "link -f"]);
+        format!("{start}{} O", " G".repeat(MAX_PILE + rng.range(1, 3))).into()
     }),
     ("-f for a command that only reads", |rng, _, _| {
         let readers: Vec<_> = GOOD.iter().filter(|some| !some.ends_with('O')).collect();
         rng.pick(&readers).replacen('F', "-f F", 1).into()
     }),
     ("-f too late", |rng, _, _| {
-        let lines = [
-            "normal F -f O",
-            "normal F O -f",
-            "adopt F -f O",
-            "adopt F O -f",
-            "link F -f G O",
-            "link F G -f O",
-        ];
-        (*rng.pick(&lines)).into()
+        let lines =
+            ["normal F -f O", "normal F O -f", "adopt F -f O", "adopt F O -f", "salvage F -f O"];
+        one_of(rng, &lines).into()
     }),
     ("a space too many", |rng, _, _| {
-        let some = *rng.pick(&GOOD[..6]);
+        let some = *rng.pick(&["check F", "list F", "normal F O", "adopt -f F O"]);
         let mut places: Vec<usize> = some.match_indices(' ').map(|(at, _)| at).collect();
         places.extend([0, some.len()]);
         let at = *rng.pick(&places);
@@ -140,11 +153,11 @@ const KINDS: [(&str, Line); 23] = [
         (*rng.pick(&outputs)).into()
     }),
     ("output is a folder", |rng, _, _| {
-        let starts = ["normal G", "link G G", "normal -f G", "link -f G G", "adopt G"];
-        format!("{} {SUBFOLDER}", rng.pick(&starts)).into()
+        let starts = ["normal G", "link G G", "normal -f G", "link -f G G", "adopt G", "salvage G"];
+        format!("{} {SUBFOLDER}", one_of(rng, &starts)).into()
     }),
     ("output name too long", |rng, _, _| {
-        let start = rng.pick(&["normal", "normal -f", "adopt", "adopt -f"]);
+        let start = one_of(rng, &["normal", "normal -f", "adopt", "adopt -f", "salvage"]);
         format!("{start} G {}", "o".repeat(*rng.pick(&[256, 5_000]))).into()
     }),
 ];

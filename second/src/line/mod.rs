@@ -12,7 +12,7 @@ mod stories;
 mod supply;
 
 use crate::in_parallel;
-use crate::making::rng::Rng;
+use crate::making::{generate, rng::Rng};
 use crate::tally::Tally;
 use answers::Bytes;
 use script::Script;
@@ -35,6 +35,15 @@ fn folder(name: &str, may_be_in_memory: bool) -> io::Result<PathBuf> {
     fs::create_dir(&folder).map(|()| folder)
 }
 
+/// Whether the program has the command `salvage`. Until it has, nothing of it is compared here: its
+/// stories, its lines and its floors are passed over.
+pub const SALVAGES: bool = false;
+
+/// Whether lines that start so, or a row of this name, are compared.
+pub fn is_compared(start: &str) -> bool {
+    SALVAGES || !start.starts_with("salvage")
+}
+
 /// The k-th of all batches: all commands mixed.
 fn batch(s: &mut Script, supply: &Supply, k: usize) {
     let one = stories::placed(s);
@@ -45,12 +54,17 @@ fn batch(s: &mut Script, supply: &Supply, k: usize) {
     for _ in 0..8 {
         stories::tabled(s);
         stories::looked(s);
+        stories::piled(s);
+        let (wrecked, good) = (generate::wrecked(&mut s.rng), stories::good(&mut s.rng));
+        stories::salvaged(s, wrecked);
+        stories::salvaged(s, good);
         stories::linked(s);
         stories::normalised(s);
     }
     let bad = supply.refused(k);
     for i in 0..4 {
         stories::rewritten(s, bad[i % bad.len()]);
+        stories::piled_with(s, bad[(5 * i + k) % bad.len()]);
         stories::in_place(s);
         stories::by_other_names(s);
         stories::over_links(s);
@@ -84,9 +98,15 @@ fn alone(s: &mut Script, supply: &Supply, k: usize) {
     stories::asked(s, 12);
     stories::tabled(s);
     stories::looked(s);
+    stories::piled(s);
+    for _ in 0..3 {
+        let wrecked = generate::wrecked(&mut s.rng);
+        stories::salvaged(s, wrecked);
+    }
     stories::every_answer(s);
     let bad = supply.refused(k);
     bad.iter().for_each(|bytes| stories::checked(s, bytes, &one));
+    stories::piled_with(s, bad[(5 * k) % bad.len()]);
     stories::normalised(s);
     stories::genuine(s, part(&supply.genuine, k, 40));
     stories::linked(s);

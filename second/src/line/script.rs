@@ -1,8 +1,8 @@
 //! Commands on the files of a folder, each with what it must answer and write.
 
 use super::answers::{self, Bytes, Outcome, Words};
-use super::iids;
-use crate::library::{looks::LOOKED, questions::Question};
+use super::{iids, SALVAGES};
+use crate::library::{looks::LOOKED, piles::STEP, questions::Question};
 use crate::making::rng::Rng;
 use crate::program::format::{refusal, Refusal};
 use crate::tally::{LINK, NUMBER};
@@ -217,7 +217,7 @@ impl Script {
     /// writes, and more words after them.
     fn command(&mut self, start: &[What], names: &[&Name], more: Words, answer: To) -> &mut Step {
         let command = start[0];
-        let writes = matches!(command, "normal" | "link" | "adopt");
+        let writes = matches!(command, "normal" | "link" | "adopt" | "salvage");
         let (files, out) = names.split_at(names.len() - usize::from(writes));
         let names = names.iter().map(|name| name.word.clone().into_bytes());
         let words = start.iter().map(|word| word.as_bytes().to_vec());
@@ -242,9 +242,10 @@ impl Script {
         let told = outcome.refusal.map(|(which, refusal)| {
             let number = NUMBER[refusal.number as usize];
             counts.push(("refused", number, Some(refusal.place as u64)));
-            let whose = if which == 0 { files } else { &files[usize::from(which) - 1..][..1] };
+            let whose = if which == 0 { files } else { &files[which - 1..][..1] };
             // The reason is fixed for what is read as the check reads it.
-            let own = reads.get(usize::from(which).wrapping_sub(1)).filter(|_| command != "adopt");
+            let is_read_otherwise = matches!(command, "adopt" | "salvage");
+            let own = reads.get(which.wrapping_sub(1)).filter(|_| !is_read_otherwise);
             let reason = own.map_or_else(Default::default, |file| answers::reason(file, refusal));
             (refusal, whose.iter().map(|file| file.word.clone()).collect(), reason)
         });
@@ -317,12 +318,19 @@ impl Script {
         self.command(&[command], &[file], words, &|files| answers::asked(command, files[0], q))
     }
 
-    /// Normalises one file or links two, and names the output last; `order` counts where a pair is
+    /// Normalises one file or links two or more, and names the output last; `order` counts where a pair is
     /// linked both ways. The papers leave open what a refused file with one that can't be read
     /// gives.
     pub fn write(&mut self, names: &[&Name], order: Option<What>, forced: bool) {
-        let command = if names.len() == 2 { "normal" } else { "link" };
-        let step = self.write_by(command, names, forced, &answers::written);
+        let (command, answer): (_, To) = match names.len() {
+            2 => ("normal", &answers::normal),
+            _ => ("link", &answers::linked),
+        };
+        let step = self.write_by(command, names, forced, answer);
+        if names.len() > 3 {
+            step.counts.push(("pile", step.outcome.what, None));
+            step.counts.extend(last_step(step).map(|step| ("pile", step, None)));
+        }
         if let (Some(order), Some((why, ..))) = (order, &step.told) {
             if !refusal::is_of_file(why.number) {
                 step.counts.push((LINK[why.number as usize], order, Some(why.place as u64)));
@@ -363,6 +371,22 @@ impl Script {
     pub fn link(&mut self, first: &Name, second: &Name, out: &Name) {
         let forced = self.forced();
         self.write(&[first, second, out], None, forced);
+    }
+
+    /// Likewise.
+    pub fn salvage(&mut self, file: &Name, out: &Name) {
+        if !SALVAGES {
+            return;
+        }
+        let forced = self.forced();
+        let step = self.write_by("salvage", &[file, out], forced, &answers::salvaged);
+        let text = step.outcome.text.clone().unwrap_or_default();
+        for line in String::from_utf8_lossy(&text).lines().skip(1) {
+            let numbers: Vec<usize> =
+                line.split(' ').filter_map(|word| word.parse().ok()).collect();
+            let [_, number, place] = numbers[..] else { continue };
+            step.counts.push(("salvaged", NUMBER[number], Some(place as u64)));
+        }
     }
 
     /// Whether an output is forced.
@@ -421,6 +445,13 @@ fn owners(step: &Step) -> Option<Count> {
         _ => "from eight or more interfaces",
     };
     Some(("table", what, None))
+}
+
+/// The link at which a pile was refused.
+fn last_step(step: &Step) -> Option<What> {
+    let text = std::str::from_utf8(step.outcome.text.as_ref()?).ok()?;
+    let (_, number) = text.split_once(" step ")?;
+    Some(STEP[number.parse::<usize>().ok()?.min(STEP.len() - 1)])
 }
 
 /// How many entries were looked at.

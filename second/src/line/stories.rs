@@ -1,11 +1,14 @@
 //! Stories: commands that belong together, about generated files.
 
 use super::script::{Name, Script, FORCED, INPUT, SUBFOLDER};
-use super::{answers::Bytes, malformed};
-use crate::library::{links::ORDERS, looks, questions::question, questions::Question};
+use super::{answers::Bytes, malformed, SALVAGES};
+use crate::library::{links::ORDERS, looks, piles, questions::question, questions::Question};
 use crate::making::{builder::*, generate, genuine, genuine::Genuine};
 use crate::making::{hostile, model, pairs, rng::Rng};
 use crate::program::{check::check, listing::MAX_INPUT};
+
+/// As many files as a link takes.
+pub const MAX_PILE: usize = 256;
 
 /// A file and how it counts.
 pub type Named = (&'static str, Vec<u8>);
@@ -146,8 +149,13 @@ pub fn checked(script: &mut Script, bytes: &Bytes, good: &Name) {
     let file = script.place(bytes.clone());
     script.story();
     script.check(&file);
-    match script.rng.below(6) {
+    match script.rng.below(8) {
         0 => script.list(&file),
+        3 | 4 => {
+            let out = output(script);
+            script.salvage(&file, &out);
+            script.check(&out);
+        }
         1 => {
             let out = output(script);
             script.normal(&file, &out);
@@ -225,6 +233,25 @@ pub fn genuine<'m>(script: &mut Script, others: impl Iterator<Item = &'m Genuine
     others.for_each(|made| adopted(script, made));
 }
 
+/// A file, of which descriptors may be bad. An accepted one comes out as its normal form, as what is
+/// left does when it is salvaged again.
+pub fn salvaged(script: &mut Script, bytes: Vec<u8>) {
+    if !SALVAGES {
+        return;
+    }
+    let is_good = check(&bytes).is_ok();
+    let file = script.place(bytes);
+    let (out, again, normal) = (output(script), script.free(), script.free());
+    script.story();
+    script.salvage(&file, &out);
+    script.check(&out);
+    questions(script, &out, 3);
+    let good = if is_good { &file } else { &out };
+    script.salvage(good, &again);
+    script.normal(good, &normal);
+    script.law(["salvaged: as normalised", "salvaged: neither"], &again, &normal);
+}
+
 /// A pair in both orders.
 pub fn pair(script: &mut Script, files: &[Bytes; 2]) {
     let [a, b] = files.each_ref().map(|bytes| script.place(bytes.clone()));
@@ -251,6 +278,47 @@ pub fn triple(script: &mut Script, files: [&Bytes; 3]) {
     script.link(&b, &c, &bc);
     script.link(&a, &bc, &a_bc);
     script.law(["grouping: same bytes", "grouping: neither"], &ab_c, &a_bc);
+}
+
+/// A pile in two orders, the second with a repeat; now and then as many files as can be.
+pub fn piled(script: &mut Script) {
+    let count = script.rng.range(3, 6);
+    let (_, libs) = piles::pile_of(&mut script.rng, count);
+    let mut files: Vec<Name> = libs.iter().map(|lib| script.place(lib.bytes())).collect();
+    if script.rng.percent(10) {
+        let more = MAX_PILE - files.len();
+        files.extend((0..more).map(|i| files[i % count].clone()).collect::<Vec<_>>());
+    }
+    let outs = [0; 2].map(|_| script.free());
+    script.story();
+    for out in &outs {
+        let forced = script.forced();
+        let names: Vec<&Name> = files.iter().chain([out]).collect();
+        script.write(&names, None, forced);
+        if files.len() == MAX_PILE {
+            script.count("pile", "of 256 files");
+        } else {
+            files.push(files[0].clone());
+        }
+        script.rng.shuffle(&mut files);
+    }
+    script.law(["pile: same bytes", "pile: neither"], &outs[0], &outs[1]);
+    if script.content(&outs[0]).is_some() {
+        questions(script, &outs[0], 4);
+    }
+}
+
+/// A pile with a file that is refused, at any place.
+pub fn piled_with(script: &mut Script, bad: &Bytes) {
+    let count = script.rng.range(2, 5);
+    let (_, libs) = piles::pile_of(&mut script.rng, count);
+    let mut files: Vec<Name> = libs.iter().map(|lib| script.place(lib.bytes())).collect();
+    let (bad, out) = (script.place(bad.clone()), output(script));
+    files.insert(script.rng.below(count + 1), bad);
+    script.story();
+    let forced = script.forced();
+    script.write(&files.iter().chain([&out]).collect::<Vec<_>>(), None, forced);
+    script.check(&out);
 }
 
 /// A file with itself and with an empty one, as normalising.
@@ -398,6 +466,7 @@ pub fn no_ordinary_file(script: &mut Script, bad: &Bytes) {
         script.link(&a, &a, out);
         script.normal(&bad, out);
         script.adopt(&a, out);
+        script.salvage(&a, out);
         script.link(&a, &bad, out);
     }
 }
@@ -422,7 +491,7 @@ pub fn standard_input(script: &mut Script, bytes: &Bytes) {
     let (file, other, out) = (script.place(bytes.clone()), placed(script), output(script));
     let input = Name { path: file.path, word: INPUT.to_string() };
     script.story();
-    for turn in 0..7 {
+    for turn in 0..9 {
         match turn {
             0 => script.check(&input),
             1 => script.list(&input),
@@ -430,6 +499,8 @@ pub fn standard_input(script: &mut Script, bytes: &Bytes) {
             3 => script.link(&input, &other, &out),
             4 => script.link(&other, &input, &out),
             5 => script.adopt(&input, &out),
+            6 => script.write(&[&other, &input, &other, &out], None, true),
+            7 => script.salvage(&input, &out),
             _ => questions(script, &input, 2),
         }
         script.count("file", "standard input");
@@ -525,6 +596,7 @@ pub fn large_file(script: &mut Script, (what, bytes): &Named) {
     let out = output(script);
     script.normal(&file, &out);
     script.adopt(&file, &out);
+    script.salvage(&file, &out);
     script.check(&out);
     script.link(&file, &small, &out);
     script.link(&small, &file, &out);

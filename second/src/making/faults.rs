@@ -47,6 +47,10 @@ impl Fault {
         patched.chain(self.needs.iter().map(|at| (*at, at + 4)))
     }
 
+    pub fn is_in_descriptor(&self) -> bool {
+        self.rank.0 == DESCRIPTORS
+    }
+
     pub fn is_apart(&self, other: &Fault) -> bool {
         self.ranges().all(|(a, b)| other.ranges().all(|(c, d)| b <= c || d <= a))
     }

@@ -1,6 +1,6 @@
 //! Good typelibs of every shape, from fixed seeds.
 
-use super::{builder::*, model::KeyOf, rng::Rng};
+use super::{builder::*, faults::faults, faults::Fault, model::KeyOf, rng::Rng};
 use std::collections::{HashMap, HashSet};
 use std::iter::repeat_with;
 
@@ -510,6 +510,30 @@ pub fn chain(count: usize, upward: bool) -> Typelib {
         lib.resolve(i, Descriptor::below(if upward { (i + 2) % (count + 1) } else { i }));
     }
     lib
+}
+
+/// A file of which descriptors are bad, some entries' own, and parents lead anywhere.
+pub fn wrecked(rng: &mut Rng) -> Vec<u8> {
+    let lib = match rng.below(3) {
+        0 => random(rng, MEDIUM),
+        1 => wide(rng, 40),
+        _ => family(rng),
+    };
+    let lib = Typelib { sharing: Sharing::None, ..lib };
+    let built = lib.build();
+    let mut bytes = built.bytes.clone();
+    if rng.percent(60) {
+        for spot in built.spots.iter().filter(|spot| spot.field == Field::Parent) {
+            let parent = rng.below(lib.entries.len() + 1) as u16;
+            bytes[spot.at..spot.at + 2].copy_from_slice(&parent.to_be_bytes());
+        }
+    }
+    let mut faults = faults(&lib, &built, rng.number());
+    faults.retain(Fault::is_in_descriptor);
+    for _ in 0..rng.below(6).min(faults.len()) {
+        rng.pick(&faults).apply(&mut bytes);
+    }
+    bytes
 }
 
 /// Unresolved entries, so many of them without IID.

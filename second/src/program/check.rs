@@ -22,16 +22,16 @@ pub fn accept(file: &[u8]) -> Result<Accepted<'_>, Refusal> {
 }
 
 /// A file whose header is good.
-struct Typelib<'a> {
+pub(super) struct Typelib<'a> {
     file: &'a [u8],
     minor: u8,
-    n: usize,
+    pub n: usize,
     directory: usize,
     pool: usize,
 }
 
 /// Header and positions: 1 to 8 in number order, with 29 and 30 in the position of 6.
-fn header(file: &[u8]) -> Result<Typelib<'_>, Refusal> {
+pub(super) fn header(file: &[u8]) -> Result<Typelib<'_>, Refusal> {
     let (n, pool) = head(file)?;
     let (minor, directory) = (file[17], word(file, 24));
     let is_so = match n {
@@ -100,12 +100,12 @@ pub(crate) fn is_identifier(bytes: &[u8]) -> bool {
 }
 
 impl<'a> Typelib<'a> {
-    fn entry(&self, i: usize) -> usize {
+    pub fn entry(&self, i: usize) -> usize {
         self.directory + ENTRY * i
     }
 
     /// Annotations: 9 at the first byte of the one at fault.
-    fn annotations(&self) -> Result<(), Refusal> {
+    pub fn annotations(&self) -> Result<(), Refusal> {
         let limit = if self.n == 0 { self.pool } else { self.directory };
         let before_limit = &self.file[..limit];
         let mut at = HEADER;
@@ -127,7 +127,7 @@ impl<'a> Typelib<'a> {
     }
 
     /// The directory, entry by entry: 10, name, namespace, 12. Gives the keys.
-    fn directory(&self) -> Result<Vec<Key<'a>>, Refusal> {
+    pub fn directory(&self) -> Result<Vec<Key<'a>>, Refusal> {
         let mut keys = Vec::with_capacity(self.n);
         let mut before = &[0; 16][..];
         for i in 0..self.n {
@@ -148,7 +148,7 @@ impl<'a> Typelib<'a> {
     }
 
     /// Where the pool pointer in `field` leads: nothing when absent, else a place in the pool.
-    fn target(&self, field: usize) -> Result<Option<usize>, Refusal> {
+    pub fn target(&self, field: usize) -> Result<Option<usize>, Refusal> {
         match word(self.file, field) {
             0 => Ok(None),
             p if p <= self.file.len() - self.pool => Ok(Some(self.pool + p - 1)),
@@ -180,15 +180,20 @@ impl<'a> Typelib<'a> {
                 continue;
             };
             if good.insert(start) {
-                Reader { lib: self, file: self.file, at: start }.descriptor(&mut accessors)?;
+                self.descriptor(start, &mut accessors)?;
             }
             parents.push(u16::from_be_bytes([self.file[start], self.file[start + 1]]));
         }
         Ok(parents)
     }
 
+    /// One descriptor; the list is for what is met in it. Gives the parent.
+    pub fn descriptor(&self, at: usize, list: &mut Vec<Accessor<'a>>) -> Result<u16, Refusal> {
+        Reader { lib: self, file: self.file, at }.descriptor(list)
+    }
+
     /// 18 at the lowest entry whose key stood earlier.
-    fn unique_keys(&self, keys: &[Key<'a>]) -> Result<(), Refusal> {
+    pub fn unique_keys(&self, keys: &[Key<'a>]) -> Result<(), Refusal> {
         let mut stood = HashSet::with_capacity(keys.len());
         match keys.iter().position(|key| !stood.insert(key)) {
             Some(i) => refused(refusal::KEY_TWICE, self.entry(i)),
@@ -214,7 +219,7 @@ impl<'a> Typelib<'a> {
 }
 
 /// A getter or a setter of the interface being read: name, whether it is a setter, position.
-type Accessor<'a> = (&'a [u8], bool, u16);
+pub(super) type Accessor<'a> = (&'a [u8], bool, u16);
 
 /// Whether every getter and setter of one name stand next to each other, the getter first.
 fn pairs_stand(accessors: &mut [Accessor]) -> bool {
@@ -289,7 +294,7 @@ impl<'a> Reader<'_, 'a> {
         Ok(count)
     }
 
-    fn descriptor(mut self, accessors: &mut Vec<Accessor<'a>>) -> Result<(), Refusal> {
+    fn descriptor(mut self, accessors: &mut Vec<Accessor<'a>>) -> Result<u16, Refusal> {
         let start = self.at;
         let parent = self.pair()?;
         refuse_if(usize::from(parent) > self.lib.n, refusal::INDEX, start)?;
@@ -308,7 +313,7 @@ impl<'a> Reader<'_, 'a> {
         let flags = self.byte()?;
         refuse_if(flags & reserved_in_interface(self.lib.minor) != 0, refusal::RESERVED, place)?;
         refuse_if(constructors > 1 || !pairs_stand(accessors), refusal::RULE, start)?;
-        Ok(())
+        Ok(parent)
     }
 
     /// Method: its flags and name.

@@ -1,5 +1,5 @@
 //! The independent program: the check of a typelib, its questions, listing, tables, normal form and
-//! links, and libxpt's files, written from the documents and the readings alone.
+//! links, libxpt's files and what is left of bad ones, written from the documents and the readings alone.
 
 pub mod accepted;
 pub mod adopt;
@@ -9,6 +9,7 @@ pub mod link;
 pub mod listing;
 pub mod normal;
 pub mod questions;
+pub mod salvage;
 pub mod table;
 
 pub use format::*;
