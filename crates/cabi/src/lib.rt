@@ -12,6 +12,7 @@ ghost use Rattle.cabi.specs.Kind.{askKind};
 mod kinds;
 mod links;
 mod piles;
+mod salvages;
 
 // What a call returns.
 pub const ANSWERED: i32 = 0;

@@ -5,6 +5,8 @@ use mathlib.Core.Path.{_≡_}
 use mathlib.Core.Bool.{Bool}
 use Prim.Native.Nat.{ℕ, _≤_}
 use lib.ListN.{length}
+use Rattle.number.proofs.Choice.{both}
+use Rattle.reading.specs.Got.{Got, got, bad}
 use Rattle.reading.specs.declared.Refusal.{Refusal}
 use Rattle.reader.specs.Reader.{decode}
 use Rattle.joining.specs.Outcome.{Outcome, refused, written, inRoom, normalisedAs, refusal}
@@ -18,6 +20,9 @@ use Rattle.link.specs.declared.Which.the-variants.{Union}
 use Rattle.adopt.specs.Adopt.{adoptIn, adoptAnswer}
 use Rattle.link.specs.Outcome.{normaliseIn, normalOf, normaliseAnswer, linkIn, linkOf, linkedAs, linkAnswer, refusalOf}
 use Rattle.pile.proofs.Rooms.{Fits, in-room}
+use Rattle.salvaging.specs.Text.{salvageIn, salvageAnswer}
+use Rattle.mend.specs.Left.{Left, left, readLeft}
+use Rattle.salvage.specs.Salvage.{inLists, salvageOf}
 use Rattle.commands.specs.declared.Save.{Save}
 use Rattle.commands.specs.Answer.{normalisedSave, linkedSave, verbAnswer, taskAnswer, answerOf, SavedIn}
 
@@ -37,6 +42,22 @@ pub adopt-saves : (s out : List ℕ) → SavedIn (length out) (normalisedSave (a
 unfolding adoptAnswer adoptIn
 adopt-saves s out = normalised-saves (length out) _
 
+salvage-fits : (room : ℕ) (s : List ℕ) → Fits room (salvageIn room s)
+unfolding salvageIn salvageOf inLists
+salvage-fits room s = go (readLeft s)
+  where
+    go : (g : Got Left) → Fits room (salvageOf (record { indexes = 1024; numbers = 1024; places = 1024; bytes = room }) g)
+    go (bad n q) = tt
+    go (got (left t rs) e) = both (λ (o : Outcome Refusal). Fits room o) _ _ _ (λ _. tt) (λ _. in-room refusal room _)
+
+salvage-saves : (s out : List ℕ) → SavedIn (length out) (normalisedSave (salvageAnswer s out))
+unfolding salvageAnswer normalisedAs normalisedSave
+salvage-saves s out = go (salvageIn (length out) s) (salvage-fits (length out) s)
+  where
+    go : (p : Outcome Refusal) → Fits (length out) p → SavedIn (length out) (normalisedSave (normalisedAs p))
+    go (refused x) h = tt
+    go (written bytes) h = h
+
 link-saves : (a b out : List ℕ) → SavedIn (length out) (linkedSave (linkAnswer a b out))
 unfolding linkAnswer linkIn linkedAs linkedSave
 link-saves a b out = go (inRoom (refusalOf Union) (length out) (linkOf (decode a) (decode b))) (in-room (refusalOf Union) (length out) (linkOf (decode a) (decode b)))
@@ -53,6 +74,7 @@ verb-saves b verb.Table ws first second out = tt
 verb-saves b verb.Normal ws first second out = normal-saves first out
 verb-saves b verb.Adopt ws first second out = adopt-saves first out
 verb-saves b verb.Link ws first second out = link-saves first second out
+verb-saves b verb.Salvage ws first second out = salvage-saves first out
 verb-saves b verb.Unknown ws first second out = tt
 
 pub answer-saves : (separator : ℕ) (line first second out : List ℕ) (n : ℕ) {s : Save} → length out ≡ n → s ≡ answerOf separator line first second out .save → SavedIn n s

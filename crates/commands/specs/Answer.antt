@@ -22,6 +22,7 @@ use Rattle.link.specs.Outcome.{normaliseAnswer, normaliseBuffer, linkAnswer, li
 use Rattle.reader.specs.Reader.{checkOf}
 use Rattle.adopt.specs.Adopt.{adoptAnswer, adoptBuffer}
 use Rattle.outcomes.specs.Lines.{sayNormalised, sayAdopted, sayLinked}
+use Rattle.salvaging.specs.Text.{salvageSaying, salvageAnswer, salvageBuffer}
 use Rattle.listed.specs.declared.Opened.{Opened}
 use Rattle.listed.specs.Text.{listSaying}
 use Rattle.listed.specs.Rest.{noRest, Opens}
@@ -79,6 +80,8 @@ verbAnswer b verb.Adopt ws first second out =
 verbAnswer b verb.Link ws first second out =
     let l : Linked = linkAnswer first second out in
     record { saying = sayLinked l; whose = linkedWhose l; save = linkedSave l; output = linkBuffer first second out }
+verbAnswer b verb.Salvage ws first second out =
+    record { saying = salvageSaying b first out; whose = First; save = normalisedSave (salvageAnswer first out); output = salvageBuffer first out }
 verbAnswer b verb.Unknown ws first second out = answered (mistaken (mistakeText (Words verb.Unknown))) out
 
 -- a pile is answered file by file (crate `piling`), and here nothing is said of it

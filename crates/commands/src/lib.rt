@@ -4,6 +4,7 @@ use link::Linked;
 use link::Which;
 use listed::Opened;
 use listed::Rest;
+use number::FILE_LIMIT;
 use sayings::ANSWER_ROOM;
 use sayings::Said;
 use sayings::Why;
@@ -140,6 +141,27 @@ fn link(first: &[u8], second: &[u8], out: &mut [u8], text: &mut [u8; ANSWER_ROOM
     }
 }
 
+// The command `salvage`; `work` has room for a copy of the file.
+fn salvage(
+    first: &[u8],
+    in_batch: bool,
+    out: &mut [u8],
+    work: &mut [u8; FILE_LIMIT],
+    text: &mut [u8; ANSWER_ROOM],
+) -> Reply
+    ensures { λ r. ⌜ ((ws : List (List ℕ)) (second : List ℕ) → Replies «in_batch» (verbAnswer «in_batch» verb.Salvage ws (now (first .entry)) second (now (out .entry))) (now (first .entry)) (now (text .entry)) r (now (out .exit)) (now (text .exit))) ⌝ }
+{
+    let told = salvaging::salvage(first, in_batch, work, out, text);
+    let said = told.said;
+    let done = told.done;
+    Reply {
+        said,
+        rest: listed::no_rest(),
+        whose: Which::First,
+        save: normalised_save(done),
+    }
+}
+
 // The command `list`.
 fn list(file: &[u8], in_batch: bool, text: &mut [u8; ANSWER_ROOM]) -> Reply
     ensures { λ r. ⌜ ((ws : List (List ℕ)) (second out : List ℕ) → Replies «in_batch» (verbAnswer «in_batch» verb.List ws (now (file .entry)) second out) (now (file .entry)) (now (text .entry)) r out (now (text .exit))) ⌝ }
@@ -174,6 +196,7 @@ fn run(
     first: &[u8],
     second: &[u8],
     out: &mut [u8],
+    work: &mut [u8; FILE_LIMIT],
     text: &mut [u8; ANSWER_ROOM],
 ) -> Reply
     ensures { λ r. ⌜ Replies (inBatch separator) (verbAnswer (inBatch separator) verb (wordsOf separator (now (line .entry))) (now (first .entry)) (now (second .entry)) (now (out .entry))) (now (first .entry)) (now (text .entry)) r (now (out .exit)) (now (text .exit)) ⌝ }
@@ -185,24 +208,26 @@ fn run(
         Verb::Normal => normal(first, out, text),
         Verb::Adopt => adopt(first, out, text),
         Verb::Link => link(first, second, out, text),
+        Verb::Salvage => salvage(first, tasks::in_batch(separator), out, work, text),
         Verb::Unknown => answered(tasks::tell(Mistake::Words(Verb::Unknown), text)),
     }
 }
 
-// The answer to a line about the bytes of the file or files that it names; a command that reads one file does not look at the second, and a pile is answered elsewhere (crate `piling`).
+// The answer to a line about the bytes of the file or files that it names, with room for a copy of one; a command that reads one file does not look at the second, and a pile is answered elsewhere (crate `piling`).
 pub fn answer(
     line: &[u8],
     separator: u8,
     first: &[u8],
     second: &[u8],
     out: &mut [u8],
+    work: &mut [u8; FILE_LIMIT],
     text: &mut [u8; ANSWER_ROOM],
 ) -> Reply
     ensures { λ r. ⌜ Replies (inBatch separator) (answerOf separator (now (line .entry)) (now (first .entry)) (now (second .entry)) (now (out .entry))) (now (first .entry)) (now (text .entry)) r (now (out .exit)) (now (text .exit)) ⌝ }
 {
     match tasks::task_of(line, separator) {
         Task::Mistaken(what) => answered(tasks::tell(what, text)),
-        Task::Run(verb) => run(verb, line, separator, first, second, out, text),
+        Task::Run(verb) => run(verb, line, separator, first, second, out, work, text),
         Task::Pile(_) => answered(silent()),
     }
 }

@@ -36,6 +36,7 @@ verbWords verb.Table = ascii "table FILE NAMESPACE NAME"
 verbWords verb.Normal = ascii "normal [-f] FILE OUT"
 verbWords verb.Adopt = ascii "adopt [-f] FILE OUT"
 verbWords verb.Link = ascii "link [-f] A B .. OUT"
+verbWords verb.Salvage = ascii "salvage [-f] FILE OUT"
 verbWords verb.Unknown = []
 
 unfoldable pub lineTooLongText : List ℕ

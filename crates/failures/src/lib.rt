@@ -84,6 +84,7 @@ pub fn put_words(verb: Verb, text: &mut [u8; ROOM], at: usize) -> usize
         Verb::Normal => text::put_bytes(text, at, b"normal [-f] FILE OUT"),
         Verb::Adopt => text::put_bytes(text, at, b"adopt [-f] FILE OUT"),
         Verb::Link => text::put_bytes(text, at, b"link [-f] A B .. OUT"),
+        Verb::Salvage => text::put_bytes(text, at, b"salvage [-f] FILE OUT"),
         Verb::Unknown => at,
     }
 }

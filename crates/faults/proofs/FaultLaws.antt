@@ -18,7 +18,8 @@ use Rattle.head.proofs.HeaderLaws.{header-read, header-refused}
 use Rattle.typelib.specs.Own.{Settled}
 use Rattle.broken.specs.Stop.{isBad}
 use Rattle.faults.specs.declared.Fault.{Fault}
-use Rattle.faults.specs.Fault.{noFault, refusedOwn, faultWith, faultIn}
+use Rattle.typelib.specs.Typelib.{poolOf, contextOf}
+use Rattle.faults.specs.Fault.{noFault, refusedOwn, ownFault, faultWith, faultIn, ownIn}
 
 -- ---- descriptors that are not refused
 
@@ -47,3 +48,13 @@ module _ (s : List ℕ) {r : Head} (w : r ≡ headOf (readHeader s)) (why : Refu
   pub fault-none : (x : Refusal) → r ≡ Refused x → record { entry = 0; rule = 0 } ≡ faultIn (readHeader s) s why
   unfolding faultIn noFault
   fault-none x q = rw (header-refused s w q) refl
+
+  -- of entry k
+  module _ (k : ℕ) where
+    pub own-read : (h : Header) {z : Fault} → r ≡ Read h → z ≡ ownFault (contextOf h) s (poolOf h s) (h .count) (h .directory) why k → z ≡ ownIn (readHeader s) s k why
+    unfolding ownIn
+    own-read h q v = rw (header-read s w q) v
+
+    pub own-none : (x : Refusal) → r ≡ Refused x → record { entry = 0; rule = 0 } ≡ ownIn (readHeader s) s k why
+    unfolding ownIn noFault
+    own-none x q = rw (header-refused s w q) refl

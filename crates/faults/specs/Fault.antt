@@ -56,3 +56,13 @@ faultOf s why =
     if why .no <? 10 then noFault else
     if 19 <? why .no then noFault else
     faultIn (readHeader s) s why
+
+-- ---- of a refusal that is told of an entry: of the descriptor of entry k, from 0
+
+unfoldable pub ownIn : Got Header → List ℕ → ℕ → Refusal → Fault
+ownIn (got h e) s k why = ownFault (contextOf h) s (poolOf h s) (h .count) (h .directory) why k
+ownIn (bad n q) s k why = noFault
+
+-- of entry i, from 1
+unfoldable pub faultAt : List ℕ → ℕ → Refusal → Fault
+faultAt s i why = if i =? 0 then noFault else ownIn (readHeader s) s (i - 1) why

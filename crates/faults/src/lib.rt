@@ -5,7 +5,8 @@ ghost use lib.ListN.{length};
 ghost use Rattle.number.specs.Limits.{fileLimit};
 ghost use Rattle.head.specs.Says.{HeaderAt};
 ghost use Rattle.typelib.specs.Directory.{Lies};
-ghost use Rattle.faults.specs.Fault.{firstRefused, ownFault, entryAt, faultWith, faultOf};
+ghost use Rattle.typelib.specs.Typelib.{poolOf, contextOf};
+ghost use Rattle.faults.specs.Fault.{firstRefused, ownFault, entryAt, faultWith, faultOf, faultAt};
 use head::Head;
 use head::Header;
 use number::ENTRY_WIDTH;
@@ -117,6 +118,36 @@ pub fn fault_of(file: &[u8], why: Refusal) -> Fault
     }
     match head::read_header(file) {
         Head::Read(h) => fault_with(file, h, why),
+        Head::Refused(x) => Fault { entry: 0, rule: 0 },
+    }
+}
+
+// The fault of a refusal in the descriptor of entry k, from 0, of a file with the header h.
+fn own_with(file: &[u8], h: Header, why: Refusal, k: usize) -> Fault
+    requires { ⌜ HeaderAt (now file) h ⌝ }
+    ensures { λ r. ⌜ r ≡ ownFault (contextOf h) (now (file .entry)) (poolOf h (now (file .entry))) (h .count) (h .directory) why k ⌝ }
+{
+    let n = h.count;
+    let d = h.directory;
+    let pool = h.pool;
+    let minor = h.minor as usize;
+    let c = Context {
+        base: pool,
+        minor,
+        count: n,
+    };
+    own_fault(file, &file[pool..], c, n, d, why, k)
+}
+
+// The fault of a refusal that is told of entry i, from 1.
+pub fn fault_at(file: &[u8], i: usize, why: Refusal) -> Fault
+    ensures { λ r. ⌜ r ≡ faultAt (now (file .entry)) i why ⌝ }
+{
+    if i == 0 {
+        return Fault { entry: 0, rule: 0 };
+    }
+    match head::read_header(file) {
+        Head::Read(h) => own_with(file, h, why, i - 1),
         Head::Refused(x) => Fault { entry: 0, rule: 0 },
     }
 }

@@ -136,6 +136,7 @@ pub fn answer(
     rows: &[usize; 256],
     store: &[u8; 4210688],
     out: &mut [u8; FILE_LIMIT],
+    work: &mut [u8; FILE_LIMIT],
     text: &mut [u8; ANSWER_ROOM],
 ) -> Reply
     requires { ⌜ Tidy (now rows) kept × Held (filesOf (taskOf separator (now line))) (wordsOf separator (now line)) kept (now rows) (now store) ⌝ }
@@ -148,5 +149,5 @@ pub fn answer(
     let c = second.from;
     let d = second.end;
     let all: &[u8] = store;
-    commands::answer(line, separator, &all[a..b], &all[c..d], out, text)
+    commands::answer(line, separator, &all[a..b], &all[c..d], out, work, text)
 }

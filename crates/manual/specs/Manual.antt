@@ -30,6 +30,7 @@ purposeText verb.Table = ascii "every slot of the interface of this name in orde
 purposeText verb.Normal = ascii "writes the normal form of FILE to OUT"
 purposeText verb.Adopt = ascii "writes a FILE of libxpt, its directory counted from 1, to OUT in the published layout"
 purposeText verb.Link = ascii "writes the union of two files or more, up to 256, to OUT"
+purposeText verb.Salvage = ascii "writes a damaged FILE without its broken descriptors to OUT, and tells index in FILE, refusal and place of each"
 purposeText verb.Unknown = []
 
 -- a line with its words, and one that says what it is for
@@ -39,7 +40,7 @@ entryText v = (((ascii "xpt " ++ verbWords v) ++ (newline ++ ascii "    ")) ++ p
 -- ---- all commands
 
 abbrev pub introText : List ℕ
-introText = ascii "xpt checks, lists, asks, adopts, normalises and links XPCOM typelibs. Each answer is one line on standard output, but for a listing and a table." ++ (newline ++ newline)
+introText = ascii "xpt checks, lists, asks, adopts, normalises, links and salvages XPCOM typelibs. Each answer is one line on standard output, but for a listing, a table and what was salvaged." ++ (newline ++ newline)
 
 -- about a file and its interfaces
 unfoldable pub askingText : List ℕ
@@ -59,7 +60,7 @@ optionText = ascii "xpt COMMAND --help, xpt --version" ++ (newline ++ (ascii "  
 
 -- what writes files, and the rest
 unfoldable pub outputText : List ℕ
-outputText = (((entryText verb.Normal ++ entryText verb.Adopt) ++ entryText verb.Link) ++ batchText) ++ optionText
+outputText = ((((entryText verb.Normal ++ entryText verb.Adopt) ++ entryText verb.Link) ++ entryText verb.Salvage) ++ batchText) ++ optionText
 
 -- what the words stand for
 abbrev pub fileNote : List ℕ
@@ -88,6 +89,7 @@ helpOf verb.Table = entryText verb.Table
 helpOf verb.Normal = entryText verb.Normal
 helpOf verb.Adopt = entryText verb.Adopt
 helpOf verb.Link = entryText verb.Link
+helpOf verb.Salvage = entryText verb.Salvage
 helpOf verb.Unknown = helpText
 
 unfoldable pub versionText : List ℕ

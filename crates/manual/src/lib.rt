@@ -75,6 +75,11 @@ fn put_purpose(verb: Verb, text: &mut [u8; ROOM], at: usize) -> usize
             at,
             b"writes the union of two files or more, up to 256, to OUT",
         ),
+        Verb::Salvage => text::put_bytes(
+            text,
+            at,
+            b"writes a damaged FILE without its broken descriptors to OUT, and tells index in FILE, refusal and place of each",
+        ),
         Verb::Unknown => at,
     }
 }
@@ -113,12 +118,13 @@ fn put_members(text: &mut [u8; ROOM], at: usize) -> usize
 }
 
 fn put_outputs(text: &mut [u8; ROOM], at: usize) -> usize
-    requires { ⌜ at + 1024 ≤ room ⌝ }
-    ensures { λ r. ⌜ Wrote (now (text .entry)) at outputText r (now (text .exit)) × (r ≤ at + 1024) ⌝ }
+    requires { ⌜ at + 1536 ≤ room ⌝ }
+    ensures { λ r. ⌜ Wrote (now (text .entry)) at outputText r (now (text .exit)) × (r ≤ at + 1536) ⌝ }
 {
     let adopt = put_entry(Verb::Normal, text, at);
     let link = put_entry(Verb::Adopt, text, adopt);
-    let batch = put_entry(Verb::Link, text, link);
+    let salvage = put_entry(Verb::Link, text, link);
+    let batch = put_entry(Verb::Salvage, text, salvage);
     let options = text::put_bytes(
         text,
         batch,
@@ -163,7 +169,7 @@ pub fn help(text: &mut [u8; ROOM]) -> usize
     let asking = text::put_bytes(
         text,
         0,
-        b"xpt checks, lists, asks, adopts, normalises and links XPCOM typelibs. Each answer is one line on standard output, but for a listing and a table.\n\n",
+        b"xpt checks, lists, asks, adopts, normalises, links and salvages XPCOM typelibs. Each answer is one line on standard output, but for a listing, a table and what was salvaged.\n\n",
     );
     let members = put_asking(text, asking);
     let outputs = put_members(text, members);
@@ -189,6 +195,7 @@ pub fn help_of(verb: Verb, text: &mut [u8; ROOM]) -> usize
         Verb::Normal => one(Verb::Normal, text),
         Verb::Adopt => one(Verb::Adopt, text),
         Verb::Link => one(Verb::Link, text),
+        Verb::Salvage => one(Verb::Salvage, text),
         Verb::Unknown => help(text),
     }
 }

@@ -1,4 +1,4 @@
-// What normalising, adopting and linking answer, as one line at the front of a buffer and as numbers.
+// What normalising, adopting and linking answer, as one line at the front of a buffer and as numbers; and salvaging, as numbers.
 ghost use mathlib.Core.Path.{_≡_};
 ghost use mathlib.Core.List.{_++_};
 ghost use Prim.Native.Nat.{_≤_};
@@ -10,13 +10,14 @@ ghost use Rattle.sayings.specs.Sayings.{answerRoom, Says, saying};
 ghost use Rattle.text.specs.Line.{space, lineOf};
 ghost use Rattle.printed.specs.Writing.{Wrote};
 ghost use Rattle.numbers.specs.Call.{room};
-ghost use Rattle.outcomes.specs.Numbers.{normalNumbers, linkRefusalNumbers, linkNumbers};
+ghost use Rattle.outcomes.specs.Numbers.{normalNumbers, linkRefusalNumbers, linkNumbers, salvagedNumbers};
 ghost use Rattle.outcomes.specs.Lines.{whichNumber, adoptedText, sayNormalised, sayLinked};
 use joining::Normalised;
 use link::LinkRefusal;
 use link::Linked;
 use link::Which;
 use reading::Verdict;
+use salvage::Salvaged;
 use sayings::ANSWER_ROOM;
 use sayings::Said;
 use sayings::Why;
@@ -132,5 +133,22 @@ pub fn put_linked(a: Linked, answer: &mut [u64])
             answer[1] = n as u64;
         }
         Linked::Refused(x) => put_link_refusal(x, answer),
+    }
+}
+
+// Written: 0, the length and how many entries were changed; refused: 3, number and place.
+pub fn put_salvaged(a: Salvaged, answer: &mut [u64])
+    requires { ⌜ room ≤ length (now answer) ⌝ }
+    ensures { λ _. ⌜ now (answer .exit) ≡ sets (now (answer .entry)) 0 (salvagedNumbers a) ⌝ }
+{
+    match a {
+        Salvaged::Written(left) => {
+            let n = left.length as u64;
+            let changed = left.changed as u64;
+            answer[0] = 0;
+            answer[1] = n;
+            answer[2] = changed;
+        }
+        Salvaged::Refused(why) => numbers::put_refusal(why, answer),
     }
 }

@@ -20,7 +20,7 @@ question : askedText (ascii "a.xpt") 4 ≡ ascii "xpt: a.xpt: refused 20: an ind
 unfolding askedText refusedText whyText whereText placeText keyText sentenceText ownText wordText shownWord shownByte digitsOf digitsWithin if_then_else_ _<?_ _=?_
 question = refl
 
-union : unitedText (ascii "a") (ascii "b") (record { no = 23; place = 1 }) (ascii "A") ≡ ascii "xpt: a with b: refused 23 at interface 1 of the first file, A: one interface has two different descriptors" ++ newline
+union : unitedText (ascii "a") (ascii "b") (record { no = 23; place = 1 }) (ascii "A") ≡ ascii "xpt: a with b: refused 23 at interface 1 of the first, A: one interface has two different descriptors" ++ newline
 unfolding unitedText whyText whereText placeText keyText sentenceText linkText shownWord shownByte digitsOf digitsWithin if_then_else_ _<?_ _=?_
 union = refl
 

@@ -27,7 +27,7 @@ place-plain n place =
     let numbered : (label : List ℕ) → Plain label → Plain (label ++ digitsOf place) = λ label h. plain-append label (digitsOf place) h (plain-digits place) in
     both Plain _ _ _ (λ t. numbered (ascii " at byte ") (plain-text _ refl)) (λ t.
     both Plain _ _ _ (λ t. plain-text _ refl) (λ t.
-    both Plain _ _ _ (λ t. plain-append (ascii " at interface " ++ digitsOf place) (ascii " of the first file") (numbered (ascii " at interface ") (plain-text _ refl)) (plain-text _ refl)) (λ t.
+    both Plain _ _ _ (λ t. plain-append (ascii " at interface " ++ digitsOf place) (ascii " of the first") (numbered (ascii " at interface ") (plain-text _ refl)) (plain-text _ refl)) (λ t.
     both Plain _ _ _ (λ t. numbered (ascii " at the needed length ") (plain-text _ refl)) (λ t.
     both Plain _ _ _ (λ t. plain-text _ refl) (λ t. numbered (ascii " at byte ") (plain-text _ refl))))))
 

@@ -20,7 +20,7 @@ unfoldable pub placeText : ℕ → ℕ → List ℕ
 placeText n place =
     if n <? 20 then ascii " at byte " ++ digitsOf place else
     if n =? 20 then [] else
-    if n <? 25 then (ascii " at interface " ++ digitsOf place) ++ ascii " of the first file" else
+    if n <? 25 then (ascii " at interface " ++ digitsOf place) ++ ascii " of the first" else
     if n =? 27 then ascii " at the needed length " ++ digitsOf place else
     if n <? 29 then [] else
     ascii " at byte " ++ digitsOf place

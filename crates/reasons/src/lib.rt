@@ -18,10 +18,10 @@ ghost use Rattle.reasons.specs.Lengths.{saidLength, lengthText, wrongLen
 // An index in the first of two files, from `at` on.
 fn put_index(place: u64, text: &mut [u8; ROOM], at: usize) -> usize
     requires { ⌜ at + 64 ≤ room ⌝ }
-    ensures { λ r. ⌜ Wrote (now (text .entry)) at ((ascii " at interface " ++ digitsOf place) ++ ascii " of the first file") r (now (text .exit)) × (r ≤ at + 64) ⌝ }
+    ensures { λ r. ⌜ Wrote (now (text .entry)) at ((ascii " at interface " ++ digitsOf place) ++ ascii " of the first") r (now (text .exit)) × (r ≤ at + 64) ⌝ }
 {
     let end = text::put_labelled(text, at, b" at interface ", place);
-    text::put_bytes(text, end, b" of the first file")
+    text::put_bytes(text, end, b" of the first")
 }
 
 // What the place counts, from `at` on.

@@ -1,5 +1,6 @@
 // Lines on standard error: why a file, a question or a link was refused, and what an `error` line on standard output says. Each goes out in one write.
 use failures::ROOM;
+use faults::Fault;
 use reading::Refusal;
 use verbs::Question;
 ghost use mathlib.Core.Path.{_≡_};
@@ -42,11 +43,17 @@ fn faulty_word(question: Question, name: &[u8]) -> u8
     }
 }
 
-// Why a file was refused, with room for the key of the interface that it is of.
-fn refused_by(name: &[u8], file: &[u8], why: Refusal, key: &mut [u8; 512], text: &mut [u8; ROOM])
+// Why something of a file was refused, with room for the key of the interface that it is of.
+fn refused_by(
+    name: &[u8],
+    file: &[u8],
+    why: Refusal,
+    fault: Fault,
+    key: &mut [u8; 512],
+    text: &mut [u8; ROOM],
+)
     requires { ⌜ length (now name) ≤ wordLimit ⌝ }
 {
-    let fault = faults::fault_of(file, why);
     let n = faults::key_of(file, fault.entry, key);
     let all: &[u8] = key;
     let end = reasons::refused(name, why, fault.rule, &all[..n], text);
@@ -57,10 +64,25 @@ fn refused_inside(name: &[u8], file: &[u8], why: Refusal, text: &mut [u8; ROOM])
     requires { ⌜ length (now name) ≤ wordLimit ⌝ }
 {
     let mut key = [0u8; 512];
-    refused_by(name, file, why, &mut key, text);
+    refused_by(name, file, why, faults::fault_of(file, why), &mut key, text);
 }
 
-// The same of a file that was cut or added to.
+// Why the descriptor of entry i, from 1, is not in what was salvaged of a file.
+pub fn changed(name: &[u8], file: &[u8], i: usize, why: Refusal, text: &mut [u8; ROOM])
+    requires { ⌜ length (now name) ≤ wordLimit ⌝ }
+{
+    let mut key = [0u8; 512];
+    refused_by(
+        name,
+        file,
+        why,
+        faults::fault_at(file, i, why),
+        &mut key,
+        text,
+    );
+}
+
+// Why a file was refused that was cut or added to.
 fn refused_length(name: &[u8], file: &[u8], why: Refusal, text: &mut [u8; ROOM])
     requires { ⌜ length (now name) ≤ wordLimit ⌝ }
 {
@@ -68,7 +90,7 @@ fn refused_length(name: &[u8], file: &[u8], why: Refusal, text: &mut [u8; ROOM])
     put(text, end);
 }
 
-// The same of a file whose pool or directory is out of place: libxpt may have written it.
+// Why a file was refused whose pool or directory is out of place: libxpt may have written it.
 fn refused_place(name: &[u8], file: &[u8], why: Refusal, text: &mut [u8; ROOM])
     requires { ⌜ length (now name) ≤ wordLimit ⌝ }
 {

@@ -227,6 +227,25 @@ fn say_saved(
     say_unsaved(line, separator, saved, text)
 }
 
+// On standard error what was changed in what was salvaged, once its file was written.
+fn say_changes(
+    line: &[u8],
+    separator: u8,
+    saved: Saved,
+    kept: Kept,
+    rows: &[usize; 256],
+    store: &[u8; 4210688],
+    out: &mut [u8; FILE_LIMIT],
+    work: &mut [u8; FILE_LIMIT],
+    text: &mut [u8; ROOM],
+)
+    requires { ⌜ (length (now line) ≤ wordLimit) × Tidy (now rows) kept ⌝ }
+{
+    if let Saved::Done = saved {
+        refusals::changes::say(line, separator, kept, rows, store, out, work, text);
+    }
+}
+
 // All files that the line names are in the store.
 fn reply_with(
     line: &[u8],
@@ -235,12 +254,13 @@ fn reply_with(
     rows: &[usize; 256],
     store: &[u8; 4210688],
     out: &mut [u8; FILE_LIMIT],
+    work: &mut [u8; FILE_LIMIT],
     head: &mut [u8; ANSWER_ROOM],
     text: &mut [u8; ROOM],
 ) -> Told
     requires { ⌜ (length (now line) ≤ wordLimit) × (Tidy (now rows) kept × Held (filesOf (taskOf separator (now line))) (wordsOf separator (now line)) kept (now rows) (now store)) ⌝ }
 {
-    let reply = held::answer(line, separator, kept, rows, store, out, head);
+    let reply = held::answer(line, separator, kept, rows, store, out, work, head);
     let said = reply.said;
     let save = reply.save;
     let length = said.length;
@@ -248,7 +268,9 @@ fn reply_with(
         Save::Nothing => say_reply(line, separator, reply, head, kept, rows, store, text),
         Save::FirstBytes(n) => {
             let saved = save_output(line, separator, n, out);
-            say_saved(line, separator, saved, length, head, text)
+            let told = say_saved(line, separator, saved, length, head, text);
+            say_changes(line, separator, saved, kept, rows, store, out, work, text);
+            told
         }
     }
 }
@@ -260,12 +282,23 @@ fn reply(
     rows: &[usize; 256],
     store: &[u8; 4210688],
     out: &mut [u8; FILE_LIMIT],
+    work: &mut [u8; FILE_LIMIT],
     text: &mut [u8; ROOM],
 ) -> Told
     requires { ⌜ (length (now line) ≤ wordLimit) × (Tidy (now rows) kept × Held (filesOf (taskOf separator (now line))) (wordsOf separator (now line)) kept (now rows) (now store)) ⌝ }
 {
     let mut head = [0u8; ANSWER_ROOM];
-    reply_with(line, separator, kept, rows, store, out, &mut head, text)
+    reply_with(
+        line,
+        separator,
+        kept,
+        rows,
+        store,
+        out,
+        work,
+        &mut head,
+        text,
+    )
 }
 
 // The answer, or the line for a file that is wanting.
@@ -277,12 +310,13 @@ fn answer(
     rows: &[usize; 256],
     store: &[u8; 4210688],
     out: &mut [u8; FILE_LIMIT],
+    work: &mut [u8; FILE_LIMIT],
     text: &mut [u8; ROOM],
 ) -> Told
     requires { ⌜ (length (now line) ≤ wordLimit) × (Tidy (now rows) kept × WhereHad (Held (filesOf (taskOf separator (now line))) (wordsOf separator (now line)) kept (now rows) (now store)) wanting) ⌝ }
 {
     match wanting {
-        Wanting::Nothing => reply(line, separator, kept, rows, store, out, text),
+        Wanting::Nothing => reply(line, separator, kept, rows, store, out, work, text),
         Wanting::Input => say_input(text),
         Wanting::First(error) => say_unread(line, separator, 1, error, text),
         Wanting::Second(error) => say_unread(line, separator, 2, error, text),
@@ -310,6 +344,7 @@ fn run_few(
     rows: &mut [usize; 256],
     store: &mut [u8; 4210688],
     out: &mut [u8; FILE_LIMIT],
+    work: &mut [u8; FILE_LIMIT],
     text: &mut [u8; ROOM],
 ) -> Ran
     requires { ⌜ (length (now line) ≤ wordLimit) × Tidy (now rows) kept ⌝ }
@@ -319,7 +354,7 @@ fn run_few(
     let fetched = held::fetch_all(line, separator, roomy, rows, store);
     let kept = fetched.kept;
     let wanting = fetched.wanting;
-    let told = answer(line, separator, wanting, kept, rows, store, out, text);
+    let told = answer(line, separator, wanting, kept, rows, store, out, work, text);
     settle(line, separator, kept, rows, store);
     Ran { kept, told }
 }
@@ -446,7 +481,7 @@ pub fn run(
     if let Task::Pile(n) = task {
         return run_pile(line, separator, n, kept, rows, store, out, work, text);
     }
-    run_few(line, separator, kept, rows, store, out, text)
+    run_few(line, separator, kept, rows, store, out, work, text)
 }
 
 // The line of a batch that was too long.

@@ -21,9 +21,9 @@ use Rattle.sayings.specs.declared.Why.the-variants.{Answered, Refused, M
 use Rattle.sayings.specs.declared.Said.{Said}
 use Rattle.sayings.specs.Texts.{interfaceText, countedText, methodText, constantText}
 
--- room that the line of any answer fits in
+-- room that any answer but a listing or a table fits in: a line, and up to 1,024 of three numbers
 abbrev pub answerRoom : ℕ
-answerRoom = 160
+answerRoom = 65536
 
 -- a line, and why it is said
 pub record Saying : Type 0 where

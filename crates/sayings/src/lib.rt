@@ -1,4 +1,4 @@
-// The one line that tells an answer, its newline included, at the front of a buffer.
+// The text that tells an answer, its newline included, at the front of a buffer.
 ghost use mathlib.Core.Path.{_≡_};
 ghost use mathlib.Core.List.{_++_};
 ghost use Prim.Native.Nat.{ℕ, _+_, _^_, _≤_, _<_};
@@ -21,8 +21,8 @@ use lookup::Slot;
 use lookup::Value;
 use reading::Refusal;
 
-// Room that the line of any answer fits in.
-pub const ANSWER_ROOM: usize = 160;
+// Room that any answer but a listing or a table fits in: a line, and up to 1,024 of three numbers.
+pub const ANSWER_ROOM: usize = 65536;
 
 // Whether a command was answered, was refused, or had a mistake in its words.
 pub enum Why {

@@ -33,6 +33,7 @@ words-few verb.Table = omega arith
 words-few verb.Normal = omega arith
 words-few verb.Adopt = omega arith
 words-few verb.Link = omega arith
+words-few verb.Salvage = omega arith
 words-few verb.Unknown = omega arith
 
 abbrev Few : Task → Type 0
@@ -46,6 +47,7 @@ run-few verb.Table = omega arith
 run-few verb.Normal = omega arith
 run-few verb.Adopt = omega arith
 run-few verb.Link = omega arith
+run-few verb.Salvage = omega arith
 run-few verb.Unknown = omega arith
 
 wrong-few : (m : Mistake) → Few (Mistaken m)
@@ -66,6 +68,7 @@ other-few verb.Table n more = wrong-few (Words verb.Table)
 other-few verb.Normal n more = wrong-few (Words verb.Normal)
 other-few verb.Adopt n more = wrong-few (Words verb.Adopt)
 other-few verb.Link n more = pile-few n more
+other-few verb.Salvage n more = wrong-few (Words verb.Salvage)
 other-few verb.Unknown n more = wrong-few (Words verb.Unknown)
 
 words-task-few : (ws : List (List ℕ)) → Few (wordsTask ws)

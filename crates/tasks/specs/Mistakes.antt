@@ -21,7 +21,8 @@ usageText verb.Table = wordsAre verb.Table
 usageText verb.Normal = wordsAre verb.Normal
 usageText verb.Adopt = wordsAre verb.Adopt
 usageText verb.Link = wordsAre verb.Link
-usageText verb.Unknown = ascii "error unknown command; the commands are: check list table iid looks key method slot const normal adopt link\n"
+usageText verb.Salvage = wordsAre verb.Salvage
+usageText verb.Unknown = ascii "error unknown command; the commands are: check list table iid looks key method slot const normal adopt link salvage\n"
 
 unfoldable pub mistakeText : Mistake → List ℕ
 mistakeText Blank = ascii "error the line is blank\n"

@@ -28,6 +28,7 @@ writesFile verb.Table = false
 writesFile verb.Normal = true
 writesFile verb.Adopt = true
 writesFile verb.Link = true
+writesFile verb.Salvage = true
 writesFile verb.Unknown = false
 
 -- `-f` stands before the files of a command that writes one
@@ -57,6 +58,7 @@ otherTask verb.Table n more = Mistaken (Words verb.Table)
 otherTask verb.Normal n more = Mistaken (Words verb.Normal)
 otherTask verb.Adopt n more = Mistaken (Words verb.Adopt)
 otherTask verb.Link n more = pileTask n more
+otherTask verb.Salvage n more = Mistaken (Words verb.Salvage)
 otherTask verb.Unknown n more = Mistaken (Words verb.Unknown)
 
 -- the command of the first word, with as many words as it takes
@@ -84,6 +86,7 @@ filesRead verb.Table = 1
 filesRead verb.Normal = 1
 filesRead verb.Adopt = 1
 filesRead verb.Link = 2
+filesRead verb.Salvage = 1
 filesRead verb.Unknown = 0
 
 unfoldable pub filesOf : Task → ℕ

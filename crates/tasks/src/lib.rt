@@ -48,6 +48,7 @@ fn writes_file(verb: Verb) -> bool
         Verb::Normal => true,
         Verb::Adopt => true,
         Verb::Link => true,
+        Verb::Salvage => true,
         Verb::Unknown => false,
     }
 }
@@ -120,6 +121,7 @@ fn other_task(verb: Verb, n: usize, more: usize) -> Task
         Verb::Normal => Task::Mistaken(Mistake::Words(Verb::Normal)),
         Verb::Adopt => Task::Mistaken(Mistake::Words(Verb::Adopt)),
         Verb::Link => pile_task(n, more),
+        Verb::Salvage => Task::Mistaken(Mistake::Words(Verb::Salvage)),
         Verb::Unknown => Task::Mistaken(Mistake::Words(Verb::Unknown)),
     }
 }
@@ -172,6 +174,7 @@ fn files_read(verb: Verb) -> usize
         Verb::Normal => 1,
         Verb::Adopt => 1,
         Verb::Link => 2,
+        Verb::Salvage => 1,
         Verb::Unknown => 0,
     }
 }
@@ -238,8 +241,9 @@ fn usage(verb: Verb, text: &mut [u8; ANSWER_ROOM]) -> Said
         Verb::Normal => sayings::mistake(b"error the words are: normal [-f] FILE OUT\n", text),
         Verb::Adopt => sayings::mistake(b"error the words are: adopt [-f] FILE OUT\n", text),
         Verb::Link => sayings::mistake(b"error the words are: link [-f] A B .. OUT\n", text),
+        Verb::Salvage => sayings::mistake(b"error the words are: salvage [-f] FILE OUT\n", text),
         Verb::Unknown => sayings::mistake(
-            b"error unknown command; the commands are: check list table iid looks key method slot const normal adopt link\n",
+            b"error unknown command; the commands are: check list table iid looks key method slot const normal adopt link salvage\n",
             text,
         ),
     }

@@ -8,10 +8,10 @@ use Rattle.key.specs.Word.{compareWords, isSame, sameWord}
 use Rattle.words.specs.Words.{startWith, wordsOf}
 use Rattle.verbs.specs.declared.Question.the-variants.{Check, Iid, Looks, Key, Method, Slot, Constant}
 use Rattle.verbs.specs.declared.Verb.the-variants as verb
-use Rattle.verbs.specs.Verbs.{check, list, table, iid, looks, key, method, slot, const, normal, adopt, link, memberOf, questionOf, verbOf}
+use Rattle.verbs.specs.Verbs.{check, list, table, iid, looks, key, method, slot, const, normal, adopt, link, salvage, memberOf, questionOf, verbOf}
 use Rattle.verbs.specs.Empty.{hasEmpty}
 
-each : map verbOf (check ∷ list ∷ table ∷ iid ∷ looks ∷ key ∷ method ∷ slot ∷ const ∷ normal ∷ adopt ∷ link ∷ []) ≡ verb.Ask Check ∷ verb.List ∷ verb.Table ∷ verb.Ask Iid ∷ verb.Ask Looks ∷ verb.Ask Key ∷ verb.Ask Method ∷ verb.Ask Slot ∷ verb.Ask Constant ∷ verb.Normal ∷ verb.Adopt ∷ verb.Link ∷ []
+each : map verbOf (check ∷ list ∷ table ∷ iid ∷ looks ∷ key ∷ method ∷ slot ∷ const ∷ normal ∷ adopt ∷ link ∷ salvage ∷ []) ≡ verb.Ask Check ∷ verb.List ∷ verb.Table ∷ verb.Ask Iid ∷ verb.Ask Looks ∷ verb.Ask Key ∷ verb.Ask Method ∷ verb.Ask Slot ∷ verb.Ask Constant ∷ verb.Normal ∷ verb.Adopt ∷ verb.Link ∷ verb.Salvage ∷ []
 unfolding verbOf questionOf memberOf sameWord isSame compareWords if_then_else_ _<?_
 each = refl
 

@@ -8,7 +8,7 @@ use Rattle.verbs.specs.declared.Question.the-variants.{Check, Iid, Looks
 use Rattle.verbs.specs.declared.Verb.{Verb}
 use Rattle.verbs.specs.declared.Verb.the-variants as verb
 
--- the words `check`, `list`, `table`, `iid`, `looks`, `key`, `method`, `slot`, `const`, `normal`, `adopt` and `link`
+-- the words `check`, `list`, `table`, `iid`, `looks`, `key`, `method`, `slot`, `const`, `normal`, `adopt`, `link` and `salvage`
 abbrev pub check : List ℕ
 check = 99 ∷ 104 ∷ 101 ∷ 99 ∷ 107 ∷ []
 
@@ -45,6 +45,9 @@ adopt = 97 ∷ 100 ∷ 111 ∷ 112 ∷ 116 ∷ []
 abbrev pub link : List ℕ
 link = 108 ∷ 105 ∷ 110 ∷ 107 ∷ []
 
+abbrev pub salvage : List ℕ
+salvage = 115 ∷ 97 ∷ 108 ∷ 118 ∷ 97 ∷ 103 ∷ 101 ∷ []
+
 -- questions on a member of an interface
 unfoldable pub memberOf : List ℕ → Verb
 memberOf w =
@@ -70,6 +73,7 @@ verbOf w =
     if sameWord w normal then verb.Normal else
     if sameWord w adopt then verb.Adopt else
     if sameWord w link then verb.Link else
+    if sameWord w salvage then verb.Salvage else
     questionOf w
 
 -- how many words the command has, its first among them
@@ -98,4 +102,6 @@ wordsIn verb.Normal = 3
 wordsIn verb.Adopt = 3
 -- link A B OUT
 wordsIn verb.Link = 4
+-- salvage FILE OUT
+wordsIn verb.Salvage = 3
 wordsIn verb.Unknown = 0

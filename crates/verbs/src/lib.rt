@@ -24,6 +24,7 @@ pub enum Verb {
     Normal,
     Adopt,
     Link,
+    Salvage,
     Unknown,
 }
 
@@ -81,6 +82,9 @@ pub fn verb_of(word: &[u8]) -> Verb
     if words::is_same(word, b"link") {
         return Verb::Link;
     }
+    if words::is_same(word, b"salvage") {
+        return Verb::Salvage;
+    }
     question_of(word)
 }
 
@@ -109,6 +113,7 @@ pub fn words_of(verb: Verb) -> usize
         Verb::Normal => 3,
         Verb::Adopt => 3,
         Verb::Link => 4,
+        Verb::Salvage => 3,
         Verb::Unknown => 0,
     }
 }

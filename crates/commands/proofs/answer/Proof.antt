@@ -12,7 +12,7 @@ returns c = rw (← c .before .before .before .before .before .before .task-of .
 
 returns-2 : tie.Need-returns-2
 unfolding answerOf taskAnswer
-returns-2 c = rw (← c .before .before .before .before .before .before .before .before .task-of .ensures, c .before .before .before .before .before .before .verb .given .1) (c .before .before .run .ensures)
+returns-2 c = rw (← c .before .before .before .before .before .before .before .before .before .task-of .ensures, c .before .before .before .before .before .before .before .verb .given .1) (c .before .before .run .ensures)
 
 returns-3 : tie.Need-returns-3
 unfolding answerOf taskAnswer

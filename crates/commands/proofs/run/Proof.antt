@@ -26,8 +26,11 @@ returns-6 : tie.Need-returns-6
 returns-6 c = rw (c .before .before .before .before .before .enum-told5 .given .1) (c .before .before .link .ensures _ _)
 
 returns-7 : tie.Need-returns-7
+returns-7 c = rw (c .before .before .before .before .before .before .before .enum-told6 .given .1, ← c .before .before .before .before .before .before .in-batch3 .ensures) (c .before .before .salvage .ensures _ _)
+
+returns-8 : tie.Need-returns-8
 unfolding verbAnswer
-returns-7 c = rw (c .before .before .before .enum-told6 .given .1) (says-replies _ _ _ _ _ _ _ _ (c .before .tell .ensures) (c .answered2 .ensures))
+returns-8 c = rw (c .before .before .before .enum-told7 .given .1) (says-replies _ _ _ _ _ _ _ _ (c .before .tell .ensures) (c .answered2 .ensures))
 
 pub run-spec : {M : Type 1} → statement M
 run-spec =
@@ -51,6 +54,9 @@ run-spec =
     (λ c. search needs)
     (λ c κs. search needs)
     (λ c κs. search needs)
+    (λ c. search needs)
+    (λ c κs. search needs)
+    (λ c κs. search needs)
     returns
     returns-2
     returns-3
@@ -60,4 +66,6 @@ run-spec =
     returns-5
     (λ c. search needs)
     returns-6
-    returns-7)
+    (λ c. search needs)
+    returns-7
+    returns-8)

@@ -33,12 +33,19 @@ returns-6 c = (rw (c .before .before .before .enum-told5 .given .1) (wrote _ _ _
 
 returns-7 : tie.Need-returns-7
 unfolding verbWords
-returns-7 c = (rw (c .enum-told6 .given .1) (none-written _ _), omega arith)
+returns-7 c = (rw (c .before .before .before .enum-told6 .given .1) (wrote _ _ _ (c .put-bytes6 .ensures)), omega arith)
+
+returns-8 : tie.Need-returns-8
+unfolding verbWords
+returns-8 c = (rw (c .enum-told7 .given .1) (none-written _ _), omega arith)
 
 pub put-words-spec : {M : Type 1} → statement M
 put-words-spec =
     tie.close
     (tie.spec
+    (λ c. search needs)
+    (λ c κs. search needs)
+    (λ c. search needs)
     (λ c. search needs)
     (λ c κs. search needs)
     (λ c. search needs)
@@ -63,4 +70,5 @@ put-words-spec =
     returns-4
     returns-5
     returns-6
-    returns-7)
+    returns-7
+    returns-8)

@@ -9,13 +9,13 @@ use Rattle.held.proofs.answer.Tie as tie
 
 returns : tie.Need-returns
 returns c =
-    let first = c .before .before .before .before .before .before .before .file-at in
-    let second = c .before .before .before .before .before .before .file-at2 in
-    let store = c .before .before .before .before .before .before .before .before .before .args .store .now in
-    let long = c .before .before .before .before .before .all in
+    let first = c .before .before .before .before .before .before .before .before .file-at in
+    let second = c .before .before .before .before .before .before .before .file-at2 in
+    let store = c .before .before .before .before .before .before .before .before .before .before .args .store .now in
+    let long = c .before .before .before .before .before .before .all in
     let one = lent store (first .result .from) (first .result .end) (first .ensures .ordered) (omega (arith, first .ensures .inside, long)) ∙ first .ensures .bytes in
     let two = lent store (second .result .from) (second .result .end) (second .ensures .ordered) (omega (arith, second .ensures .inside, long)) ∙ second .ensures .bytes in
-    (answer-saves _ _ _ _ _ fileLimit (omega (arith, c .before .before .answer-arg3)) (c .answer .ensures .save), rw (← one, ← two) (c .answer .ensures))
+    (answer-saves _ _ _ _ _ fileLimit (omega (arith, c .before .before .before .answer-arg3)) (c .answer .ensures .save), rw (← one, ← two) (c .answer .ensures))
 
 pub answer-spec : {M : Type 1} → statement M
 answer-spec =

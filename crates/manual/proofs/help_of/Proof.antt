@@ -31,12 +31,18 @@ returns-6 c = rw (c .before .before .enum-told5 .given .1) (c .one6 .ensures)
 
 returns-7 : tie.Need-returns-7
 unfolding helpOf
-returns-7 c = rw (c .before .before .enum-told6 .given .1) (c .help .ensures)
+returns-7 c = rw (c .before .before .enum-told6 .given .1) (c .one7 .ensures)
+
+returns-8 : tie.Need-returns-8
+unfolding helpOf
+returns-8 c = rw (c .before .before .enum-told7 .given .1) (c .help .ensures)
 
 pub help-of-spec : {M : Type 1} → statement M
 help-of-spec =
     tie.close
     (tie.spec
+    (λ c. search needs)
+    (λ c κs. search needs)
     (λ c. search needs)
     (λ c κs. search needs)
     (λ c. search needs)
@@ -57,4 +63,5 @@ help-of-spec =
     returns-4
     returns-5
     returns-6
-    returns-7)
+    returns-7
+    returns-8)

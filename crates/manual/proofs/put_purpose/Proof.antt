@@ -33,7 +33,11 @@ returns-6 c = (rw (c .before .before .before .enum-told5 .given .1) (wrote _ _ _
 
 returns-7 : tie.Need-returns-7
 unfolding purposeText
-returns-7 c = (rw (c .enum-told6 .given .1) (none-written _ _), omega arith)
+returns-7 c = (rw (c .before .before .before .enum-told6 .given .1) (wrote _ _ _ (c .put-bytes6 .ensures)), omega arith)
+
+returns-8 : tie.Need-returns-8
+unfolding purposeText
+returns-8 c = (rw (c .enum-told7 .given .1) (none-written _ _), omega arith)
 
 pub put-purpose-spec : {M : Type 1} → statement M
 put-purpose-spec =
@@ -57,10 +61,14 @@ put-purpose-spec =
     (λ c. search needs)
     (λ c κs. omega arith)
     (λ c. search needs)
+    (λ c. search needs)
+    (λ c κs. omega arith)
+    (λ c. search needs)
     returns
     returns-2
     returns-3
     returns-4
     returns-5
     returns-6
-    returns-7)
+    returns-7
+    returns-8)

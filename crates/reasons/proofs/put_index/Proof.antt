@@ -19,7 +19,7 @@ returns : tie.Need-returns
 returns c =
     let a = c .before .before .before .before .before .before .args in
     let front = ascii " at interface " in
-    let rest = ascii " of the first file" in
+    let rest = ascii " of the first" in
     (wrote-then (a .text .now) (front ++ digitsOf (a .place)) rest (a .at) (wrote-label _ front (digitsOf (a .place)) _ (c .before .before .before .put-labelled .ensures)) (wrote _ rest _ (c .put-bytes .ensures)), omega (arith, length-u64 (a .place) (omega arith)))
 
 pub put-index-spec : {M : Type 1} → statement M

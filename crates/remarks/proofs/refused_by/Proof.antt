@@ -13,13 +13,12 @@ slice-aggregate-refused c =
 refused-requires : tie.Need-refused-requires
 refused-requires c κs =
     let k = c .before .before .before .before .key-of in
-    (c .before .before .before .before .before .before .before .before .before .pre, rw (length-take-le (k .result) (k .last .1 .1 .0) (omega (arith, k .ensures .fits))) (k .ensures .fits))
+    (c .before .before .before .before .before .before .before .before .pre, rw (length-take-le (k .result) (k .last .1 .1 .0) (omega (arith, k .ensures .fits))) (k .ensures .fits))
 
 pub refused-by-spec : {M : Type 1} → statement M
 refused-by-spec =
     tie.close
     (tie.spec
-    (λ c κs. search needs)
     (λ c κs. search needs)
     slice-aggregate-refused
     refused-requires

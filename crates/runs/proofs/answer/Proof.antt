@@ -7,8 +7,8 @@ use Rattle.runs.proofs.answer.Tie as tie
 
 reply-requires : tie.Need-reply-requires
 reply-requires c κs =
-    let p = c .before .before .before .before .before .pre in
-    (p .0, (p .1 .0, subst (WhereHad _) (c .before .before .enum-told .given .1) (p .1 .1)))
+    let p = c .before .before .before .before .before .before .pre in
+    (p .0, (p .1 .0, subst (WhereHad _) (c .before .before .before .enum-told .given .1) (p .1 .1)))
 
 pub answer-spec : {M : Type 1} → statement M
 answer-spec =

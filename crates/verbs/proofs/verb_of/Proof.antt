@@ -53,7 +53,7 @@ returns-5 c =
 returns-6 : tie.Need-returns-6
 unfolding verbOf
 returns-6 c =
-    let c5 = c .before in
+    let c5 = c .before .before .before in
     let c4 = c5 .before .before .before in
     let c3 = c4 .before .before .before in
     let c2 = c3 .before .before .before in
@@ -62,7 +62,24 @@ returns-6 c =
     (is-false _ _ _ (sym (c2 .before .is-same2 .ensures) ∙ c2 .if2 .left)
     (is-false _ _ _ (sym (c3 .before .is-same3 .ensures) ∙ c3 .if3 .left)
     (is-false _ _ _ (sym (c4 .before .is-same4 .ensures) ∙ c4 .if4 .left)
-    (is-false _ _ _ (sym (c5 .before .is-same5 .ensures) ∙ c5 .if5 .left) (c .question-of .ensures)))))
+    (is-false _ _ _ (sym (c5 .before .is-same5 .ensures) ∙ c5 .if5 .left)
+    (is-true _ _ _ (sym (c .before .is-same6 .ensures) ∙ c .if6 .taken) refl)))))
+
+returns-7 : tie.Need-returns-7
+unfolding verbOf
+returns-7 c =
+    let c6 = c .before in
+    let c5 = c6 .before .before .before in
+    let c4 = c5 .before .before .before in
+    let c3 = c4 .before .before .before in
+    let c2 = c3 .before .before .before in
+    let c1 = c2 .before .before .before in
+    is-false _ _ _ (sym (c1 .before .is-same .ensures) ∙ c1 .if1 .left)
+    (is-false _ _ _ (sym (c2 .before .is-same2 .ensures) ∙ c2 .if2 .left)
+    (is-false _ _ _ (sym (c3 .before .is-same3 .ensures) ∙ c3 .if3 .left)
+    (is-false _ _ _ (sym (c4 .before .is-same4 .ensures) ∙ c4 .if4 .left)
+    (is-false _ _ _ (sym (c5 .before .is-same5 .ensures) ∙ c5 .if5 .left)
+    (is-false _ _ _ (sym (c6 .before .is-same6 .ensures) ∙ c6 .if6 .left) (c .question-of .ensures))))))
 
 pub verb-of-spec : {M : Type 1} → statement M
 verb-of-spec =
@@ -83,5 +100,8 @@ verb-of-spec =
     (λ c. search needs)
     (λ c κs. search needs)
     returns-5
+    (λ c. search needs)
     (λ c κs. search needs)
-    returns-6)
+    returns-6
+    (λ c κs. search needs)
+    returns-7)

@@ -32,6 +32,10 @@ returns-7 : tie.Need-returns-7
 unfolding wordsIn
 returns-7 c = rw (c .enum-told6 .given .1) refl
 
+returns-8 : tie.Need-returns-8
+unfolding wordsIn
+returns-8 c = rw (c .enum-told7 .given .1) refl
+
 pub words-of-spec : {M : Type 1} → statement M
 words-of-spec =
     tie.close
@@ -44,10 +48,12 @@ words-of-spec =
     (λ c. search needs)
     (λ c. search needs)
     (λ c. search needs)
+    (λ c. search needs)
     returns
     returns-2
     returns-3
     returns-4
     returns-5
     returns-6
-    returns-7)
+    returns-7
+    returns-8)
