@@ -8,7 +8,7 @@
 use linked::LIBRARY;
 use second::library::cases::Asked;
 use second::library::questions::{Question, Reply};
-use second::library::{Program, OWN};
+use second::library::{Program, Salvaged, OWN};
 use second::making::builder::Typelib;
 use second::making::hostile::{self, interfaces};
 use second::making::pairs::sorted;
@@ -135,6 +135,18 @@ fn long_texts() -> Vec<u8> {
     Typelib { annotations: vec![annotation.clone(), annotation], ..Typelib::default() }.bytes()
 }
 
+/// The last resolved interface has a parent that is not there.
+fn broken(file: &[u8]) -> Vec<u8> {
+    let mut file = file.to_vec();
+    let four = |at: usize| u32::from_be_bytes(file[at..][..4].try_into().expect("four bytes"));
+    let (directory, pool) = (four(24) as usize, four(28) as usize);
+    let count = usize::from(u16::from_be_bytes([file[18], file[19]]));
+    let pointers = (0..count).map(|i| four(directory + 28 * i + 24) as usize);
+    let descriptor = pointers.filter(|pointer| *pointer > 0).last().expect("a resolved interface");
+    file[pool + descriptor - 1..][..2].fill(0xff);
+    file
+}
+
 /// Of the entries that it does not resolve a file has every other IID.
 fn supplied(all: &Typelib, resolved: Range<usize>) -> Vec<u8> {
     let mut lib = all.clone();
@@ -230,6 +242,7 @@ enum Answered {
     Check(Answer),
     Question(Reply),
     Written(Result<usize, LinkRefusal>),
+    Salvaged(Salvaged),
     /// So many bytes came through the pipe.
     Printed(usize),
 }
@@ -240,6 +253,12 @@ impl fmt::Display for Answered {
             Answered::Check(Ok(n)) => write!(f, "accepted {n}"),
             Answered::Written(Ok(bytes)) | Answered::Printed(bytes) => write!(f, "{bytes} bytes"),
             Answered::Check(Err(refusal)) | Answered::Written(Err((_, refusal))) => {
+                write!(f, "refused {} {}", refusal.number, refusal.place)
+            }
+            Answered::Salvaged(Ok((bytes, changed))) => {
+                write!(f, "{bytes} bytes, {changed} changed")
+            }
+            Answered::Salvaged(Err(refusal)) => {
                 write!(f, "refused {} {}", refusal.number, refusal.place)
             }
             Answered::Question(Lookup::Found(_)) => f.write_str("found"),
@@ -272,6 +291,29 @@ fn call(asked: Asked, files: &[&[u8]], rounds: &Rounds) -> Outcome<Measured> {
     };
     measure(Clock::Thread, room, [made(&OWN), made(&LIBRARY)], rounds)
         .map_err(|why| format!("{asked:?}: {why}").into())
+}
+
+/// A salvage by this program and by the library; the report is compared through the number of its entries.
+fn salvage(file: &[u8], rounds: &Rounds) -> Outcome<Measured> {
+    let made = |program: &'static Program| -> Made {
+        Box::new(|out: &mut [u8]| {
+            let [mut indexes, mut numbers, mut places] = [[0; 1_024]; 3];
+            let lists = [&mut indexes[..], &mut numbers[..], &mut places[..]];
+            Answered::Salvaged((program.salvage)(file, lists, out))
+        })
+    };
+    Ok(measure(Clock::Thread, MAX_FILE, [made(&OWN), made(&LIBRARY)], rounds)?)
+}
+
+/// A pile by this program and by the library, link by link.
+fn pile(files: &[&[u8]], rounds: &Rounds) -> Outcome<Measured> {
+    let made = |program: &'static Program| -> Made {
+        Box::new(|_| {
+            let piled = (program.pile)(files).map(|bytes| bytes.len());
+            Answered::Written(piled.map_err(|(why, _)| why))
+        })
+    };
+    Ok(measure(Clock::Thread, 0, [made(&OWN), made(&LIBRARY)], rounds)?)
 }
 
 /// How often both programs make a call, in turns.
@@ -450,6 +492,10 @@ fn ordinary(listing: &Listing) -> Outcome<()> {
         let link = Asked::Link(MAX_FILE);
         row("link with another supplier's", link.clone(), &[&file, &other], OTHERS)?;
         row("link with itself", link, &[&file, &file], OTHERS)?;
+        let piled = pile(&[&file, &other, &file], &ORDINARY)?;
+        self::row(&name, "pile with another supplier's and itself", &piled, OTHERS);
+        let salvaged = salvage(&broken(&file), &ORDINARY)?;
+        self::row(&name, "salvage, one interface broken", &salvaged, OTHERS);
         self::row(&name, "list", &listing.measure(&file, &ORDINARY)?, Aim::None);
     }
     let others: [(&str, fn(&mut Typelib)); 2] =
@@ -494,6 +540,9 @@ fn worst(listing: &Listing) -> Outcome<()> {
     }
     let texts = call(Asked::Check, &[&long_texts()], &WORST)?;
     row("m: texts of characters of four bytes", "check", &texts, LONGEST);
+    for case in &hostile::damaged() {
+        row(case.name, "salvage", &salvage(&case.bytes, &WORST)?, LONGEST);
+    }
     for (name, [first, second]) in &hostile::linked() {
         let measured = call(Asked::Link(MAX_FILE), &[first, second], &WORST)?;
         row(name, "link of two", &measured, LONGEST);

@@ -1,7 +1,6 @@
 //! Counts of what was compared, row by row, held against the one table of floors: how often
 //! everything must come at least in a run, of any seed.
 
-use crate::line::is_compared;
 use std::collections::{HashMap, HashSet};
 use std::hash::{DefaultHasher, Hash, Hasher};
 
@@ -70,7 +69,6 @@ pub fn floors(part: &str) -> Vec<(Row, Numbers)> {
                 }
             }
             let whats = whats.strip_suffix(';').unwrap_or(whats).split(';').map(str::trim);
-            let whats = whats.filter(|what| is_compared(group.0) && is_compared(what));
             floors.extend(whats.map(|what| ((group.0, what), group.1)));
         }
     }

@@ -219,7 +219,7 @@ fn piled(files: &[&[u8]]) -> Result<Vec<u8>, String> {
     let told = |((which, why), step): ((u8, Refusal), usize)| {
         format!("refused {which} {} {} step {step}", why.number, why.place)
     };
-    OWN.pile(files).map_err(told)
+    (OWN.pile)(files).map_err(told)
 }
 
 #[test]
@@ -429,7 +429,7 @@ fn what_is_told_and_counted() {
         ("accepted 1", false, String::new(), true),
     ] {
         let lines = &mut told.as_bytes().split_inclusive(|byte| *byte == b'\n');
-        assert_eq!(is_told(line.as_bytes(), None, alone, lines), is_so, "{line}: {told}");
+        assert_eq!(is_told(line.as_bytes(), &[], alone, lines), is_so, "{line}: {told}");
     }
     // Lines have tabs in a batch, and a table may have none.
     let [p1, _, p3] = marked();
@@ -447,6 +447,7 @@ fn what_is_told_and_counted() {
             "written 66 changed 1\n1 19 36\n",
             "written 66 changed 1\t1 19 36\t\n",
         ),
+        (salvaged(&[&p1]), "written 36 changed 0\n", "written 36 changed 0\n"),
     ] {
         for (printed, is_alone) in [(alone, true), (in_batch, false)] {
             let rest = outcome.eat(printed.as_bytes(), is_alone).map(|(_, rest)| rest);
@@ -472,5 +473,5 @@ fn what_is_told_and_counted() {
         "batches",
         "alone",
     ];
-    assert_eq!(parts.map(|part| floors(part).len()).iter().sum::<usize>(), 1162);
+    assert_eq!(parts.map(|part| floors(part).len()).iter().sum::<usize>(), 1187);
 }

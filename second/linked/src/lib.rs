@@ -3,14 +3,27 @@
 pub mod saniotka;
 
 use saniotka::{lists, Answer as Told, Which};
-use second::library::{cases::Asked, questions::Question, Program};
+use second::library::{cases::Asked, questions::Question, Piled, Program, Salvaged};
 use second::program::questions::{Constant, Kind, Looked, Lookup, Method, Slot};
 use second::program::{link::LinkRefusal, Answer, Refusal};
 use std::panic::{catch_unwind, AssertUnwindSafe};
 
 /// What the library can be asked.
-pub const LIBRARY: Program =
-    Program { check, iid, looks, key, method, slot, constant, normalise, adopt, link, on_list };
+pub const LIBRARY: Program = Program {
+    check,
+    iid,
+    looks,
+    key,
+    method,
+    slot,
+    constant,
+    normalise,
+    adopt,
+    salvage,
+    link,
+    pile,
+    on_list,
+};
 
 /// Both sides know how long a list must be.
 const _: () = assert!(saniotka::ROOM == second::library::lists::ROOM);
@@ -97,12 +110,28 @@ fn adopt(file: &[u8], out: &mut [u8]) -> Answer {
     known(|| saniotka::adopt(file, out)).map_or(Err(NONSENSE), |told| told.map_err(refusal))
 }
 
-fn link(first: &[u8], second: &[u8], out: &mut [u8]) -> Result<usize, LinkRefusal> {
-    let which = |which| match which {
+fn salvage(file: &[u8], report: [&mut [u64]; 3], out: &mut [u8]) -> Salvaged {
+    let told = known(|| saniotka::salvage(file, report, out));
+    told.map_or(Err(NONSENSE), |told| told.map_err(refusal))
+}
+
+fn which(which: Which) -> u8 {
+    match which {
         Which::Link => 0,
         Which::First => 1,
         Which::Second => 2,
-    };
+    }
+}
+
+fn pile(files: &[&[u8]]) -> Piled {
+    match known(|| saniotka::pile(files)) {
+        Some(Err((file, why, step))) => Err(((which(file), refusal(why)), step)),
+        Some(Ok(Some(bytes))) => Ok(bytes),
+        Some(Ok(None)) | None => Err(((0, NONSENSE), 0)),
+    }
+}
+
+fn link(first: &[u8], second: &[u8], out: &mut [u8]) -> Result<usize, LinkRefusal> {
     match known(|| saniotka::link(first, second, out)) {
         Some(told) => told.map_err(|(file, why)| (which(file), refusal(why))),
         None => Err((0, NONSENSE)),
@@ -118,6 +147,10 @@ fn on_list(asked: &Asked, files: &[&[u8]], out: &mut [u8], list: &mut [u64]) -> 
         Asked::Normal(_) => lists::normal(file, out, list),
         Asked::Adopt(_) => lists::adopt(file, out, list),
         Asked::Link(_) => lists::link(file, files[1], out, list),
+        Asked::Salvage(rooms, _) => {
+            let [mut indexes, mut numbers, mut places] = rooms.map(|room| vec![0; room]);
+            lists::salvage(file, [&mut indexes, &mut numbers, &mut places], out, list)
+        }
         Asked::Question(question) => match question {
             Question::Iid(iid) => lists::iid(file, iid, list),
             Question::Key(space, name) => lists::key(file, space, name, list),

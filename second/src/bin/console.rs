@@ -1,6 +1,6 @@
 //! Writes the typelibs of examples/ into the folder given: a console's alarm lists as two suppliers
-//! compiled them (see console.txt), an older file of the second that says otherwise, its file as a
-//! bad transfer left it, and a file in the layout of libxpt.
+//! compiled them (see console.txt), the first's with a broken interface, an older file of the second
+//! that says otherwise, its file as a bad transfer left it, and a file in the layout of libxpt.
 
 use second::making::{builder::*, genuine::genuine};
 use std::{path::Path, process::ExitCode};
@@ -80,6 +80,10 @@ fn main() -> ExitCode {
     // The older analyser cannot be calibrated.
     old.descriptors[0].methods.pop();
     libs.push(("gas_old.xpt", old));
+    let mut broken = libs[0].1.clone();
+    // What is attached to the alarm list is interface 40 of 4.
+    broken.descriptors[2].methods[6].arguments[0] = argument(&"object:40");
+    libs.push(("alarms_broken.xpt", broken));
     let mut files: Vec<_> = libs.into_iter().map(|(name, lib)| (name, lib.bytes())).collect();
     files.push(("gas_torn.xpt", whole[..whole.len() * 2 / 3].to_vec()));
     files.push(("gas_mailed.xpt", [&whole[..], b"-- \nSent from the control room\n"].concat()));

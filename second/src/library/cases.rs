@@ -3,8 +3,8 @@
 
 use super::links::{lent, GUARD};
 use super::questions::{Found, Question, Reply};
-use super::{lists, Program, OWN};
-use crate::program::{link::LinkRefusal, questions::Kind, Answer, Refusal, MAX_FILE};
+use super::{lists, salvages, Program, OWN};
+use crate::program::{link::LinkRefusal, questions::Kind, Answer, Refusal};
 use crate::tally::hash;
 use std::fmt::Debug;
 use std::time::{Duration, Instant};
@@ -23,6 +23,8 @@ pub enum Asked {
     /// With the length of the buffer.
     Normal(usize),
     Adopt(usize),
+    /// With the lengths of the lists and of the buffer.
+    Salvage([usize; 3], usize),
     Link(usize),
     /// Answered in a list of so many numbers.
     List(Box<Asked>, usize),
@@ -47,6 +49,9 @@ impl Case {
                 written(*room, |out| program.write(&files, out))
             }
             Asked::Adopt(room) => written(*room, |out| (program.adopt)(files[0], out)),
+            Asked::Salvage(lists, room) => {
+                salvages::call(program, files[0], *lists, *room).to_string()
+            }
             Asked::Kind(..) => lists::call(program, &self.asked, &files, lists::ROOM).to_string(),
             Asked::List(asked, room) => lists::call(program, asked, &files, *room).to_string(),
         };
@@ -98,20 +103,6 @@ impl Program {
                 (self.constant)(file, *index, name).map(Found::Constant)
             }
         }
-    }
-
-    /// Links files one by one, in buffers of the greatest length. Of a refusal also which link it is
-    /// of, counted from 1.
-    pub fn pile(&self, files: &[&[u8]]) -> Result<Vec<u8>, (LinkRefusal, usize)> {
-        let (first, others) = files.split_first().expect("a file or more");
-        let mut linked = first.to_vec();
-        for (step, next) in (1..).zip(others) {
-            let mut out = vec![0; MAX_FILE];
-            let length = (self.link)(&linked, next, &mut out).map_err(|why| (why, step))?;
-            out.truncate(length);
-            linked = out;
-        }
-        Ok(linked)
     }
 
     /// Normalises one file or links two.

@@ -4,7 +4,7 @@
 use super::cases::{noise, Asked};
 use super::links::{lent, short, wide};
 use super::questions::{self, Found, Question, Reply};
-use super::{Program, Session, OWN};
+use super::{salvages, Program, Session, OWN};
 use crate::making::{builder::Typelib, damage, generate, model, rng::Rng};
 use crate::program::questions::{of, Constant, Kind, Lookup, Method, Slot, MALFORMED};
 use crate::program::{check::check, Answer};
@@ -89,6 +89,13 @@ fn numbers(asked: &Asked, files: &[&[u8]], out: &mut [u8]) -> Vec<u64> {
             Ok(length) => vec![0, length as u64],
             Err((which, why)) => vec![3, which.into(), why.number.into(), why.place as u64],
         },
+        Asked::Salvage(lists, _) => {
+            let [mut indexes, mut numbers, mut places] = lists.map(|room| vec![0; room]);
+            match (OWN.salvage)(files[0], [&mut indexes, &mut numbers, &mut places], out) {
+                Ok((length, changed)) => vec![0, length as u64, changed as u64],
+                Err(why) => vec![3, why.number.into(), why.place as u64],
+            }
+        }
         Asked::List(asked, _) => numbers(asked, files, out),
     }
 }
@@ -137,6 +144,7 @@ pub fn call(program: &Program, asked: &Asked, files: &[&[u8]], room: usize) -> L
     let mut list = vec![KEPT; room + 2 * BESIDE];
     let buffer = match asked {
         Asked::Normal(length) | Asked::Adopt(length) | Asked::Link(length) => *length,
+        Asked::Salvage(_, length) => *length,
         _ => 0,
     };
     let (returned, out) = lent(&noise(buffer), buffer, |out| {
@@ -173,6 +181,7 @@ fn about(asked: &Asked) -> &'static str {
         Asked::Kind(..) => "no kind",
         Asked::Normal(_) => "normal form",
         Asked::Adopt(_) => "adoption",
+        Asked::Salvage(..) => "salvage",
         Asked::Link(_) => "link",
         Asked::List(asked, _) => about(asked),
     }
@@ -197,7 +206,14 @@ fn ask(session: &mut Session, rng: &mut Rng, bytes: &[u8], [own, lib]: [&Typelib
         let (_, room) = if rng.percent(20) { short(rng) } else { wide(rng) };
         let length = room(needed, rng);
         match files.len() {
-            1 => asked.extend([Asked::Normal(length), Asked::Adopt(length)]),
+            1 => {
+                let reports = salvages::rooms(rng).1;
+                asked.extend([
+                    Asked::Normal(length),
+                    Asked::Adopt(length),
+                    Asked::Salvage(reports, length),
+                ]);
+            }
             _ => asked.push(Asked::Link(length)),
         }
     }

@@ -8,16 +8,22 @@ pub mod lists;
 pub mod looks;
 pub mod piles;
 pub mod questions;
+pub mod salvages;
 
 use crate::in_parallel;
 use crate::program::questions::{of as asked, Constant, Kind, Looked, Lookup, Method};
 use crate::program::{
-    adopt::adopt, check, check::accept, link::link, link::LinkRefusal, normal::normalise, Answer,
-    Refusal,
+    adopt::adopt, check, check::accept, link::link, link::LinkRefusal, normal::normalise,
+    salvage::salvage_listed, Answer, Refusal,
 };
 use crate::tally::Tally;
 use cases::{Asked, Case};
 use std::{panic::panic_any, time::Instant};
+
+pub type Salvaged = Result<(usize, usize), Refusal>;
+
+/// What files link to, one by one. Of a refusal also which link it is of, counted from 1.
+pub type Piled = Result<Vec<u8>, (LinkRefusal, usize)>;
 
 /// The calls of a program.
 #[derive(Clone, Copy)]
@@ -31,7 +37,10 @@ pub struct Program {
     pub constant: fn(&[u8], u64, &[u8]) -> Lookup<Constant>,
     pub normalise: fn(&[u8], &mut [u8]) -> Result<usize, Refusal>,
     pub adopt: fn(&[u8], &mut [u8]) -> Answer,
+    /// The length of what is left and the number of reports, which stand in the three lists.
+    pub salvage: fn(&[u8], [&mut [u64]; 3], &mut [u8]) -> Salvaged,
     pub link: fn(&[u8], &[u8], &mut [u8]) -> Result<usize, LinkRefusal>,
+    pub pile: fn(&[&[u8]]) -> Piled,
     /// Any of these, answered in a list of numbers: what is asked, of which files, the buffer for
     /// bytes and the list. What it returns is 0, or 1 where the list is too short.
     pub on_list: fn(&Asked, &[&[u8]], &mut [u8], &mut [u64]) -> i32,
@@ -47,7 +56,9 @@ pub const OWN: Program = Program {
     constant: |file, index, name| asked(file, |lib| lib.constant(index, name)),
     normalise,
     adopt,
+    salvage: salvage_listed,
     link,
+    pile: piles::piled,
     on_list: lists::on_list,
 };
 
@@ -69,7 +80,7 @@ impl Session {
 /// A part: its name, what it runs, and the rows that count comparisons.
 type Part = (&'static str, fn(&mut Session), &'static [&'static str]);
 
-pub const PARTS: [Part; 7] = [
+pub const PARTS: [Part; 8] = [
     ("links", links::run, &["links", "normal forms"]),
     ("checks", checks::run, &["checks"]),
     ("questions", questions::run, &["questions"]),
@@ -77,6 +88,7 @@ pub const PARTS: [Part; 7] = [
     ("looks", looks::run, &["looks"]),
     ("adoptions", adoptions::run, &["adoptions"]),
     ("piles", piles::run, &["links"]),
+    ("salvages", salvages::run, &["salvages"]),
 ];
 
 /// What a run is asked for: names of parts, none for all, a seed, and how many seeds from there.

@@ -3,7 +3,7 @@
 
 use super::links::{together, File, Run};
 use super::questions::{question, Found, Question, Reply};
-use super::{cases::Asked, Session, OWN};
+use super::{cases::Asked, Piled, Session, OWN};
 use crate::making::{builder::Typelib, pairs, rng::Rng};
 use crate::program::questions::{Lookup, Slot};
 use crate::program::{accepted::Accepted, check::accept, MAX_FILE};
@@ -15,6 +15,22 @@ type End = Option<Vec<u8>>;
 
 const PILE: &[&str] = numbered!("", " in a pile");
 pub const STEP: &[&str] = numbered!("step ", "");
+
+/// Links files one by one, in buffers of the greatest length; a file alone with an empty one.
+pub fn piled(files: &[&[u8]]) -> Piled {
+    let (first, others) = files.split_first().expect("a file or more");
+    let empty = pairs::empty(&mut Rng::new(0)).bytes();
+    let alone = [&empty[..]];
+    let others = if others.is_empty() { &alone[..] } else { others };
+    let mut linked = first.to_vec();
+    for (step, next) in (1..).zip(others) {
+        let mut out = vec![0; MAX_FILE];
+        let length = (OWN.link)(&linked, next, &mut out).map_err(|why| (why, step))?;
+        out.truncate(length);
+        linked = out;
+    }
+    Ok(linked)
+}
 
 impl Run<'_> {
     /// One link of a pile, the so manieth.
@@ -79,6 +95,9 @@ impl Run<'_> {
             let same = self.one_by_one(&again, room) == end;
             self.law("repeats", same, "repeats", files, came);
         }
+        let bytes: Vec<&[u8]> = files.iter().map(|file| &file.bytes[..]).collect();
+        let same = (self.session.other.pile)(&bytes) == (OWN.pile)(&bytes);
+        self.law("piles", same, "as a pile", files, came);
         if let Some(end) = end.map(File::new) {
             files.iter().for_each(|file| self.carried(file, &end));
         }

@@ -129,7 +129,7 @@ pub fn normal(files: &[&[u8]]) -> Outcome {
 
 /// Links two files, or more of them one by one.
 pub fn linked(files: &[&[u8]]) -> Outcome {
-    match OWN.pile(files) {
+    match (OWN.pile)(files) {
         Ok(linked) => {
             let line = Outcome::line("written", format!("written {}", linked.len()));
             Outcome { written: Some(linked.into()), ..line }
@@ -165,7 +165,11 @@ pub fn salvaged(files: &[&[u8]]) -> Outcome {
     let mut room = vec![0; MAX_FILE];
     match salvage(files[0], &mut room) {
         Ok((length, changes)) => {
-            let mut text = format!("written {length} changed {}\n", changes.len());
+            let mut text = format!("written {length} changed {}", changes.len());
+            // With nothing changed it is one plain line, in a batch too.
+            if !changes.is_empty() {
+                text.push('\n');
+            }
             for (index, Refusal { number, place }) in &changes {
                 text += &format!("{index} {number} {place}\n");
             }

@@ -98,14 +98,14 @@ const HINT: &[u8] = b"xpt: `xpt help` shows the commands and their words\n";
 /// its text, of a question after the file's name; for a refusal why.
 pub fn is_told<'t>(
     line: &[u8],
-    refusal: Option<&Told>,
+    refusals: &[Told],
     alone: bool,
     told: &mut impl Iterator<Item = &'t [u8]>,
 ) -> bool {
     let Some(error) = line.strip_prefix(b"error ") else {
-        let is_why =
+        let mut is_why =
             |refusal| told.next().is_some_and(|line| line.ends_with(b"\n") && tells(line, refusal));
-        return refusal.is_none_or(is_why);
+        return refusals.iter().all(&mut is_why);
     };
     let is_of_words = OF_WORDS.iter().any(|start| error.starts_with(start));
     let own = told.next().and_then(|line| line.strip_prefix(b"xpt: ")?.strip_suffix(b"\n"));
@@ -129,13 +129,13 @@ fn answers_stand(steps: &[&Step], ran: &Ran, alone: bool, tally: &mut Tally) -> 
         };
         printed = rest;
         let next = told.peek().copied();
-        if !is_told(line, step.told.as_ref(), alone, &mut told) {
+        if !is_told(line, &step.told, alone, &mut told) {
             let shown = [("answered", Some(line)), ("stderr", next), ("then", told.next())];
             return Err(difference("standard error tells otherwise", Some(step), &shown));
         }
         if line.starts_with(b"error ") {
             tally.add("all", "errors on standard error");
-        } else if step.told.is_some() {
+        } else if !step.told.is_empty() {
             tally.add("all", "refusals on standard error");
         }
     }

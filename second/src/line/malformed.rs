@@ -2,7 +2,6 @@
 
 use super::script::{Name, Script, LONGEST_LINE, SUBFOLDER};
 use super::stories::MAX_PILE;
-use super::{is_compared, SALVAGES};
 use crate::library::questions::Question;
 use crate::making::{generate, rng::Rng};
 use crate::program::questions::Kind;
@@ -11,7 +10,7 @@ use crate::program::questions::Kind;
 /// absent and stays so.
 pub fn every_kind(script: &mut Script, file: &Name, good: &Name, out: &Name) {
     for (kind, line) in KINDS {
-        let some = one_of(&mut script.rng, &GOOD);
+        let some = *script.rng.pick(&GOOD);
         let line = line(&mut script.rng, script.alone, some);
         let word = |word: &[u8]| match word {
             [b'F'] => file.word.clone().into_bytes(),
@@ -47,20 +46,11 @@ const USAGES: [&str; 13] = [
 
 const COMMANDS: &str = "check list table iid looks key method slot const normal adopt link salvage";
 
-/// One of these lines.
-fn one_of(rng: &mut Rng, lines: &[&'static str]) -> &'static str {
-    let lines: Vec<_> = lines.iter().copied().filter(|line| is_compared(line)).collect();
-    *rng.pick(&lines)
-}
-
 /// What the error says, of the kinds where that is fixed.
 fn told(kind: &str, words: &[Vec<u8>]) -> Option<String> {
     match kind {
         "output is a folder" => Some(format!("cannot write {SUBFOLDER}: it is no ordinary file")),
-        "unknown command" => {
-            let all = if SALVAGES { COMMANDS } else { COMMANDS.trim_end_matches(" salvage") };
-            Some(format!("unknown command; the commands are: {all}"))
-        }
+        "unknown command" => Some(format!("unknown command; the commands are: {COMMANDS}")),
         "too few words" | "too many words" | "-f for a command that only reads" | "-f too late" => {
             let is_own =
                 |usage: &&&str| usage.split(' ').next().map(str::as_bytes) == Some(&words[0]);
@@ -118,7 +108,7 @@ const KINDS: [(&str, Line); 24] = [
     ("-f too late", |rng, _, _| {
         let lines =
             ["normal F -f O", "normal F O -f", "adopt F -f O", "adopt F O -f", "salvage F -f O"];
-        one_of(rng, &lines).into()
+        (*rng.pick(&lines)).into()
     }),
     ("a space too many", |rng, _, _| {
         let some = *rng.pick(&["check F", "list F", "normal F O", "adopt -f F O"]);
@@ -154,10 +144,10 @@ const KINDS: [(&str, Line); 24] = [
     }),
     ("output is a folder", |rng, _, _| {
         let starts = ["normal G", "link G G", "normal -f G", "link -f G G", "adopt G", "salvage G"];
-        format!("{} {SUBFOLDER}", one_of(rng, &starts)).into()
+        format!("{} {SUBFOLDER}", rng.pick(&starts)).into()
     }),
     ("output name too long", |rng, _, _| {
-        let start = one_of(rng, &["normal", "normal -f", "adopt", "adopt -f", "salvage"]);
+        let start = rng.pick(&["normal", "normal -f", "adopt", "adopt -f", "salvage"]);
         format!("{start} G {}", "o".repeat(*rng.pick(&[256, 5_000]))).into()
     }),
 ];

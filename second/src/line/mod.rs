@@ -35,15 +35,6 @@ fn folder(name: &str, may_be_in_memory: bool) -> io::Result<PathBuf> {
     fs::create_dir(&folder).map(|()| folder)
 }
 
-/// Whether the program has the command `salvage`. Until it has, nothing of it is compared here: its
-/// stories, its lines and its floors are passed over.
-pub const SALVAGES: bool = false;
-
-/// Whether lines that start so, or a row of this name, are compared.
-pub fn is_compared(start: &str) -> bool {
-    SALVAGES || !start.starts_with("salvage")
-}
-
 /// The k-th of all batches: all commands mixed.
 fn batch(s: &mut Script, supply: &Supply, k: usize) {
     let one = stories::placed(s);

@@ -1,7 +1,7 @@
 //! Commands on the files of a folder, each with what it must answer and write.
 
 use super::answers::{self, Bytes, Outcome, Words};
-use super::{iids, SALVAGES};
+use super::iids;
 use crate::library::{looks::LOOKED, piles::STEP, questions::Question};
 use crate::making::rng::Rng;
 use crate::program::format::{refusal, Refusal};
@@ -34,7 +34,8 @@ pub type Told = (Refusal, Vec<String>, [String; 2]);
 pub struct Step {
     pub words: Words,
     pub outcome: Outcome,
-    pub told: Option<Told>,
+    /// One for a refusal, and one for each report of a salvage.
+    pub told: Vec<Told>,
     pub out: Option<String>,
     pub counts: Vec<Count>,
     /// What a command alone gets as standard input.
@@ -249,6 +250,7 @@ impl Script {
             let reason = own.map_or_else(Default::default, |file| answers::reason(file, refusal));
             (refusal, whose.iter().map(|file| file.word.clone()).collect(), reason)
         });
+        let told = told.into_iter().collect();
         let out = out.first().map(|out| out.path.clone());
         let input = input.unwrap_or_default();
         self.add(Step { words, outcome, told, out, counts, input })
@@ -331,7 +333,7 @@ impl Script {
             step.counts.push(("pile", step.outcome.what, None));
             step.counts.extend(last_step(step).map(|step| ("pile", step, None)));
         }
-        if let (Some(order), Some((why, ..))) = (order, &step.told) {
+        if let (Some(order), Some((why, ..))) = (order, step.told.first()) {
             if !refusal::is_of_file(why.number) {
                 step.counts.push((LINK[why.number as usize], order, Some(why.place as u64)));
             }
@@ -375,9 +377,6 @@ impl Script {
 
     /// Likewise.
     pub fn salvage(&mut self, file: &Name, out: &Name) {
-        if !SALVAGES {
-            return;
-        }
         let forced = self.forced();
         let step = self.write_by("salvage", &[file, out], forced, &answers::salvaged);
         let text = step.outcome.text.clone().unwrap_or_default();
@@ -385,6 +384,8 @@ impl Script {
             let numbers: Vec<usize> =
                 line.split(' ').filter_map(|word| word.parse().ok()).collect();
             let [_, number, place] = numbers[..] else { continue };
+            let why = Refusal { number: number as u32, place };
+            step.told.push((why, vec![file.word.clone()], Default::default()));
             step.counts.push(("salvaged", NUMBER[number], Some(place as u64)));
         }
     }

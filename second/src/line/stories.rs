@@ -1,7 +1,7 @@
 //! Stories: commands that belong together, about generated files.
 
 use super::script::{Name, Script, FORCED, INPUT, SUBFOLDER};
-use super::{answers::Bytes, malformed, SALVAGES};
+use super::{answers::Bytes, malformed};
 use crate::library::{links::ORDERS, looks, piles, questions::question, questions::Question};
 use crate::making::{builder::*, generate, genuine, genuine::Genuine};
 use crate::making::{hostile, model, pairs, rng::Rng};
@@ -236,9 +236,6 @@ pub fn genuine<'m>(script: &mut Script, others: impl Iterator<Item = &'m Genuine
 /// A file, of which descriptors may be bad. An accepted one comes out as its normal form, as what is
 /// left does when it is salvaged again.
 pub fn salvaged(script: &mut Script, bytes: Vec<u8>) {
-    if !SALVAGES {
-        return;
-    }
     let is_good = check(&bytes).is_ok();
     let file = script.place(bytes);
     let (out, again, normal) = (output(script), script.free(), script.free());

@@ -1,4 +1,4 @@
-//! Good files that are hard on a check, and a large ordinary one.
+//! Good files that are hard on a check, and a large ordinary one; bad ones that are hard to salvage.
 
 use super::generate::{chain, iid, index_tail, LETTERS};
 use super::{builder::*, rng::Rng};
@@ -13,16 +13,16 @@ pub struct Case {
 pub fn cases() -> Vec<Case> {
     let [up, down] = chains();
     let all = [
-        ("a: 1,024 entries share one descriptor", shared_descriptor(false)),
+        ("a: 1,024 entries share one descriptor", shared_descriptor(false).bytes),
         ("b: arrays whose numbers name the last argument", deep_arguments()),
         ("c: getters and setters of nearly one name", near_names()),
-        ("d: descriptors that overlap, long methods", overlapping(true)),
+        ("d: descriptors that overlap, long methods", overlapping(true).bytes),
         ("e: a chain of 1,024 parents, upward", up),
         ("e: a chain of 1,024 parents, downward", down),
         ("f: keys with a long common start", near_keys(0).bytes()),
         ("g: an ordinary file", ordinary()),
-        ("h: descriptors that overlap, accessors", overlapping(false)),
-        ("i: 240,000 references to a key of 510 bytes", shared_descriptor(true)),
+        ("h: descriptors that overlap, accessors", overlapping(false).bytes),
+        ("i: 240,000 references to a key of 510 bytes", shared_descriptor(true).bytes),
     ];
     let case = |(name, bytes): (&'static str, Vec<u8>)| {
         let n = usize::from(u16::from_be_bytes([bytes[18], bytes[19]]));
@@ -30,6 +30,32 @@ pub fn cases() -> Vec<Case> {
         Case { name, n, bytes }
     };
     all.into_iter().map(case).collect()
+}
+
+/// Files with bad descriptors that are hard to salvage, and how many entries are changed.
+pub fn damaged() -> Vec<Case> {
+    let shared = ("s: 1,024 entries share one bad descriptor", spoilt(shared_descriptor(false)));
+    let ends = ("t: a bad byte at the end of descriptors that overlap", spoilt(overlapping(true)));
+    let round = ("u: a cycle of 1,024", round(MAX_INTERFACES).bytes());
+    // In (t) one entry has a descriptor of its own.
+    let cases = [(shared, MAX_INTERFACES), (ends, MAX_INTERFACES - 1), (round, MAX_INTERFACES)];
+    cases.into_iter().map(|((name, bytes), n)| Case { name, n, bytes }).collect()
+}
+
+/// Each entry is the parent of the one before it, and the first of the last.
+pub fn round(count: usize) -> Typelib {
+    let mut lib = Typelib::plain(count);
+    (0..count).for_each(|i| lib.resolve(i, Descriptor::below(1 + (i + 1) % count)));
+    lib
+}
+
+/// With a reserved bit in the flags that end the first descriptor.
+fn spoilt(built: Built) -> Vec<u8> {
+    let is_end = |spot: &&Spot| spot.field == Field::InterfaceFlags && spot.of == 0;
+    let flags = built.spots.iter().find(is_end).expect("a descriptor ends in its flags");
+    let mut bytes = built.bytes.clone();
+    bytes[flags.at] |= 1;
+    bytes
 }
 
 /// A name of the greatest length: many letters alike, the last two from the number.
@@ -42,7 +68,7 @@ fn long_name(number: usize) -> Vec<u8> {
 
 /// (a) and (i) One descriptor of nearly the whole file, for every entry. It refers to the last,
 /// whose key is as long as can be in (i).
-fn shared_descriptor(long_key: bool) -> Vec<u8> {
+fn shared_descriptor(long_key: bool) -> Built {
     let argument = Parameter::new(IN, Type::with(POINTER | INTERFACE, [4, 0, 0]));
     let method = Method::new(0, b"m", vec![argument; 242], Parameter::simple(0, VOID));
     let d = Descriptor {
@@ -55,7 +81,7 @@ fn shared_descriptor(long_key: bool) -> Vec<u8> {
         lib.entries[MAX_INTERFACES - 1].name = long_name(0);
         lib.entries[MAX_INTERFACES - 1].namespace = Some(long_name(1));
     }
-    lib.bytes()
+    lib.build()
 }
 
 /// 254 arguments of eight arrays, all of whose numbers name the last argument, a uint32.
@@ -102,7 +128,7 @@ const ROOT: usize = (POINTER | INTERFACE) as usize;
 ///
 /// Long: only the last methods have arguments, very many, so that nearly every descriptor has
 /// nearly the whole file. Otherwise: the methods have none, but are getters of long names.
-fn overlapping(long: bool) -> Vec<u8> {
+fn overlapping(long: bool) -> Built {
     let mut methods = Vec::new();
     for following in (0..MAX_METHODS).rev() {
         let of = Type::with(POINTER | INTERFACE, index_tail(following.max(1)));
@@ -121,7 +147,7 @@ fn overlapping(long: bool) -> Vec<u8> {
     for (i, end) in others.zip(ends) {
         built.point(built.entry(i) + 24, end - 4);
     }
-    built.bytes
+    built
 }
 
 /// A file of at most 50 KB whose listing has 540 KB for each entry: the entries share a

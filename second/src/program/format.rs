@@ -141,6 +141,7 @@ pub mod refusal {
     pub const BUFFER: u32 = 27;
     pub const CUT: u32 = 29;
     pub const PADDED: u32 = 30;
+    pub const SHORT_LISTS: u32 = 38;
 
     /// Whether it is a file's own, at a byte.
     pub fn is_of_file(number: u32) -> bool {

@@ -1,6 +1,6 @@
 //! Runs this program and the linked library over everything generated: fails on any difference
 //! and where too little was covered. Differences are made smaller and kept in second/cases.
-//! usage: compare [checks] [questions] [links] [lists] [looks] [adoptions] [piles] [long] [SEED]
+//! usage: compare [checks] [questions] [links] [lists] [looks] [adoptions] [piles] [salvages] [long] [SEED]
 //!
 //! Without names of parts all are run. `long` runs with twenty seeds.
 

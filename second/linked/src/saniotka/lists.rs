@@ -24,6 +24,9 @@ extern "C" {
     fn saniotka_normal(f: In, fl: usize, o: Out, ol: usize, a: List, al: usize) -> i32;
     fn saniotka_adopt(f: In, fl: usize, o: Out, ol: usize, a: List, al: usize) -> i32;
     fn saniotka_link(f: In, fl: usize, g: In, gl: usize, o: Out, ol: usize, a: List, al: usize) -> i32;
+    fn saniotka_pile_add(n: u64, l: u64, f: In, fl: usize, o: Out, ol: usize, p: Out, pl: usize, a: List, al: usize) -> i32;
+    fn saniotka_pile_end(n: u64, l: u64, o: Out, ol: usize, p: Out, pl: usize, a: List, al: usize) -> i32;
+    fn saniotka_salvage(f: In, fl: usize, i: List, il: usize, n: List, nl: usize, p: List, pl: usize, o: Out, ol: usize, a: List, al: usize) -> i32;
 }
 
 // SAFETY, of all calls: the library reads at most as many bytes as it is told from what is lent
@@ -84,4 +87,42 @@ pub fn link(first: &[u8], second: &[u8], out: &mut [u8], answer: &mut [u64]) -> 
     let (o, o_length, a, a_length) =
         (out.as_mut_ptr(), out.len(), answer.as_mut_ptr(), answer.len());
     unsafe { saniotka_link(f, f_length, g, g_length, o, o_length, a, a_length) }
+}
+
+/// A pile is the number of its files and the length of what they left, in one of the two buffers.
+pub fn pile_add(pile: (u64, u64), file: &[u8], both: [&mut [u8]; 2], answer: &mut [u64]) -> i32 {
+    let ((n, l), f, [o, p], a) = (pile, file, both, answer);
+    let (o, o_length, p, p_length) = (o.as_mut_ptr(), o.len(), p.as_mut_ptr(), p.len());
+    let (f, f_length, a, a_length) = (f.as_ptr(), f.len(), a.as_mut_ptr(), a.len());
+    unsafe { saniotka_pile_add(n, l, f, f_length, o, o_length, p, p_length, a, a_length) }
+}
+
+pub fn pile_end(pile: (u64, u64), both: [&mut [u8]; 2], answer: &mut [u64]) -> i32 {
+    let ((n, l), [o, p], a) = (pile, both, answer);
+    let (o, o_length, p, p_length) = (o.as_mut_ptr(), o.len(), p.as_mut_ptr(), p.len());
+    unsafe { saniotka_pile_end(n, l, o, o_length, p, p_length, a.as_mut_ptr(), a.len()) }
+}
+
+/// Indexes, numbers and places of the report.
+pub fn salvage(file: &[u8], report: [&mut [u64]; 3], out: &mut [u8], answer: &mut [u64]) -> i32 {
+    let (f, [i, n, p], o, a) = (file, report, out, answer);
+    let (o, o_length, a, a_length) = (o.as_mut_ptr(), o.len(), a.as_mut_ptr(), a.len());
+    let [(i, i_length), (n, n_length), (p, p_length)] =
+        [i, n, p].map(|list| (list.as_mut_ptr(), list.len()));
+    unsafe {
+        saniotka_salvage(
+            f.as_ptr(),
+            f.len(),
+            i,
+            i_length,
+            n,
+            n_length,
+            p,
+            p_length,
+            o,
+            o_length,
+            a,
+            a_length,
+        )
+    }
 }

@@ -138,6 +138,24 @@ pub fn adopt(file: &[u8], out: &mut [u8]) -> Result<usize, Refusal> {
     told(|list| lists::adopt(file, out, list), written)
 }
 
+/// Writes what is left of a damaged file to the front of `out`, likewise: its length, and how many
+/// interfaces were changed. Their indexes, the numbers and the places of what they are refused for stand
+/// at the front of the three lists of a report, of 1,024 numbers or more each.
+pub fn salvage(
+    file: &[u8],
+    report: [&mut [u64]; 3],
+    out: &mut [u8],
+) -> Result<(usize, usize), Refusal> {
+    told(
+        |list| lists::salvage(file, report, out, list),
+        |numbers| match *numbers {
+            [0, length, changed] => Some(Ok((length as usize, changed as usize))),
+            [3, number, place] => Some(Err(refusal(number, place)?)),
+            _ => None,
+        },
+    )
+}
+
 /// Writes the normal form of the union of two files to the front of `out`, likewise.
 pub fn link(first: &[u8], second: &[u8], out: &mut [u8]) -> Result<usize, (Which, Refusal)> {
     told(
@@ -148,6 +166,33 @@ pub fn link(first: &[u8], second: &[u8], out: &mut [u8]) -> Result<usize, (Which
             _ => None,
         },
     )
+}
+
+/// What files link to, one by one; a single one with the empty typelib. Of a refusal also which link it is
+/// of, counted from 1. Nothing where there are more than 256.
+pub fn pile(files: &[&[u8]]) -> Result<Option<Vec<u8>>, (Which, Refusal, usize)> {
+    let (mut one, mut other) = (vec![0; BUFFER], vec![0; BUFFER]);
+    let mut pile = (0, 0);
+    let read = |numbers: &Numbers| match *numbers {
+        [0, files, left] => Some(Ok(Some((files, left)))),
+        [1] => Some(Ok(None)),
+        [3, which, number, place, step] => {
+            Some(Err((file(which)?, refusal(number, place)?, step as usize)))
+        }
+        _ => None,
+    };
+    for next in files {
+        match told(|list| lists::pile_add(pile, next, [&mut one, &mut other], list), read)? {
+            Some(grown) => pile = grown,
+            None => return Ok(None),
+        }
+    }
+    let ended = told(|list| lists::pile_end(pile, [&mut one, &mut other], list), read)?;
+    Ok(ended.map(|(files, left)| {
+        let mut bytes = if files % 2 == 0 { other } else { one };
+        bytes.truncate(left as usize);
+        bytes
+    }))
 }
 
 // From numbers to enums.
