@@ -1,5 +1,5 @@
 /* Saniotka for C and C++: the check of XPCOM typelibs, the five questions, the normal form, the adoption of a
- * file that libxpt wrote, and the link of two files and of many.
+ * file that libxpt wrote, the link of two files and of many, and what is left of a damaged file.
  *
  * Every function is proved to answer what the definitions in the sources say, for every input. docs/FORMAT.md there says
  * what a typelib is, what each refusal means and what its place counts. The library is made by `rt staticlib cabi`, as
@@ -10,13 +10,13 @@
  *
  * What goes in. A run of bytes is a pointer and its length; texts have no zero byte at their end. With the length 0 the
  * pointer is not followed and may be NULL. Nothing is written to what is const, and const runs may be one another's
- * bytes, so that a file can be linked with itself; `out` and `answer` share no byte with any other argument. A file may
- * have any bytes and any length: what is no typelib is refused.
+ * bytes, so that a file can be linked with itself; `out`, `answer`, the lists of a report and the buffers of a pile share
+ * no byte with any other argument. A file may have any bytes and any length: what is no typelib is refused.
  *
  * What comes out. A call returns SANIOTKA_ANSWERED, and its answer is in the first numbers of `answer`, a list of
  * `answers` numbers; those that the answer has no use for keep what they held. A list of fewer than SANIOTKA_ROOM numbers
  * has too little room for some answer: the call then returns SANIOTKA_TOO_SHORT and writes nothing, neither there nor to
- * `out`. Beside `answer` and `out` nothing is written, ever.
+ * `out`, a report or the buffers of a pile. Beside these nothing is written, ever.
  *
  *     uint64_t answer[SANIOTKA_ROOM];
  *     saniotka_check(file, length, answer, SANIOTKA_ROOM);
@@ -24,7 +24,8 @@
  * Threads. The functions keep no state, allocate nothing and call nothing of the system: any number of threads may call
  * them at once, as long as nobody changes what is lent for a call while it runs.
  *
- * Stack. A call needs fewer than SANIOTKA_STACK bytes of it.
+ * Stack. A call needs fewer than SANIOTKA_STACK bytes of it, and saniotka_salvage, which copies the file, fewer than
+ * SANIOTKA_SALVAGE_STACK.
  */
 #ifndef SANIOTKA_H
 #define SANIOTKA_H
@@ -39,14 +40,18 @@ extern "C" {
 /* Numbers that any answer fits in. */
 #define SANIOTKA_ROOM 8
 
-/* Bytes that any normal form, any adopted file and any link fit in; a longer file is none. */
+/* Bytes that any normal form, any adopted file, any link and what is left of any file fit in; a longer file is none. */
 #define SANIOTKA_BUFFER 1048576
 
 /* Files of a pile. */
 #define SANIOTKA_PILE 256
 
-/* Bytes of stack that are enough for any call. */
+/* Numbers of each list of a report. */
+#define SANIOTKA_REPORTS 1024
+
+/* Bytes of stack that are enough for any call but saniotka_salvage, and for that one. */
 #define SANIOTKA_STACK 131072
+#define SANIOTKA_SALVAGE_STACK 1310720
 
 /* What a call returns. */
 enum {
@@ -54,7 +59,7 @@ enum {
     SANIOTKA_TOO_SHORT = 1
 };
 
-/* The first number of an answer to a question, and of a normal form, an adopted file, a link or a pile. */
+/* The first number of an answer to a question, and of a normal form, an adopted file, a link, a pile or what is left. */
 enum {
     SANIOTKA_FOUND = 0,
     SANIOTKA_WRITTEN = 0,
@@ -100,7 +105,8 @@ enum {
     SANIOTKA_OVER_LIMIT = 26,   /* what is to be written has more than SANIOTKA_BUFFER bytes; its place is 0 */
     SANIOTKA_SHORT_BUFFER = 27, /* its place is the length that is needed */
     SANIOTKA_CUT = 29,          /* the file has fewer bytes than its header says; its place is 20 */
-    SANIOTKA_PADDED = 30        /* it has more; its place is 20 */
+    SANIOTKA_PADDED = 30,       /* it has more; its place is 20 */
+    SANIOTKA_SHORT_LISTS = 38   /* a list of a report has fewer than SANIOTKA_REPORTS numbers, which is its place */
 };
 
 /* Is this a typelib?
@@ -208,17 +214,33 @@ int saniotka_link(const uint8_t *first, size_t first_length, const uint8_t *seco
  *     SANIOTKA_FULL                     it has SANIOTKA_PILE files already
  *     SANIOTKA_REFUSED, which, number, place, step
  *                                       as for a link, and which link it was, counted from 1. From the second on
- *                                       SANIOTKA_FIRST is what the files before left. The first file's own refusal is
- *                                       one of the first link; SANIOTKA_SHORT_BUFFER if it has no room in `one`
+ *                                       SANIOTKA_FIRST is what the files before left, and 21 to 24 count its
+ *                                       interfaces. The first file's own refusal is one of the first link; SANIOTKA_SHORT_BUFFER if it has no room in `one`
  */
 int saniotka_pile_add(uint64_t files, uint64_t left, const uint8_t *file, size_t length, uint8_t *one, size_t one_length,
                       uint8_t *other, size_t other_length, uint64_t *answer, size_t answers);
 
 /* After the last file: a pile of two or more is as it was, and a single file is linked with the empty typelib, so that
- * what is left is a normal form. Answered as above; of no files the empty typelib is left.
+ * what is left is a normal form. Answered as above; the empty typelib counts as a file, so that after a single file there
+ * are 2 and what is left stands in `other`, and after none there is 1, the empty typelib, in `one`.
  */
 int saniotka_pile_end(uint64_t files, uint64_t left, uint8_t *one, size_t one_length, uint8_t *other, size_t other_length,
                       uint64_t *answer, size_t answers);
+
+/* What is left of a damaged file, as a normal form at the front of `out`, with which it is as above. Where all checks up to
+ * the directory hold and no key is there twice, an interface whose own descriptor is refused, and then one that lies on a
+ * cycle of parents, stays with its IID and without its descriptor. Each of these is told, in the order of the directory,
+ * in the first places of three lists of at least SANIOTKA_REPORTS numbers: its index in the file, counted from 1, the
+ * number of its refusal and the place. Other places of the lists keep what they held; where the file is refused all of
+ * them do. An accepted file comes out as its normal form, with nothing changed. The lists share no byte with each other.
+ *
+ *     SANIOTKA_WRITTEN, n, changed      n bytes were written, and so many interfaces were changed
+ *     SANIOTKA_REFUSED, number, place   1 to 5, 7 to 13, 29 and 30 as in the check, then 18, SANIOTKA_SHORT_LISTS,
+ *                                       SANIOTKA_OVER_LIMIT, SANIOTKA_SHORT_BUFFER
+ */
+int saniotka_salvage(const uint8_t *file, size_t length, uint64_t *indexes, size_t index_count, uint64_t *numbers,
+                     size_t number_count, uint64_t *places, size_t place_count, uint8_t *out, size_t out_length,
+                     uint64_t *answer, size_t answers);
 
 #ifdef __cplusplus
 }

@@ -1,5 +1,6 @@
 /* Calls every function of include/saniotka.h on the files of examples/, as C and as C++, and compares what comes back.
- * usage: saniotka FOLDER; tests/capi compiles it and runs it. */
+ * usage: saniotka FOLDER [salvage], with the second word the call that needs more stack, else the others; tests/capi
+ * compiles it and runs it. */
 #include "saniotka.h"
 
 #include <stdio.h>
@@ -17,6 +18,7 @@ static uint8_t alarms[4096], gas[4096], gas_old[4096], gas_torn[4096];
 static size_t alarms_length, gas_length, gas_old_length, gas_torn_length;
 static uint8_t out[SANIOTKA_BUFFER], again[SANIOTKA_BUFFER], one[SANIOTKA_BUFFER], other[SANIOTKA_BUFFER];
 static uint64_t answer[NUMBERS];
+static uint64_t indexes[SANIOTKA_REPORTS + 1], numbers[SANIOTKA_REPORTS + 1], places[SANIOTKA_REPORTS + 1];
 static int runs, failures;
 
 static size_t load(const char *folder, const char *name, uint8_t *bytes, size_t room) {
@@ -233,6 +235,64 @@ static void piles(void) {
     HOLD(answer[0] == SANIOTKA_FULL);
 }
 
+/* Makes ready for a call that salvages, and gives the list for it. */
+static uint64_t *lists(void) {
+    int i;
+    for (i = 0; i <= SANIOTKA_REPORTS; i++) {
+        indexes[i] = numbers[i] = places[i] = UNTOUCHED;
+    }
+    return list();
+}
+
+/* Whether the lists of a report are untouched from this place on. */
+static int unreported_from(int at) {
+    for (; at <= SANIOTKA_REPORTS; at++) {
+        if (indexes[at] != UNTOUCHED || numbers[at] != UNTOUCHED || places[at] != UNTOUCHED) {
+            return 0;
+        }
+    }
+    return 1;
+}
+
+#define SALVAGE(name, reports)                                                                                         \
+    saniotka_salvage(name, name##_length, indexes, reports, numbers, reports, places, reports, out, sizeof out,        \
+                     lists(), NUMBERS)
+
+/* A file with two broken interfaces, what is left of it, and a file that is accepted. */
+static void salvages(void) {
+    uint8_t damaged[4096];
+    size_t damaged_length = alarms_length, room;
+    memcpy(damaged, alarms, alarms_length);
+    EXPECT(SALVAGE(gas, SANIOTKA_REPORTS), "0: [0] 0 [1] 379 [2] 0");
+    HOLD(untouched_from(379) && unreported_from(0));
+    EXPECT(SALVAGE(gas_torn, SANIOTKA_REPORTS), "0: [0] 3 [1] 29 [2] 20");
+    HOLD(untouched_from(0) && unreported_from(0));
+    EXPECT(SALVAGE(gas, SANIOTKA_REPORTS - 1), "0: [0] 3 [1] 38 [2] 1024");
+    HOLD(answer[1] == SANIOTKA_SHORT_LISTS && untouched_from(0) && unreported_from(0));
+    EXPECT(saniotka_salvage(FILE_OF(gas), indexes, 1024, numbers, 1025, places, 1023, out, sizeof out, lists(), NUMBERS),
+           "0: [0] 3 [1] 38 [2] 1024");
+    EXPECT(saniotka_salvage(FILE_OF(gas), indexes, 1024, numbers, 1024, places, 1024, out, 378, lists(), NUMBERS),
+           "0: [0] 3 [1] 27 [2] 379");
+    HOLD(untouched_from(0) && unreported_from(0));
+    for (room = 0; room < SANIOTKA_ROOM; room++) {
+        EXPECT(saniotka_salvage(FILE_OF(gas), indexes, 1024, numbers, 1024, places, 1024, out, sizeof out, lists(), room),
+               "1:");
+        HOLD(untouched_from(0) && unreported_from(0));
+    }
+    /* retval without out in interface 2, and an index past the last interface in 3 */
+    damaged[281] = 0x20;
+    damaged[445] = 40;
+    EXPECT(SALVAGE(damaged, SANIOTKA_REPORTS), "0: [0] 0 [1] 279 [2] 2");
+    HOLD(untouched_from(279) && unreported_from(2));
+    HOLD(indexes[0] == 2 && numbers[0] == 16 && places[0] == 281);
+    HOLD(indexes[1] == 3 && numbers[1] == 15 && places[1] == 444);
+    memcpy(again, out, 279);
+    EXPECT(saniotka_check(again, 279, list(), NUMBERS), "0: [0] 0 [1] 4");
+    EXPECT(saniotka_salvage(again, 279, indexes, 1024, numbers, 1024, places, 1024, out, 279, lists(), NUMBERS),
+           "0: [0] 0 [1] 279 [2] 0");
+    HOLD(memcmp(out, again, 279) == 0 && unreported_from(0));
+}
+
 /* A list with too little room: every call says so, and neither the list nor the buffer changes. */
 static void short_lists(void) {
     size_t room;
@@ -300,6 +360,11 @@ int main(int count, char **arguments) {
     gas_length = load(folder, "gas.xpt", gas, sizeof gas);
     gas_old_length = load(folder, "gas_old.xpt", gas_old, sizeof gas_old);
     gas_torn_length = load(folder, "gas_torn.xpt", gas_torn, sizeof gas_torn);
+    if (count > 2) {
+        salvages();
+        printf("%d comparisons, %d wrong\n", runs, failures);
+        return failures == 0 ? 0 : 1;
+    }
     checks();
     interfaces();
     members();
