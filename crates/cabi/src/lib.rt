@@ -12,6 +12,7 @@ ghost use Rattle.cabi.specs.Kind.{askKind};
 mod kinds;
 mod links;
 mod piles;
+mod rdbs;
 mod salvages;
 
 // What a call returns.

@@ -14,7 +14,7 @@ use Rattle.words.specs.Words.{wordsOf}
 use Rattle.verbs.specs.declared.Verb.{Verb}
 use Rattle.verbs.specs.declared.Verb.the-variants as verb
 use Rattle.tasks.specs.declared.Task.{Task}
-use Rattle.tasks.specs.declared.Task.the-variants.{Mistaken, Run, Pile}
+use Rattle.tasks.specs.declared.Task.the-variants.{Mistaken, Run, Pile, Types}
 use Rattle.tasks.specs.Tasks.{inBatch, taskOf}
 use Rattle.link.specs.declared.Which.the-variants.{Union}
 use Rattle.adopt.specs.Adopt.{adoptIn, adoptAnswer}
@@ -85,3 +85,4 @@ answer-saves separator line first second out n {s} k e = rw (← k, e) (task (ta
     task (Mistaken m) = tt
     task (Run v) = verb-saves (inBatch separator) v (wordsOf separator line) first second out
     task (Pile k) = tt
+    task (Types m q) = tt

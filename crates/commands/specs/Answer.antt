@@ -12,6 +12,7 @@ use Rattle.sayings.specs.declared.Why.the-variants.{Answered}
 use Rattle.sayings.specs.declared.Said.{Said}
 use Rattle.sayings.specs.Sayings.{Saying, saying, mistaken}
 use Rattle.questions.specs.Lines.{askedSaying}
+use Rattle.rdb_questions.specs.Lines.{typesSaying}
 use Rattle.joining.specs.declared.Normalised.{Normalised}
 use Rattle.joining.specs.declared.Normalised.the-variants as normalised
 use Rattle.link.specs.declared.Which.{Which}
@@ -29,7 +30,7 @@ use Rattle.listed.specs.Rest.{noRest, Opens}
 use Rattle.tabled.specs.Text.{tableSaying}
 use Rattle.tasks.specs.declared.Mistake.the-variants.{Words}
 use Rattle.tasks.specs.declared.Task.{Task}
-use Rattle.tasks.specs.declared.Task.the-variants.{Mistaken, Run, Pile}
+use Rattle.tasks.specs.declared.Task.the-variants.{Mistaken, Run, Pile, Types}
 use Rattle.tasks.specs.Tasks.{inBatch, taskOf}
 use Rattle.tasks.specs.Mistakes.{mistakeText}
 use Rattle.commands.specs.declared.Save.{Save}
@@ -89,6 +90,7 @@ unfoldable pub taskAnswer : Bool → Task → List (List ℕ) → List ℕ → L
 taskAnswer b (Mistaken m) ws first second out = answered (mistaken (mistakeText m)) out
 taskAnswer b (Run v) ws first second out = verbAnswer b v ws first second out
 taskAnswer b (Pile n) ws first second out = answered (saying [] Answered) out
+taskAnswer b (Types m q) ws first second out = answered (typesSaying m q first ws) out
 
 -- the line, about the bytes of the file or files that it names
 unfoldable pub answerOf : ℕ → List ℕ → List ℕ → List ℕ → List ℕ → Answer

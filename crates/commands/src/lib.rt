@@ -229,5 +229,13 @@ pub fn answer(
         Task::Mistaken(what) => answered(tasks::tell(what, text)),
         Task::Run(verb) => run(verb, line, separator, first, second, out, work, text),
         Task::Pile(_) => answered(silent()),
+        Task::Types(m, asked) => answered(rdb_questions::ask(
+            m,
+            asked,
+            line,
+            separator,
+            first,
+            text,
+        )),
     }
 }

@@ -50,6 +50,22 @@ askingText = ((((entryText (verb.Ask Check) ++ entryText verb.List) ++ entryText
 unfoldable pub memberText : List ℕ
 memberText = (entryText (verb.Ask Method) ++ entryText (verb.Ask Slot)) ++ entryText (verb.Ask Constant)
 
+-- about a types.rdb, in either reading
+abbrev pub rdbCheckHelp : List ℕ
+rdbCheckHelp = ascii "xpt rdb check FILE" ++ (newline ++ (ascii "    accepted and the number of entries visited, or refused with a number and a place; FILE is a types.rdb" ++ newline))
+
+abbrev pub rdbEntityHelp : List ℕ
+rdbEntityHelp = ascii "xpt rdb entity FILE PATH" ++ (newline ++ (ascii "    found, the kind byte and the offset of what the dotted path leads to, or none" ++ newline))
+
+abbrev pub rdbConstHelp : List ℕ
+rdbConstHelp = ascii "xpt rdb const FILE PATH" ++ (newline ++ (ascii "    found, the type of the constant and its value, the bits of a float or double in hexadecimal, or none" ++ newline))
+
+abbrev pub officeHelp : List ℕ
+officeHelp = ascii "xpt office check|entity|const .." ++ (newline ++ (ascii "    the same where read-only attributes have no set exceptions, as office suites write them" ++ newline))
+
+unfoldable pub typesText : List ℕ
+typesText = ((rdbCheckHelp ++ rdbEntityHelp) ++ rdbConstHelp) ++ officeHelp
+
 -- `batch`
 abbrev pub batchText : List ℕ
 batchText = ascii "xpt batch" ++ (newline ++ (ascii "    takes one command a line from standard input, without the word xpt" ++ newline))
@@ -64,7 +80,7 @@ outputText = ((((entryText verb.Normal ++ entryText verb.Adopt) ++ entryText ver
 
 -- what the words stand for
 abbrev pub fileNote : List ℕ
-fileNote = ascii "FILE, A, B and so on are typelibs; - is standard input. An OUT that is there already is written over with -f only." ++ newline
+fileNote = ascii "FILE, A, B and so on are typelibs, but for rdb and office; - is standard input. An OUT that is there already is written over with -f only." ++ newline
 
 abbrev pub hexNote : List ℕ
 hexNote = ascii "HEX is an IID: 32 hexadecimal digits, or in groups of 8-4-4-4-12, with braces around them or without." ++ newline
@@ -79,7 +95,7 @@ unfoldable pub noteText : List ℕ
 noteText = ((fileNote ++ hexNote) ++ indexNote) ++ streamNote
 
 unfoldable pub helpText : List ℕ
-helpText = (((introText ++ askingText) ++ memberText) ++ outputText) ++ noteText
+helpText = ((((introText ++ askingText) ++ memberText) ++ typesText) ++ outputText) ++ noteText
 
 -- the help of one command; the whole where it is unknown
 unfoldable pub helpOf : Verb → List ℕ

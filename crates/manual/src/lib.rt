@@ -5,7 +5,7 @@ use verbs::Verb;
 ghost use Prim.Native.Nat.{_+_, _≤_};
 ghost use Rattle.printed.specs.Writing.{Wrote};
 ghost use Rattle.failures.specs.Room.{room, Made};
-ghost use Rattle.manual.specs.Manual.{answerText, purposeText, entryText, askingText, memberText, outputText, noteText, helpText, helpOf, versionText};
+ghost use Rattle.manual.specs.Manual.{answerText, purposeText, entryText, askingText, memberText, typesText, outputText, noteText, helpText, helpOf, versionText};
 
 // What a question is answered with, from `at` on.
 fn put_answer(question: Question, text: &mut [u8; ROOM], at: usize) -> usize
@@ -117,6 +117,32 @@ fn put_members(text: &mut [u8; ROOM], at: usize) -> usize
     put_entry(Verb::Ask(Question::Constant), text, constant)
 }
 
+fn put_types(text: &mut [u8; ROOM], at: usize) -> usize
+    requires { ⌜ at + 1024 ≤ room ⌝ }
+    ensures { λ r. ⌜ Wrote (now (text .entry)) at typesText r (now (text .exit)) × (r ≤ at + 1024) ⌝ }
+{
+    let entity = text::put_bytes(
+        text,
+        at,
+        b"xpt rdb check FILE\n    accepted and the number of entries visited, or refused with a number and a place; FILE is a types.rdb\n",
+    );
+    let constant = text::put_bytes(
+        text,
+        entity,
+        b"xpt rdb entity FILE PATH\n    found, the kind byte and the offset of what the dotted path leads to, or none\n",
+    );
+    let office = text::put_bytes(
+        text,
+        constant,
+        b"xpt rdb const FILE PATH\n    found, the type of the constant and its value, the bits of a float or double in hexadecimal, or none\n",
+    );
+    text::put_bytes(
+        text,
+        office,
+        b"xpt office check|entity|const ..\n    the same where read-only attributes have no set exceptions, as office suites write them\n",
+    )
+}
+
 fn put_outputs(text: &mut [u8; ROOM], at: usize) -> usize
     requires { ⌜ at + 1536 ≤ room ⌝ }
     ensures { λ r. ⌜ Wrote (now (text .entry)) at outputText r (now (text .exit)) × (r ≤ at + 1536) ⌝ }
@@ -144,7 +170,7 @@ fn put_notes(text: &mut [u8; ROOM], at: usize) -> usize
     let hex = text::put_bytes(
         text,
         at,
-        b"FILE, A, B and so on are typelibs; - is standard input. An OUT that is there already is written over with -f only.\n",
+        b"FILE, A, B and so on are typelibs, but for rdb and office; - is standard input. An OUT that is there already is written over with -f only.\n",
     );
     let index = text::put_bytes(
         text,
@@ -172,7 +198,8 @@ pub fn help(text: &mut [u8; ROOM]) -> usize
         b"xpt checks, lists, asks, adopts, normalises, links and salvages XPCOM typelibs. Each answer is one line on standard output, but for a listing, a table and what was salvaged.\n\n",
     );
     let members = put_asking(text, asking);
-    let outputs = put_members(text, members);
+    let types = put_members(text, members);
+    let outputs = put_types(text, types);
     let notes = put_outputs(text, outputs);
     put_notes(text, notes)
 }
@@ -198,6 +225,13 @@ pub fn help_of(verb: Verb, text: &mut [u8; ROOM]) -> usize
         Verb::Salvage => one(Verb::Salvage, text),
         Verb::Unknown => help(text),
     }
+}
+
+// The help of the commands about a types.rdb.
+pub fn types_help(text: &mut [u8; ROOM]) -> usize
+    ensures { λ r. ⌜ Made typesText (now (text .entry)) r (now (text .exit)) ⌝ }
+{
+    put_types(text, 0)
 }
 
 // The program's version, and the kit that it is proved and built with.

@@ -37,12 +37,12 @@ use Rattle.rdb.specs.Questions.{entityFound, constantSaid, constantFound
 
 -- ---- the verdict
 
-accepted : (g : Got Sound) {r : Verdict} {v : ℕ} → r ≡ verdict.Accepted v → r ≡ verdictOf g → Accepted g
+pub accepted : (g : Got Sound) {r : Verdict} {v : ℕ} → r ≡ verdict.Accepted v → r ≡ verdictOf g → Accepted g
 unfolding verdictOf
 accepted (got x e) q h = (x, e, refl)
 accepted (bad n p) q h = absurd (let z : _≡_ {A = ℕ} 0 1 = cc in omega arith)
 
-refused : (g : Got Sound) {r : Verdict} {w : Refusal} → r ≡ verdict.Refused w → r ≡ verdictOf g → g ≡ bad (w .no) (w .place)
+pub refused : (g : Got Sound) {r : Verdict} {w : Refusal} → r ≡ verdict.Refused w → r ≡ verdictOf g → g ≡ bad (w .no) (w .place)
 unfolding verdictOf
 refused (got x e) q h = absurd (let z : _≡_ {A = ℕ} 0 1 = cc in omega arith)
 refused (bad n p) {r} {w} q h = let z : _≡_ {A = Refusal} (record { no = n; place = p }) w = cc in ap (λ (y : Refusal). bad (y .no) (y .place)) z

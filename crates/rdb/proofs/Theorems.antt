@@ -20,7 +20,7 @@ use Rattle.rdb_text.specs.declared.Class.the-variants.{Ascii}
 use Rattle.rdb_text.specs.Field.{byteAt}
 use Rattle.rdb_text.specs.Text.{readText, readTexts}
 use Rattle.rdb_text.proofs.FieldLaws.{f-byte}
-use Rattle.rdb_map.specs.Map.{visitLimit, Entry, keyAt, hasKeyOf, stoodEarlier, readMap}
+use Rattle.rdb_map.specs.Map.{entryPlace, visitLimit, Entry, keyAt, hasKeyOf, stoodEarlier, readMap}
 use Rattle.rdb_map.proofs.MapLaws.{earlier-yes}
 use Rattle.rdb_record.specs.Notes.{readNotes}
 use Rattle.rdb_record.specs.Enum.{readEnum}
@@ -28,7 +28,7 @@ use Rattle.rdb_interface.specs.declared.SetCount.{SetCount}
 use Rattle.rdb_interface.specs.declared.SetCount.the-variants.{Always, UnlessReadOnly}
 use Rattle.rdb_interface.specs.Interface.{attribute, readSets, readAttribute, readInterface}
 use Rattle.rdb_file.specs.Visit.{Sound, moduleLimit, alone, visitRecord, visitWith, visitEntity}
-use Rattle.rdb_file.specs.Kind.{isAnnotated, kindOf, isReserved}
+use Rattle.rdb_file.specs.Kind.{moduleKind, enumKind, interfaceKind, isAnnotated, kindOf, isReserved}
 use Rattle.rdb_file.specs.File.{rootAt, rootCount, readRoot, readFile}
 use Rattle.rdb_path.specs.Path.{entityAt}
 use Rattle.rdb_path.specs.Reached.{Visited, Checked}
@@ -50,14 +50,14 @@ entries-few m s x v h = fact Few _ (file-facts m s) h
 -- ---- no two entries of a map have the same key, so what a path leads to does not hang on a map's order
 
 module _ (s : List ℕ) (hold v n at : ℕ) {es : List Entry} {e : ℕ} (h : readMap s hold v n at ≡ got es e) where
-  has-key : (i j : ℕ) → keyAt s (at + 8 * i) ≡ keyAt s (at + 8 * j) → hasKeyOf s at (at + 8 * j) i ≡ true
+  has-key : (i j : ℕ) → keyAt s (entryPlace at i) ≡ keyAt s (entryPlace at j) → hasKeyOf s at (entryPlace at j) i ≡ true
   unfolding hasKeyOf
   has-key i j k = same-word _ _ k
 
-  apart : (i j : ℕ) → i < j → j < n → keyAt s (at + 8 * i) ≡ keyAt s (at + 8 * j) → ⊥
-  apart i j l m k = clash (stoodEarlier s at (at + 8 * j)) (sym (earlier-yes s at j i l (has-key i j k))) (entry-is s hold v n at h j m .alone)
+  apart : (i j : ℕ) → i < j → j < n → keyAt s (entryPlace at i) ≡ keyAt s (entryPlace at j) → ⊥
+  apart i j l m k = clash (stoodEarlier s at (entryPlace at j)) (sym (earlier-yes s at j i l (has-key i j k))) (entry-is s hold v n at h j m .alone)
 
-  pub one-key : (i j : ℕ) → i < n → j < n → keyAt s (at + 8 * i) ≡ keyAt s (at + 8 * j) → i ≡ j
+  pub one-key : (i j : ℕ) → i < n → j < n → keyAt s (entryPlace at i) ≡ keyAt s (entryPlace at j) → i ≡ j
   one-key i j a b k = elim (three i j) [
     | inl l ↦ absurd (apart i j l b k)
     | inr w ↦ elim w [
@@ -109,8 +109,8 @@ same-attribute a s p f =
 abbrev Kept : SetCount → List ℕ → ℕ → Sound → ℕ → Type 0
 Kept m s o x e =
     (isReserved (getD s o 0) ≡ false)
-    × (kindOf (getD s o 0) ≡ 1 → Accepted (readEnum (isAnnotated (getD s o 0)) s (o + 1)))
-    × (kindOf (getD s o 0) ≡ 5 → Accepted (readInterface m (isAnnotated (getD s o 0)) s (o + 1)))
+    × (kindOf (getD s o 0) ≡ enumKind → Accepted (readEnum (isAnnotated (getD s o 0)) s (o + 1)))
+    × (kindOf (getD s o 0) ≡ interfaceKind → Accepted (readInterface m (isAnnotated (getD s o 0)) s (o + 1)))
 
 -- a record that leads nowhere was read
 alone-read : {X : Type 0} (g : Got X) (v : ℕ) {x : Sound} {e : ℕ} → alone g v ≡ got x e → Accepted g
@@ -122,7 +122,7 @@ unfolding isReserved
 module-free k z = sym (is-eq _ _ _ _ z refl)
 
 module _ (m : SetCount) (s : List ℕ) (o v : ℕ) where
-  kept-module : getD s o 0 ≡ 0 → (x : Sound) (e : ℕ) → Kept m s o x e
+  kept-module : getD s o 0 ≡ moduleKind → (x : Sound) (e : ℕ) → Kept m s o x e
   kept-module z x e = (module-free _ z, λ q. absurd (omega arith), λ q. absurd (omega arith))
 
   kept-record : isReserved (getD s o 0) ≡ false → Facts (Kept m s o) (visitRecord m s (getD s o 0) o v)
@@ -148,10 +148,10 @@ module _ (m : SetCount) (s : List ℕ) (o v : ℕ) where
 pub record Opened (m : SetCount) (s : List ℕ) (o : ℕ) : Type 0 where
   pub inside : o < length s
   pub kind : isReserved (getD s o 0) ≡ false
-  pub enum : kindOf (getD s o 0) ≡ 1 → Accepted (readEnum (isAnnotated (getD s o 0)) s (o + 1))
-  pub interface : kindOf (getD s o 0) ≡ 5 → Accepted (readInterface m (isAnnotated (getD s o 0)) s (o + 1))
+  pub enum : kindOf (getD s o 0) ≡ enumKind → Accepted (readEnum (isAnnotated (getD s o 0)) s (o + 1))
+  pub interface : kindOf (getD s o 0) ≡ interfaceKind → Accepted (readInterface m (isAnnotated (getD s o 0)) s (o + 1))
 
-visited-opened : (m : SetCount) (s : List ℕ) (o : ℕ) → Visited m s o → Opened m s o
+pub visited-opened : (m : SetCount) (s : List ℕ) (o : ℕ) → Visited m s o → Opened m s o
 visited-opened m s o w =
     let a = w .accepted in
     let k = fact (Kept m s o) _ (kept-facts m s o (w .before) (w .left) (w .from)) (a .2) in

@@ -1,14 +1,13 @@
 -- Visits: the entries of a map one by one, and how many entries were visited.
 -- Assumes nothing.
-use mathlib.Core.Path.{_≡_, refl, sym, ap, _∙_}
+use mathlib.Core.Path.{_≡_, refl, sym, _∙_}
 use mathlib.Core.Bool.{true, false}
 use mathlib.Core.List.{List, [], _∷_}
-use Prim.Native.Nat.{ℕ, zero, suc, _+_, _-_, _*_, _/_, _≤_, _<_}
+use Prim.Native.Nat.{ℕ, zero, suc, _+_, _-_, _≤_, _<_}
 use native.Mathlib.Omega.{arith}
 use native.Mathlib.Numerals.{add-one}
 use lib.ListN.{length, getD, drop, drop-of-length-le}
 use lib.Seq.{drop-cons}
-use Rattle.number.specs.Choice.{if_then_else_, _=?_}
 use Rattle.number.specs.Number.{le}
 use Rattle.reading.specs.Got.{Got, got, bad, next, many, stepOf}
 use Rattle.reading.specs.declared.Step.{Step}
@@ -16,18 +15,18 @@ use Rattle.reading.specs.declared.Step.the-variants.{End, Refused}
 use Rattle.reading.specs.declared.Refusal.{Refusal}
 use Rattle.reading.specs.declared.Verdict.the-variants as verdict
 use Rattle.reading.specs.declared.Verdict.the-variants.{Accepted}
-use Rattle.reading.proofs.Steps.{refused, told, next-end, next-stop, next-refused, at-end, at-bad, is-lt, no-lt, is-eq, no-eq, is-true, is-false}
+use Rattle.reading.proofs.Steps.{refused, told, next-end, next-refused, at-end, at-bad, is-lt, no-lt, is-eq, no-eq, is-true, is-false}
 use Rattle.reading.proofs.Facts.{Facts, fact, f-if, f-unless, f-bad, f-got, f-next, f-read}
 use Rattle.reading.proofs.Rows.{many-length, many-at, many-ends}
 use Rattle.rdb_text.proofs.FieldLaws.{byte-in, byte-out, uint-in, uint-out, f-byte, f-uint}
-use Rattle.rdb_map.specs.Map.{visitLimit, Entry, entryAt, entryPayload, entriesBefore, readEntry, readMap}
+use Rattle.rdb_map.specs.Map.{entryBytes, entryPlace, payloadPlace, visitLimit, Entry, entryAt, entryPayload, readEntry, readMap}
 use Rattle.rdb_map.proofs.MapLaws.{EntryAt, entry-at, before-is}
 use Rattle.rdb_interface.specs.declared.SetCount.{SetCount}
 use Rattle.rdb_record.specs.Notes.{readNotes}
 use Rattle.rdb_file.specs.Entered.{noEntry, Entered, Stands}
-use Rattle.rdb_file.specs.Kind.{isAnnotated, isReserved}
+use Rattle.rdb_file.specs.Kind.{moduleKind, isAnnotated, isReserved}
 use Rattle.rdb_file.specs.File.{rootAt, rootCount, readRoot, verdictOf}
-use Rattle.rdb_file.specs.Visit.{moduleLimit, Sound, sound, each, alone, visitConstant, visitGroup, visitModule, visitRecord, visitWith, visitEntity}
+use Rattle.rdb_file.specs.Visit.{countPlace, mapPlace, moduleLimit, Sound, sound, each, alone, visitConstant, visitGroup, visitModule, visitRecord, visitWith, visitEntity}
 
 -- ---- a map that was read
 
@@ -36,8 +35,8 @@ module _ (s : List ℕ) (hold v n at : ℕ) {es : List Entry} {e : ℕ} (h : rea
   unfolding readMap
   read = h
 
-  pub entry-is : (i : ℕ) → i < n → EntryAt s at hold v (at + 8 * i) (getD es i noEntry) (at + 8 * i + 8)
-  entry-is i l = entry-at s at hold v (at + 8 * i) (many-at (readEntry s at hold v) 8 (λ p x d g. entry-at s at hold v p g .end) noEntry n i at l read)
+  pub entry-is : (i : ℕ) → i < n → EntryAt s at hold v (entryPlace at i) (getD es i noEntry) (entryPlace at i + entryBytes)
+  entry-is i l = entry-at s at hold v (entryPlace at i) (many-at (readEntry s at hold v) entryBytes (λ p x d g. entry-at s at hold v p g .end) noEntry n i at l read)
 
   pub map-entered : Entered s at n es
   map-entered = record {
@@ -72,16 +71,16 @@ module _ (f : ℕ → ℕ → ℕ → Got Sound) where
     left-one l = let q : i < length es = omega (arith, m .count) in rw (add-one i) (drop-cons es i noEntry q)
 
     -- the next of them
-    each-next : i < n → each f (drop i es) v ≡ next (f (at + 8 * i) (le 4 s (at + 8 * i + 4)) v) λ _ v. each f (drop (i + 1) es) v
+    each-next : i < n → each f (drop i es) v ≡ next (f (entryPlace at i) (le 4 s (payloadPlace at i)) v) λ _ v. each f (drop (i + 1) es) v
     each-next l = rw (left-one l, each-cons, m .place i l, m .payload i l) refl
 
     pub each-done : n ≤ i → End v ≡ stepOf (each f (drop i es) v)
     each-done l = rw (drop-of-length-le es {i = i} (omega (arith, m .count)), each-none) (at-end sound v)
 
-    pub each-refused : {o a b : ℕ} {r : Step} → i < n → o ≡ le 4 s (at + 8 * i + 4) → r ≡ refused a b → r ≡ stepOf (f (at + 8 * i) o v) → r ≡ stepOf (each f (drop i es) v)
+    pub each-refused : {o a b : ℕ} {r : Step} → i < n → o ≡ le 4 s (payloadPlace at i) → r ≡ refused a b → r ≡ stepOf (f (entryPlace at i) o v) → r ≡ stepOf (each f (drop i es) v)
     each-refused l k q h = rw (each-next l) (next-refused _ _ q (rw k at h))
 
-    pub each-more : {o e : ℕ} {r : Step} → i < n → o ≡ le 4 s (at + 8 * i + 4) → r ≡ End e → r ≡ stepOf (f (at + 8 * i) o v) → stepOf (each f (drop i es) v) ≡ stepOf (each f (drop (i + 1) es) e)
+    pub each-more : {o e : ℕ} {r : Step} → i < n → o ≡ le 4 s (payloadPlace at i) → r ≡ End e → r ≡ stepOf (f (entryPlace at i) o v) → stepOf (each f (drop i es) v) ≡ stepOf (each f (drop (i + 1) es) e)
     unfolding next
     each-more l k q h = let t = told _ (sym q ∙ (rw k at h)) in rw (each-next l, t .1) refl
 
@@ -94,10 +93,10 @@ module _ (f : ℕ → ℕ → ℕ → Got Sound) (s : List ℕ) (at n v : ℕ) w
   turned-start = record { same = λ es m. refl }
 
   module _ (i w : ℕ) (t : Turned f s at n v i w) where
-    pub turned-more : {o e : ℕ} {r : Step} → i < n → o ≡ le 4 s (at + 8 * i + 4) → r ≡ End e → r ≡ stepOf (f (at + 8 * i) o w) → Turned f s at n v (i + 1) e
+    pub turned-more : {o e : ℕ} {r : Step} → i < n → o ≡ le 4 s (payloadPlace at i) → r ≡ End e → r ≡ stepOf (f (entryPlace at i) o w) → Turned f s at n v (i + 1) e
     turned-more l k q h = record { same = λ es m. t .same es m ∙ each-more f s at n i w es m l k q h }
 
-    pub turned-refused : {o a b : ℕ} {r : Step} → i < n → o ≡ le 4 s (at + 8 * i + 4) → r ≡ refused a b → r ≡ stepOf (f (at + 8 * i) o w) → (es : List Entry) → Entered s at n es → r ≡ stepOf (each f es v)
+    pub turned-refused : {o a b : ℕ} {r : Step} → i < n → o ≡ le 4 s (payloadPlace at i) → r ≡ refused a b → r ≡ stepOf (f (entryPlace at i) o w) → (es : List Entry) → Entered s at n es → r ≡ stepOf (each f es v)
     turned-refused l k q h es m = each-refused f s at n i w es m l k q h ∙ sym (t .same es m)
 
     pub turned-done : n ≤ i → (es : List Entry) → Entered s at n es → End w ≡ stepOf (each f es v)
@@ -170,15 +169,15 @@ module _ (m : SetCount) (inner : ℕ → ℕ → Got Sound) (s : List ℕ) (o v 
   unfolding visitWith
   with-out h = byte-out s o _ h
 
-  with-module : {z : Step} → o < length s → getD s o 0 ≡ 0 → z ≡ stepOf (inner o v) → z ≡ stepOf (visitWith m inner s o v)
+  with-module : {z : Step} → o < length s → getD s o 0 ≡ moduleKind → z ≡ stepOf (inner o v) → z ≡ stepOf (visitWith m inner s o v)
   unfolding visitWith
   with-module h k e = byte-in s o _ h (is-eq _ _ _ _ k e)
 
-  with-reserved : o < length s → (getD s o 0 ≡ 0 → ⊥) → isReserved (getD s o 0) ≡ true → refused 34 o ≡ stepOf (visitWith m inner s o v)
+  with-reserved : o < length s → (getD s o 0 ≡ moduleKind → ⊥) → isReserved (getD s o 0) ≡ true → refused 34 o ≡ stepOf (visitWith m inner s o v)
   unfolding visitWith
   with-reserved h k r = byte-in s o _ h (no-eq _ _ _ _ k (is-true _ _ _ r (at-bad _ _ _)))
 
-  with-record : {z : Step} → o < length s → (getD s o 0 ≡ 0 → ⊥) → isReserved (getD s o 0) ≡ false → z ≡ stepOf (visitRecord m s (getD s o 0) o v) → z ≡ stepOf (visitWith m inner s o v)
+  with-record : {z : Step} → o < length s → (getD s o 0 ≡ moduleKind → ⊥) → isReserved (getD s o 0) ≡ false → z ≡ stepOf (visitRecord m s (getD s o 0) o v) → z ≡ stepOf (visitWith m inner s o v)
   unfolding visitWith
   with-record h k r e = byte-in s o _ h (no-eq _ _ _ _ k (is-false _ _ _ r e))
 
@@ -189,22 +188,22 @@ module _ (m : SetCount) (s : List ℕ) (p o v : ℕ) where
   visit-out (suc left) h = with-out m _ s o v h
 
   -- one module too many
-  pub visit-deep : (left : ℕ) → o < length s → getD s o 0 ≡ 0 → left ≡ 0 → refused 36 p ≡ stepOf (visitEntity m left s p o v)
+  pub visit-deep : (left : ℕ) → o < length s → getD s o 0 ≡ moduleKind → left ≡ 0 → refused 36 p ≡ stepOf (visitEntity m left s p o v)
   unfolding visitEntity
   visit-deep zero h k e = with-module m _ s o v h k (at-bad _ _ _)
   visit-deep (suc left) h k e = absurd (omega arith)
 
-  pub visit-module : (left : ℕ) {z : Step} → o < length s → getD s o 0 ≡ 0 → (left ≡ 0 → ⊥) → z ≡ stepOf (visitModule (visitEntity m (left - 1) s) s o v) → z ≡ stepOf (visitEntity m left s p o v)
+  pub visit-module : (left : ℕ) {z : Step} → o < length s → getD s o 0 ≡ moduleKind → (left ≡ 0 → ⊥) → z ≡ stepOf (visitModule (visitEntity m (left - 1) s) s o v) → z ≡ stepOf (visitEntity m left s p o v)
   unfolding visitEntity
   visit-module zero h k f e = absurd (f refl)
   visit-module (suc left) h k f e = let q : suc left - 1 ≡ left = omega arith in with-module m _ s o v h k (rw q at e)
 
-  pub visit-reserved : (left : ℕ) → o < length s → (getD s o 0 ≡ 0 → ⊥) → isReserved (getD s o 0) ≡ true → refused 34 o ≡ stepOf (visitEntity m left s p o v)
+  pub visit-reserved : (left : ℕ) → o < length s → (getD s o 0 ≡ moduleKind → ⊥) → isReserved (getD s o 0) ≡ true → refused 34 o ≡ stepOf (visitEntity m left s p o v)
   unfolding visitEntity
   visit-reserved zero h k r = with-reserved m _ s o v h k r
   visit-reserved (suc left) h k r = with-reserved m _ s o v h k r
 
-  pub visit-record : (left : ℕ) {z : Step} → o < length s → (getD s o 0 ≡ 0 → ⊥) → isReserved (getD s o 0) ≡ false → z ≡ stepOf (visitRecord m s (getD s o 0) o v) → z ≡ stepOf (visitEntity m left s p o v)
+  pub visit-record : (left : ℕ) {z : Step} → o < length s → (getD s o 0 ≡ moduleKind → ⊥) → isReserved (getD s o 0) ≡ false → z ≡ stepOf (visitRecord m s (getD s o 0) o v) → z ≡ stepOf (visitEntity m left s p o v)
   unfolding visitEntity
   visit-record zero h k r e = with-record m _ s o v h k r e
   visit-record (suc left) h k r e = with-record m _ s o v h k r e
@@ -212,23 +211,23 @@ module _ (m : SetCount) (s : List ℕ) (p o v : ℕ) where
 -- ---- a module, and a constant group: their number of entries, and their map
 
 module _ (f : ℕ → ℕ → ℕ → Got Sound) (s : List ℕ) (o v : ℕ) where
-  pub module-out : length s < o + 5 → refused 32 (o + 1) ≡ stepOf (visitModule f s o v)
+  pub module-out : length s < mapPlace o → refused 32 (countPlace o) ≡ stepOf (visitModule f s o v)
   unfolding visitModule
   module-out h = uint-out s (o + 1) _ 4 (omega arith)
 
-  pub module-map : {n : ℕ} {z : Step} → o + 5 ≤ length s → n ≡ le 4 s (o + 1) → z ≡ stepOf (next (readMap s o v n (o + 5)) λ es _. each f es (v + n)) → z ≡ stepOf (visitModule f s o v)
+  pub module-map : {n : ℕ} {z : Step} → mapPlace o ≤ length s → n ≡ le 4 s (countPlace o) → z ≡ stepOf (next (readMap s o v n (mapPlace o)) λ es _. each f es (v + n)) → z ≡ stepOf (visitModule f s o v)
   unfolding visitModule
-  module-map h e g = let q : o + 1 + 4 ≡ o + 5 = omega arith in uint-in s (o + 1) _ 4 (omega arith) (rw (q, ← e) g)
+  module-map h e g = let q : countPlace o + 4 ≡ mapPlace o = omega arith in uint-in s (countPlace o) _ 4 (omega arith) (rw (q, ← e) g)
 
 module _ (s : List ℕ) (k o v : ℕ) where
-  pub group-out : length s < o + 5 → refused 32 (o + 1) ≡ stepOf (visitGroup s k o v)
+  pub group-out : length s < mapPlace o → refused 32 (countPlace o) ≡ stepOf (visitGroup s k o v)
   unfolding visitGroup
   group-out h = uint-out s (o + 1) _ 4 (omega arith)
 
-  pub group-map : {n : ℕ} {z : Step} → o + 5 ≤ length s → n ≡ le 4 s (o + 1)
-      → z ≡ stepOf (next (readMap s o v n (o + 5)) λ es e. next (readNotes (isAnnotated k) s e) λ _ _. each (visitConstant s) es (v + n)) → z ≡ stepOf (visitGroup s k o v)
+  pub group-map : {n : ℕ} {z : Step} → mapPlace o ≤ length s → n ≡ le 4 s (countPlace o)
+      → z ≡ stepOf (next (readMap s o v n (mapPlace o)) λ es e. next (readNotes (isAnnotated k) s e) λ _ _. each (visitConstant s) es (v + n)) → z ≡ stepOf (visitGroup s k o v)
   unfolding visitGroup
-  group-map h e g = let q : o + 1 + 4 ≡ o + 5 = omega arith in uint-in s (o + 1) _ 4 (omega arith) (rw (q, ← e) g)
+  group-map h e g = let q : countPlace o + 4 ≡ mapPlace o = omega arith in uint-in s (countPlace o) _ 4 (omega arith) (rw (q, ← e) g)
 
 -- what the code knows after a map was checked
 module _ (s : List ℕ) (hold v n at : ℕ) {r : Step} {e : ℕ} (q : r ≡ End e) (h : r ≡ stepOf (readMap s hold v n at)) where

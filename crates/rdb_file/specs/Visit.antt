@@ -12,7 +12,7 @@ use Rattle.rdb_record.specs.Notes.{readNotes}
 use Rattle.rdb_record.specs.Enum.{readEnum}
 use Rattle.rdb_interface.specs.Interface.{readInterface}
 use Rattle.rdb_record.specs.Constant.{readConstant}
-use Rattle.rdb_file.specs.Kind.{isAnnotated, kindOf, isReserved}
+use Rattle.rdb_file.specs.Kind.{isAnnotated, kindOf, moduleKind, enumKind, interfaceKind, groupKind, isReserved}
 
 -- "at most 16 modules deep"
 abbrev pub moduleLimit : ℕ
@@ -36,34 +36,41 @@ alone g v = next g λ _ _. got sound v
 unfoldable pub visitConstant : List ℕ → ℕ → ℕ → ℕ → Got Sound
 visitConstant s p o v = alone (readConstant s o) v
 
--- kind 7, a constant group at o with the kind byte k: its entries and annotations, then its constants
+-- where a module's or a constant group's number of entries stands, by its kind byte's place, and then its map
+abbrev pub countPlace : ℕ → ℕ
+countPlace o = o + 1
+
+abbrev pub mapPlace : ℕ → ℕ
+mapPlace o = o + 5
+
+-- a constant group at o with the kind byte k: its entries and annotations, then its constants
 unfoldable pub visitGroup : List ℕ → ℕ → ℕ → ℕ → Got Sound
 visitGroup s k o v =
-    next (uint 4 s (o + 1)) λ n e.
+    next (uint 4 s (countPlace o)) λ n e.
     next (readMap s o v n e) λ es e.
     next (readNotes (isAnnotated k) s e) λ _ _.
     each (visitConstant s) es (v + n)
 
--- kind 0, a module at o: its entries, then what they lead to
+-- a module at o: its entries, then what they lead to
 unfoldable pub visitModule : (ℕ → ℕ → ℕ → Got Sound) → List ℕ → ℕ → ℕ → Got Sound
 visitModule below s o v =
-    next (uint 4 s (o + 1)) λ n e.
+    next (uint 4 s (countPlace o)) λ n e.
     next (readMap s o v n e) λ es _.
     each below es (v + n)
 
 -- what is neither module nor reserved, at o with the kind byte k; the other kinds are not opened
 unfoldable pub visitRecord : SetCount → List ℕ → ℕ → ℕ → ℕ → Got Sound
 visitRecord m s k o v =
-    if kindOf k =? 1 then alone (readEnum (isAnnotated k) s (o + 1)) v else
-    if kindOf k =? 5 then alone (readInterface m (isAnnotated k) s (o + 1)) v else
-    if kindOf k =? 7 then visitGroup s k o v else
+    if kindOf k =? enumKind then alone (readEnum (isAnnotated k) s (o + 1)) v else
+    if kindOf k =? interfaceKind then alone (readInterface m (isAnnotated k) s (o + 1)) v else
+    if kindOf k =? groupKind then visitGroup s k o v else
     got sound v
 
 -- the entity at o; `inner` visits it if it is a module
 unfoldable pub visitWith : SetCount → (ℕ → ℕ → Got Sound) → List ℕ → ℕ → ℕ → Got Sound
 visitWith m inner s o v =
     next (byteAt s o) λ k _.
-    if k =? 0 then inner o v else
+    if k =? moduleKind then inner o v else
     if isReserved k then bad 34 o else
     visitRecord m s k o v
 

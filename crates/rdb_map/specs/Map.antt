@@ -18,6 +18,18 @@ use Rattle.rdb_text.specs.Bytes.{isAscii}
 abbrev pub visitLimit : ℕ
 visitLimit = 65536
 
+-- bytes of an entry: the Offset of its key, then that of its payload
+abbrev pub entryBytes : ℕ
+entryBytes = 8
+
+-- where entry i of the map at `at` stands
+abbrev pub entryPlace : ℕ → ℕ → ℕ
+entryPlace at i = at + entryBytes * i
+
+-- and the Offset of its payload
+abbrev pub payloadPlace : ℕ → ℕ → ℕ
+payloadPlace at i = entryPlace at i + 4
+
 -- an entry of a map: its own offset, its key, and its payload's offset
 pub data Entry : Type 0 where
   entry : ℕ → Text → ℕ → Entry
@@ -45,11 +57,11 @@ keyAt s p = wordAt s (le 4 s p)
 
 -- entry j of the map at `at` has the key of the entry at p
 unfoldable pub hasKeyOf : List ℕ → ℕ → ℕ → ℕ → Bool
-hasKeyOf s at p j = sameWord (keyAt s (at + 8 * j)) (keyAt s p)
+hasKeyOf s at p j = sameWord (keyAt s (entryPlace at j)) (keyAt s p)
 
 -- how many entries of the map at `at` stand before the one at p
 unfoldable pub entriesBefore : ℕ → ℕ → ℕ
-entriesBefore at p = (p - at) / 8
+entriesBefore at p = (p - at) / entryBytes
 
 -- one of those has the key of the entry at p
 unfoldable pub stoodEarlier : List ℕ → ℕ → ℕ → Bool

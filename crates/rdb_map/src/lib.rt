@@ -8,7 +8,8 @@ ghost use Rattle.reading.specs.Got.{stepOf};
 ghost use Rattle.key.specs.Word.{wordEnd};
 ghost use Rattle.key.specs.Key.{compareKeys};
 ghost use Rattle.sorting.specs.Table.{Sorted, Slot, heldAt};
-ghost use Rattle.rdb_map.specs.Map.{visitLimit, readKey, readPayload, readMap};
+ghost use Rattle.rdb_stops.specs.Stops.{stopCount, nameEnd, Stopped};
+ghost use Rattle.rdb_map.specs.Map.{visitLimit, entryPlace, readKey, readPayload, readMap};
 ghost use Rattle.rdb_map.specs.Named.{Named, EntryChecked};
 ghost use Rattle.rdb_map.specs.Table.{nameKey, nameIn};
 use key::Order;
@@ -18,14 +19,17 @@ use reading::Step;
 // Entries visited, each counted whenever its map is read.
 pub const VISIT_LIMIT: usize = 65536;
 
+// Bytes of an entry.
+pub const ENTRY_BYTES: usize = 8;
+
 fn pointer(x: u32) -> usize
     ensures { λ r. ⌜ r ≡ x ⌝ }
 {
     x as usize
 }
 
-// The first zero byte from `at` on, or the end of the file.
-fn word_end(file: &[u8], at: usize) -> usize
+// The first zero byte from `at` on, or the end of the file, byte by byte.
+pub fn word_end(file: &[u8], at: usize) -> usize
     requires { ⌜ at ≤ length (now file) ⌝ }
     ensures { λ r. ⌜ r ≡ wordEnd (now (file .entry)) at ⌝ }
 {
@@ -40,8 +44,8 @@ fn word_end(file: &[u8], at: usize) -> usize
 }
 
 // The name that the offset at `at` leads to.
-fn read_key(file: &[u8], at: usize) -> Step
-    requires { ⌜ (length (now file) ≤ fileLimit) × (at ≤ length (now file)) ⌝ }
+fn read_key(file: &[u8], stops: &[u32], at: usize) -> Step
+    requires { ⌜ (length (now file) ≤ fileLimit) × (at ≤ length (now file)) × (stopCount ≤ length (now stops)) × Stopped (now file) (now stops) 0 ⌝ }
     ensures { λ r. ⌜ r ≡ stepOf (readKey (now (file .entry)) at) ⌝ }
 {
     let end = at + 4;
@@ -52,23 +56,26 @@ fn read_key(file: &[u8], at: usize) -> Step
     if file.len() <= q {
         return Step::Refused(Refusal { no: 32, place: at });
     }
-    let stop = word_end(file, q);
+    let stop = rdb_stops::name_end(file, stops, q);
     if file.len() <= stop {
         return Step::Refused(Refusal { no: 32, place: at });
     }
-    if rdb_text::ascii_only(file, q, stop) {
+    if file[stop] == 0 {
         return Step::End(end);
+    }
+    if file.len() <= word_end(file, stop) {
+        return Step::Refused(Refusal { no: 32, place: at });
     }
     Step::Refused(Refusal { no: 34, place: at })
 }
 
 // The names at a and b, the shorter first.
-fn compare_names(file: &[u8], a: usize, b: usize) -> Order
-    requires { ⌜ (length (now file) ≤ fileLimit) × (wordEnd (now file) a < length (now file)) × (wordEnd (now file) b < length (now file)) ⌝ }
+fn compare_names(file: &[u8], stops: &[u32], a: usize, b: usize) -> Order
+    requires { ⌜ (length (now file) ≤ fileLimit) × (wordEnd (now file) a < length (now file)) × (wordEnd (now file) b < length (now file)) × (nameEnd (now file) a ≡ wordEnd (now file) a) × (nameEnd (now file) b ≡ wordEnd (now file) b) × (stopCount ≤ length (now stops)) × Stopped (now file) (now stops) 0 ⌝ }
     ensures { λ r. ⌜ r ≡ compareKeys (nameKey (now (file .entry)) a) (nameKey (now (file .entry)) b) ⌝ }
 {
-    let x = word_end(file, a) - a;
-    let y = word_end(file, b) - b;
+    let x = rdb_stops::name_end(file, stops, a) - a;
+    let y = rdb_stops::name_end(file, stops, b) - b;
     if x < y {
         return Order::Before;
     }
@@ -79,13 +86,13 @@ fn compare_names(file: &[u8], a: usize, b: usize) -> Order
 }
 
 // The same of entries i and j of the map at `at`.
-fn compare_entries(file: &[u8], at: usize, i: usize, j: usize) -> Order
-    requires { ⌜ (length (now file) ≤ fileLimit) × Named (now file) at (j + 1) × (i < j) ⌝ }
+fn compare_entries(file: &[u8], stops: &[u32], at: usize, i: usize, j: usize) -> Order
+    requires { ⌜ (length (now file) ≤ fileLimit) × Named (now file) at (j + 1) × (i < j) × (stopCount ≤ length (now stops)) × Stopped (now file) (now stops) 0 ⌝ }
     ensures { λ r. ⌜ r ≡ compareKeys (nameIn (now (file .entry)) at i) (nameIn (now (file .entry)) at j) ⌝ }
 {
-    let a = pointer(number::le32_at(file, at + 8 * i));
-    let b = pointer(number::le32_at(file, at + 8 * j));
-    compare_names(file, a, b)
+    let a = pointer(number::le32_at(file, at + ENTRY_BYTES * i));
+    let b = pointer(number::le32_at(file, at + ENTRY_BYTES * j));
+    compare_names(file, stops, a, b)
 }
 
 fn index(x: u16) -> usize
@@ -95,15 +102,15 @@ fn index(x: u16) -> usize
 }
 
 // The place of entry k among the k before it, which t has in order, by halving.
-fn slot_of(file: &[u8], at: usize, t: &[u16], k: usize) -> usize
-    requires { ⌜ (length (now file) ≤ fileLimit) × Named (now file) at (k + 1) × (k < visitLimit) × (k ≤ length (now t)) × Sorted (nameIn (now file) at) (now t) k k ⌝ }
+fn slot_of(file: &[u8], stops: &[u32], at: usize, t: &[u16], k: usize) -> usize
+    requires { ⌜ (length (now file) ≤ fileLimit) × Named (now file) at (k + 1) × (k < visitLimit) × (k ≤ length (now t)) × Sorted (nameIn (now file) at) (now t) k k × (stopCount ≤ length (now stops)) × Stopped (now file) (now stops) 0 ⌝ }
     ensures { λ r. ⌜ Slot (nameIn (now (file .entry)) at) (now (t .entry)) k k r ⌝ }
 {
     let mut lo: usize = 0;
     let mut hi = k;
     while lo < hi {
         let mid = lo + (hi - lo) / 2;
-        let o = compare_entries(file, at, index(t[mid]), k);
+        let o = compare_entries(file, stops, at, index(t[mid]), k);
         match o {
             Order::Before => lo = mid + 1,
             Order::Same => hi = mid,
@@ -114,14 +121,14 @@ fn slot_of(file: &[u8], at: usize, t: &[u16], k: usize) -> usize
 }
 
 // Whether the entry at place p of t has the name of entry k.
-fn held_at(file: &[u8], at: usize, t: &[u16], k: usize, p: usize) -> bool
-    requires { ⌜ (length (now file) ≤ fileLimit) × Named (now file) at (k + 1) × (k < visitLimit) × (k ≤ length (now t)) × Sorted (nameIn (now file) at) (now t) k k ⌝ }
+fn held_at(file: &[u8], stops: &[u32], at: usize, t: &[u16], k: usize, p: usize) -> bool
+    requires { ⌜ (length (now file) ≤ fileLimit) × Named (now file) at (k + 1) × (k < visitLimit) × (k ≤ length (now t)) × Sorted (nameIn (now file) at) (now t) k k × (stopCount ≤ length (now stops)) × Stopped (now file) (now stops) 0 ⌝ }
     ensures { λ r. ⌜ r ≡ heldAt (nameIn (now (file .entry)) at) (now (t .entry)) k k p ⌝ }
 {
     if k <= p {
         return false;
     }
-    let o = compare_entries(file, at, index(t[p]), k);
+    let o = compare_entries(file, stops, at, index(t[p]), k);
     match o {
         Order::Before => false,
         Order::Same => true,
@@ -149,38 +156,54 @@ fn read_payload(file: &[u8], hold: usize, at: usize) -> Step
 }
 
 // Entry k of the map at `at`, where v entries were visited before this map, and t has the k entries before it in order.
-fn check_entry(file: &[u8], t: &mut [u16], at: usize, hold: usize, v: usize, k: usize) -> Step
-    requires { ⌜ (length (now file) ≤ fileLimit) × (v ≤ visitLimit) × (at + 8 * k ≤ length (now file)) × (visitLimit ≤ length (now t)) × Named (now file) at k × Sorted (nameIn (now file) at) (now t) k k ⌝ }
+fn check_entry(
+    file: &[u8],
+    stops: &[u32],
+    t: &mut [u16],
+    at: usize,
+    hold: usize,
+    v: usize,
+    k: usize,
+) -> Step
+    requires { ⌜ (length (now file) ≤ fileLimit) × (v ≤ visitLimit) × (entryPlace at k ≤ length (now file)) × (visitLimit ≤ length (now t)) × Named (now file) at k × Sorted (nameIn (now file) at) (now t) k k × (stopCount ≤ length (now stops)) × Stopped (now file) (now stops) 0 ⌝ }
     ensures { λ r. ⌜ EntryChecked (now (file .entry)) at hold v k r (now (t .exit)) ⌝ }
 {
-    let p = at + 8 * k;
+    let p = at + ENTRY_BYTES * k;
     if VISIT_LIMIT <= v + k {
         return Step::Refused(Refusal { no: 37, place: p });
     }
-    let name = read_key(file, p);
+    let name = read_key(file, stops, p);
     let Step::End(e) = name else {
         return name;
     };
-    let slot = slot_of(file, at, t, k);
-    if held_at(file, at, t, k, slot) {
+    let slot = slot_of(file, stops, at, t, k);
+    if held_at(file, stops, at, t, k, slot) {
         return Step::Refused(Refusal { no: 35, place: p });
     }
     sorting::insert_at(t, k, slot, k as u16);
     read_payload(file, hold, e)
 }
 
-// The n entries of the map at `at`, which is held by what stands at `hold`. What t holds before does not matter.
-pub fn check_map(file: &[u8], t: &mut [u16], hold: usize, v: usize, n: usize, at: usize) -> Step
-    requires { ⌜ (length (now file) ≤ fileLimit) × (v ≤ visitLimit) × (at ≤ length (now file)) × (visitLimit ≤ length (now t)) ⌝ }
+// The n entries of the map at `at`, which is held by what stands at `hold`. What t holds before does not matter, and afterwards it may hold anything.
+pub fn check_map(
+    file: &[u8],
+    stops: &[u32],
+    t: &mut [u16],
+    hold: usize,
+    v: usize,
+    n: usize,
+    at: usize,
+) -> Step
+    requires { ⌜ (length (now file) ≤ fileLimit) × (v ≤ visitLimit) × (at ≤ length (now file)) × (visitLimit ≤ length (now t)) × (stopCount ≤ length (now stops)) × Stopped (now file) (now stops) 0 ⌝ }
     ensures { λ r. ⌜ r ≡ stepOf (readMap (now (file .entry)) hold v n at) ⌝ }
 {
     let mut k: usize = 0;
     while k < n {
-        let r = check_entry(file, t, at, hold, v, k);
+        let r = check_entry(file, stops, t, at, hold, v, k);
         let Step::End(e) = r else {
             return r;
         };
         k += 1;
     }
-    Step::End(at + 8 * k)
+    Step::End(at + ENTRY_BYTES * k)
 }

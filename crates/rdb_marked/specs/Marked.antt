@@ -7,6 +7,7 @@ use lib.IntN.{negsuc}
 use lib.Ieee.{binary32, binary64, ofBits}
 use Rattle.reading.specs.declared.Verdict.{Verdict}
 use Rattle.reading.specs.declared.Verdict.the-variants.{Accepted, Refused}
+use Rattle.rdb_text.specs.declared.Text.{Text}
 use Rattle.rdb_interface.specs.declared.SetCount.{SetCount}
 use Rattle.rdb_interface.specs.declared.SetCount.the-variants.{Always, UnlessReadOnly}
 use Rattle.rdb_value.specs.declared.Value.the-variants.{Boolean, Byte, Short, UnsignedShort, Long, UnsignedLong, Hyper, UnsignedHyper, Float, Double, FloatNan}
@@ -16,6 +17,13 @@ use Rattle.rdb.specs.declared.EntityAnswer.the-variants as entities
 use Rattle.rdb.specs.declared.ConstantAnswer.{ConstantAnswer}
 use Rattle.rdb.specs.declared.ConstantAnswer.the-variants as constants
 use Rattle.rdb.specs.Questions.{askEntity, askConstant}
+use Rattle.rdb_parts.specs.declared.Part.{Part}
+use Rattle.rdb_parts.specs.declared.Part.the-variants as parts
+use Rattle.rdb_parts.specs.declared.Inner.{Inner}
+use Rattle.rdb_parts.specs.declared.Inner.the-variants as inners
+use Rattle.rdb_parts.specs.declared.PartAnswer.{PartAnswer}
+use Rattle.rdb_parts.specs.declared.PartAnswer.the-variants as answers
+use Rattle.rdb_parts.specs.Parts.{askPart, askInner}
 use Rattle.rdb_marked.specs.Files.{office, empty, short, wrong, newer, past, typedef, above, reserved, accent, twice, sixteen, seventeen, readonly, nan}
 
 -- what is asked of a file
@@ -23,16 +31,21 @@ pub data Task : Type 0 where
   check : Task
   entity : List ℕ → Task
   constant : List ℕ → Task
+  part : List ℕ → Part → ℕ → Task
+  inner : List ℕ → Inner → ℕ → ℕ → Task
 
 pub data Result : Type 0 where
   checked : Verdict → Result
   found : EntityAnswer → Result
   valued : ConstantAnswer → Result
+  told : PartAnswer → Result
 
 unfoldable pub resultOf : SetCount → List ℕ → Task → Result
 resultOf m s check = checked (verdictOf (readFile m s))
 resultOf m s (entity path) = found (askEntity (readFile m s) s path)
 resultOf m s (constant path) = valued (askConstant (readFile m s) s path)
+resultOf m s (part path w i) = told (askPart m (readFile m s) s path w i)
+resultOf m s (inner path w i j) = told (askInner m (readFile m s) s path w i j)
 
 pub record Case : Type 0 where
   pub reading : SetCount
@@ -58,6 +71,16 @@ kindAt k o = entities.Found (record { kind = k; offset = o })
 -- the constant t.C.x of `office`
 unfoldable pub says : List ℕ → ConstantAnswer → Case
 says x a = record { reading = UnlessReadOnly; file = office; task = constant (0x74 ∷ 0x2e ∷ 0x43 ∷ 0x2e ∷ x); result = valued a }
+
+-- a part of the entity t.x of `office`
+unfoldable pub has : ℕ → Part → ℕ → PartAnswer → Case
+has x w i a = record { reading = UnlessReadOnly; file = office; task = part (0x74 ∷ 0x2e ∷ x ∷ []) w i; result = told a }
+
+unfoldable pub holds : ℕ → Inner → ℕ → ℕ → PartAnswer → Case
+holds x w i j a = record { reading = UnlessReadOnly; file = office; task = inner (0x74 ∷ 0x2e ∷ x ∷ []) w i j; result = told a }
+
+unfoldable pub text : ℕ → ℕ → Text
+text a n = record { at = a; len = n }
 
 unfoldable pub table : List Case
 table =
@@ -86,7 +109,7 @@ table =
     ∷ leads (0x74 ∷ 0x2e ∷ 0x43 ∷ 0x2e ∷ 0x42 ∷ []) entities.None
     ∷ leads (0x74 ∷ 0x2e ∷ 0x58 ∷ []) entities.None
     ∷ leads [] entities.None
-    -- B, D, F, H, L, S, UH, UL, US and Y; the low half of the DOUBLE is the FLOAT's bytes
+    -- B, D, F, H, L, S, UH, UL, US and Y; the low half of the DOUBLE is what the writer left there, a binary32 of -0.1: the bits are as stored
     ∷ says (0x42 ∷ []) (constants.Found (Boolean true))
     ∷ says (0x44 ∷ []) (constants.Found (Double (ofBits binary64 0x41414141bdcccccd)))
     ∷ says (0x46 ∷ []) (constants.Found (Float (ofBits binary32 0x3fc00000)))
@@ -98,6 +121,31 @@ table =
     ∷ says (0x55 ∷ 0x53 ∷ []) (constants.Found (UnsignedShort 65535))
     ∷ says (0x59 ∷ []) (constants.Found (Byte (negsuc 0)))
     ∷ says (0x58 ∷ []) constants.None
+    -- the third entry of t is t.I; the second constant of t.C is deprecated, the first is not
+    ∷ record { reading = UnlessReadOnly; file = office; task = part (0x74 ∷ []) parts.Entry 2; result = told (answers.Entry (record { key = text 425 1; kind = 5; offset = 277 })) }
+    ∷ has 0x43 parts.Entry 1 (answers.Entry (record { key = text 139 1; kind = 0x89; offset = 69 }))
+    ∷ has 0x43 parts.Entry 10 answers.None
+    ∷ has 0x43 parts.Note 0 answers.None
+    ∷ holds 0x43 inners.EntryNote 1 0 (answers.Text (text 86 10))
+    ∷ holds 0x43 inners.EntryNote 1 1 answers.None
+    ∷ holds 0x43 inners.EntryNote 0 0 answers.None
+    -- t.E has three members, and no bases
+    ∷ has 0x45 parts.Member 1 (answers.Member (record { name = text 263 1; value = 7 }))
+    ∷ has 0x45 parts.Member 3 answers.None
+    ∷ has 0x45 parts.Base 0 answers.None
+    -- the base of t.I, its attributes, the second with a type that is pointed to, its method and the parameters of that
+    ∷ has 0x49 parts.Base 0 (answers.Text (text 286 27))
+    ∷ has 0x49 parts.Optional 0 answers.None
+    ∷ has 0x49 parts.Attribute 0 (answers.Typed (record { kind = 0; name = text 326 1; of = text 331 4 }))
+    ∷ has 0x49 parts.Attribute 1 (answers.Typed (record { kind = 2; name = text 348 1; of = text 331 4 }))
+    ∷ has 0x49 parts.Method 0 (answers.Method (record { name = text 365 1; result = text 370 4 }))
+    ∷ holds 0x49 inners.Parameter 0 0 (answers.Typed (record { kind = 0; name = text 383 1; of = text 331 4 }))
+    ∷ holds 0x49 inners.Parameter 0 2 (answers.Typed (record { kind = 2; name = text 409 1; of = text 414 3 }))
+    ∷ holds 0x49 inners.Parameter 0 3 answers.None
+    ∷ holds 0x49 inners.SetException 1 0 answers.None
+    ∷ has 0x58 parts.Member 0 answers.None
+    -- the check comes first
+    ∷ record { reading = Always; file = office; task = part (0x74 ∷ []) parts.Entry 0; result = told (answers.Refused (record { no = 32; place = 370 })) }
     -- a.n is a NaN, with the bits as stored
     ∷ record { reading = Always; file = nan; task = constant (0x61 ∷ 0x2e ∷ 0x6e ∷ []); result = valued (constants.Found (FloatNan 0x7fa00001)) }
     ∷ []

@@ -14,8 +14,9 @@ use Rattle.number.proofs.Choice.{is-lt, no-lt, is-eq, no-eq}
 use Rattle.key.specs.Word.{wordEnd, wordAt, sameWord, Leads}
 use Rattle.key.proofs.Ends.{word-from, word-zero, length-word}
 use Rattle.key.proofs.Orders.{other-word}
-use Rattle.rdb_map.specs.Map.{keyAt}
-use Rattle.rdb_file.specs.Kind.{kindOf}
+use Rattle.rdb_map.specs.Map.{entryPlace, payloadPlace, keyAt}
+use Rattle.rdb_file.specs.Visit.{countPlace, mapPlace}
+use Rattle.rdb_file.specs.Kind.{moduleKind, groupKind, kindOf}
 use Rattle.rdb_path.specs.declared.Place.{Place}
 use Rattle.rdb_path.specs.declared.Place.the-variants.{At, Nowhere}
 use Rattle.rdb_path.specs.Path.{dotAt, cut, front, last, isCalled, payloadAt, payloadOf, andThen, entityIn, entityAt, constantIn, constantAt}
@@ -40,12 +41,12 @@ nowhere g h = rw h
 
 -- ---- an entry's name
 
-module _ (s : List ℕ) (at i : ℕ) (w : List ℕ) {q : ℕ} (e : q ≡ le 4 s (at + 8 * i)) where
+module _ (s : List ℕ) (at i : ℕ) (w : List ℕ) {q : ℕ} (e : q ≡ le 4 s (entryPlace at i)) where
   pub called-as : {b : Bool} → b ≡ sameWord (wordAt s q) w → b ≡ isCalled s at w i
   unfolding isCalled keyAt
   called-as h = h ∙ ap (λ (x : ℕ). sameWord (wordAt s x) w) e
 
-  module _ (l : wordEnd s (le 4 s (at + 8 * i)) < length s) where
+  module _ (l : wordEnd s (le 4 s (entryPlace at i)) < length s) where
     pub ended : wordEnd s q < length s
     ended = rw e l
 
@@ -71,9 +72,9 @@ module _ (s : List ℕ) (at i : ℕ) (w : List ℕ) {q : ℕ} (e : q ≡ le 4 s 
 -- ---- the payload of the first that is called so
 
 module _ (s : List ℕ) (at n : ℕ) (w : List ℕ) {i : ℕ} (e : i ≡ scan (isCalled s at w) n 0) where
-  pub payload-in : {x : ℕ} → i < n → x ≡ le 4 s (at + 8 * i + 4) → At x ≡ placeOf (payloadOf s at n w)
+  pub payload-in : {x : ℕ} → i < n → x ≡ le 4 s (payloadPlace at i) → At x ≡ placeOf (payloadOf s at n w)
   unfolding payloadOf payloadAt placeOf
-  payload-in l h = ap (λ (g : Option ℕ). placeOf g) (is-lt _ _ _ _ (omega arith) (ap (λ (y : ℕ). some y) (h ∙ ap (λ (y : ℕ). le 4 s (at + 8 * y + 4)) e)))
+  payload-in l h = ap (λ (g : Option ℕ). placeOf g) (is-lt _ _ _ _ (omega arith) (ap (λ (y : ℕ). some y) (h ∙ ap (λ (y : ℕ). le 4 s (payloadPlace at y)) e)))
 
   pub payload-out : n ≤ i → Nowhere ≡ placeOf (payloadOf s at n w)
   unfolding payloadOf
@@ -82,7 +83,7 @@ module _ (s : List ℕ) (at n : ℕ) (w : List ℕ) {i : ℕ} (e : i ≡ scan (i
 -- ---- one word after another
 
 -- more words follow
-entity-step : (s : List ℕ) (at n : ℕ) (w : List ℕ) (ws : List (List ℕ)) → ([] ≡ ws → ⊥) → entityIn s at n (w ∷ ws) ≡ andThen (payloadOf s at n w) λ o. if getD s o 0 =? 0 then entityIn s (o + 5) (le 4 s (o + 1)) ws else none
+entity-step : (s : List ℕ) (at n : ℕ) (w : List ℕ) (ws : List (List ℕ)) → ([] ≡ ws → ⊥) → entityIn s at n (w ∷ ws) ≡ andThen (payloadOf s at n w) λ o. if getD s o 0 =? moduleKind then entityIn s (mapPlace o) (le 4 s (countPlace o)) ws else none
 unfolding entityIn
 entity-step s at n w [] f = absurd (f refl)
 entity-step s at n w (x ∷ ws) f = refl
@@ -95,7 +96,7 @@ module _ (s path : List ℕ) (at n from to : ℕ) (w : First path from to) where
   unfolding entityIn
   entity-last l = rw (w .only l) refl
 
-  entity-first : to < length path → entityIn s at n (cut (drop from path)) ≡ andThen (payloadOf s at n word) λ o. if getD s o 0 =? 0 then entityIn s (o + 5) (le 4 s (o + 1)) (cut (drop (to + 1) path)) else none
+  entity-first : to < length path → entityIn s at n (cut (drop from path)) ≡ andThen (payloadOf s at n word) λ o. if getD s o 0 =? moduleKind then entityIn s (mapPlace o) (le 4 s (countPlace o)) (cut (drop (to + 1) path)) else none
   entity-first l = rw (w .more l) (entity-step s at n word (cut (drop (to + 1) path)) (cut-some _))
 
   pub entity-none : to < length path → payloadOf s at n word ≡ none → entityIn s at n (cut (drop from path)) ≡ none
@@ -103,25 +104,25 @@ module _ (s path : List ℕ) (at n from to : ℕ) (w : First path from to) where
   entity-none l h = rw (entity-first l, h) refl
 
   module _ (o : ℕ) (l : to < length path) (h : payloadOf s at n word ≡ some o) where
-    pub entity-more : getD s o 0 ≡ 0 → entityIn s at n (cut (drop from path)) ≡ entityIn s (o + 5) (le 4 s (o + 1)) (cut (drop (to + 1) path))
+    pub entity-more : getD s o 0 ≡ moduleKind → entityIn s at n (cut (drop from path)) ≡ entityIn s (mapPlace o) (le 4 s (countPlace o)) (cut (drop (to + 1) path))
     unfolding andThen
     entity-more z = rw (entity-first l, h) (sym (is-eq _ _ _ _ z refl))
 
     -- a word that leads to no module
-    pub entity-other : (getD s o 0 ≡ 0 → ⊥) → entityIn s at n (cut (drop from path)) ≡ none
+    pub entity-other : (getD s o 0 ≡ moduleKind → ⊥) → entityIn s at n (cut (drop from path)) ≡ none
     unfolding andThen
     entity-other z = rw (entity-first l, h) (sym (no-eq _ _ _ _ z refl))
 
 -- ---- a constant
 
 module _ (s : List ℕ) (w : List ℕ) (o : ℕ) where
-  pub constant-other : (kindOf (getD s o 0) ≡ 7 → ⊥) → Nowhere ≡ placeOf (constantIn s w o)
+  pub constant-other : (kindOf (getD s o 0) ≡ groupKind → ⊥) → Nowhere ≡ placeOf (constantIn s w o)
   unfolding constantIn
   constant-other f = nowhere _ (sym (no-eq _ _ _ _ f refl))
 
-  pub constant-group : {n : ℕ} {r : Place} → kindOf (getD s o 0) ≡ 7 → n ≡ le 4 s (o + 1) → r ≡ placeOf (payloadOf s (o + 5) n w) → r ≡ placeOf (constantIn s w o)
+  pub constant-group : {n : ℕ} {r : Place} → kindOf (getD s o 0) ≡ groupKind → n ≡ le 4 s (countPlace o) → r ≡ placeOf (payloadOf s (mapPlace o) n w) → r ≡ placeOf (constantIn s w o)
   unfolding constantIn
-  constant-group h e g = g ∙ ap (λ (x : Option ℕ). placeOf x) (is-eq _ _ _ _ h (ap (λ (k : ℕ). payloadOf s (o + 5) k w) e))
+  constant-group h e g = g ∙ ap (λ (x : Option ℕ). placeOf x) (is-eq _ _ _ _ h (ap (λ (k : ℕ). payloadOf s (mapPlace o) k w) e))
 
 module _ (s : List ℕ) (ws : List (List ℕ)) where
   pub constant-none : entityAt s (front ws) ≡ none → constantAt s ws ≡ none

@@ -12,22 +12,38 @@ use Rattle.number.specs.Number.{le}
 use Rattle.number.specs.Scan.{scan}
 use Rattle.number.proofs.Choice.{both, from-yes-lt, from-yes-eq, from-not-eq, from-not-lt}
 use Rattle.number.proofs.Scans.{clash}
-use Rattle.reading.specs.Got.{Got, got, bad, next, Accepted}
+use Rattle.reading.specs.Got.{Got, got, bad, next, many, Accepted}
 use Rattle.reading.proofs.Steps.{passed, parts}
 use Rattle.reading.proofs.Facts.{Facts, fact, f-if, f-unless, f-bad, f-next, f-read}
+use Rattle.reading.proofs.Rows.{many-first, many-empty}
 use Rattle.rdb_text.proofs.FieldLaws.{f-byte, f-uint}
-use Rattle.rdb_map.specs.Map.{Entry, entryAt, entryPayload, readMap}
+use Rattle.rdb_map.specs.Map.{entryBytes, entryPlace, Entry, entryAt, entryPayload, readEntry, readMap}
+use Rattle.rdb_map.proofs.MapLaws.{entry-at}
+use Rattle.rdb_record.specs.Notes.{readNotes}
 use Rattle.rdb_record.specs.Constant.{readConstant}
 use Rattle.rdb_interface.specs.declared.SetCount.{SetCount}
 use Rattle.rdb_file.specs.Entered.{noEntry}
-use Rattle.rdb_file.specs.Kind.{kindOf}
-use Rattle.rdb_file.specs.Visit.{Sound, each, alone, visitConstant, visitGroup, visitModule, visitRecord, visitWith, visitEntity}
+use Rattle.rdb_file.specs.Kind.{isAnnotated, moduleKind, groupKind, kindOf}
+use Rattle.rdb_file.specs.Visit.{countPlace, mapPlace, Sound, each, alone, visitConstant, visitGroup, visitModule, visitRecord, visitWith, visitEntity}
 use Rattle.rdb_file.specs.File.{rootAt, rootCount, readRoot, readFile}
 use Rattle.rdb_file.proofs.VisitLaws.{map-entered, entry-is}
 use Rattle.rdb_path.specs.Path.{payloadAt, payloadOf, isCalled, andThen, entityIn, entityAt, constantIn, constantAt, front, last}
 use Rattle.rdb_path.specs.Reached.{Keyed, Holds, Visited, Reached, Checked}
 
 -- ---- a map that was read, and what its entries lead to
+
+-- where it ends
+run-stop : (rd : ℕ → Got Entry) → ((p : ℕ) (x : Entry) (e : ℕ) → rd p ≡ got x e → e ≡ p + entryBytes) → (n at : ℕ) {es : List Entry} {d : ℕ} → many rd n at ≡ got es d → d ≡ entryPlace at n
+run-stop rd one zero at h = let z = many-empty rd at h .1 in omega arith
+run-stop rd one (suc n) at h =
+    let o = many-first rd n at h in
+    let m : o .mid ≡ at + entryBytes = one at (o .head) (o .mid) (o .first) in
+    let d = run-stop rd one n (o .mid) (o .rest) in
+    omega arith
+
+map-stop : (s : List ℕ) (hold v n at : ℕ) {es : List Entry} {d : ℕ} → readMap s hold v n at ≡ got es d → d ≡ entryPlace at n
+unfolding readMap
+map-stop s hold v n at h = run-stop (readEntry s at hold v) (λ p x e g. entry-at s at hold v p g .end) n at h
 
 -- each was visited
 each-passed : (f : ℕ → ℕ → ℕ → Got Sound) (es : List Entry) (v : ℕ) {x : Sound} {e : ℕ} → each f es v ≡ got x e → (i : ℕ) → i < length es → (w : ℕ) × Accepted (f (entryAt (getD es i noEntry)) (entryPayload (getD es i noEntry)) w)
@@ -48,7 +64,7 @@ module _ (f : ℕ → ℕ → ℕ → Got Sound) (s : List ℕ) (hold v n at w :
       let r = each-passed f es w g i (omega (arith, m .count)) in
       (entryAt (getD es i noEntry), r .0, rw (m .payload i l) at (r .1))
 
-  map-holds : Holds f s at n
+  pub map-holds : Holds f s at n
   map-holds = record {
     keyed = record {
       room = λ i l. map-entered s hold v n at h .room i l;
@@ -71,9 +87,9 @@ module _ (m : SetCount) (s : List ℕ) (p o v : ℕ) where
 
   -- a module
   abbrev InModule : Sound → ℕ → Type 0
-  InModule x e = (o + 5 ≤ length s) × Reached m s (o + 5) (le 4 s (o + 1))
+  InModule x e = (mapPlace o ≤ length s) × Reached m s (mapPlace o) (le 4 s (countPlace o))
 
-  module _ (z : getD s o 0 ≡ 0) where
+  module _ (z : getD s o 0 ≡ moduleKind) where
     module-with : (inner : ℕ → ℕ → Got Sound) → Facts InModule (inner o v) → Facts InModule (visitWith m inner s o v)
     unfolding visitWith
     module-with inner f = f-byte s o _ InModule (λ h. f-if InModule _ _ _ (λ _. f) (λ t. absurd (from-not-eq _ _ t z)))
@@ -81,8 +97,8 @@ module _ (m : SetCount) (s : List ℕ) (p o v : ℕ) where
     module-in : (left : ℕ) → Facts InModule (visitModule (visitEntity m left s) s o v)
     unfolding visitModule
     module-in left =
-        let q : o + 1 + 4 ≡ o + 5 = omega arith in
-        f-uint s (o + 1) _ InModule 4 (λ h. f-next (λ es d. readMap s o v (le 4 s (o + 1)) (o + 1 + 4) ≡ got es d) InModule _ _ (f-read _ _ (λ es d r. r)) (λ es d r. f-read InModule _ (λ x e g. (omega arith, record { left = left; holds = rw q at (map-holds (visitEntity m left s) s o v (le 4 s (o + 1)) (o + 1 + 4) (v + le 4 s (o + 1)) r g) }))))
+        let q : countPlace o + 4 ≡ mapPlace o = omega arith in
+        f-uint s (o + 1) _ InModule 4 (λ h. f-next (λ es d. readMap s o v (le 4 s (countPlace o)) (countPlace o + 4) ≡ got es d) InModule _ _ (f-read _ _ (λ es d r. r)) (λ es d r. f-read InModule _ (λ x e g. (omega arith, record { left = left; holds = rw q at (map-holds (visitEntity m left s) s o v (le 4 s (countPlace o)) (countPlace o + 4) (v + le 4 s (countPlace o)) r g) }))))
 
     module-facts : (left : ℕ) → Facts InModule (visitEntity m left s p o v)
     unfolding visitEntity
@@ -91,23 +107,27 @@ module _ (m : SetCount) (s : List ℕ) (p o v : ℕ) where
 
   -- a constant group
   abbrev InGroup : Sound → ℕ → Type 0
-  InGroup x e = (o + 5 ≤ length s) × Holds (visitConstant s) s (o + 5) (le 4 s (o + 1))
+  InGroup x e =
+      (mapPlace o ≤ length s)
+      × Holds (visitConstant s) s (mapPlace o) (le 4 s (countPlace o))
+      × Accepted (readNotes (isAnnotated (getD s o 0)) s (entryPlace (mapPlace o) (le 4 s (countPlace o))))
 
-  module _ (z : kindOf (getD s o 0) ≡ 7) where
-    group-in : (k : ℕ) → Facts InGroup (visitGroup s k o v)
+  module _ (z : kindOf (getD s o 0) ≡ groupKind) where
+    group-in : Facts InGroup (visitGroup s (getD s o 0) o v)
     unfolding visitGroup
-    group-in k =
-        let q : o + 1 + 4 ≡ o + 5 = omega arith in
-        f-uint s (o + 1) _ InGroup 4 (λ h. f-next (λ es d. readMap s o v (le 4 s (o + 1)) (o + 1 + 4) ≡ got es d) InGroup _ _ (f-read _ _ (λ es d r. r)) (λ es d r.
-        f-next (λ ns d. Unit {0}) InGroup _ _ (f-read _ _ (λ _ _ _. tt)) (λ _ _ _.
-        f-read InGroup _ (λ x e g. (omega arith, rw q at (map-holds (visitConstant s) s o v (le 4 s (o + 1)) (o + 1 + 4) (v + le 4 s (o + 1)) r g))))))
+    group-in =
+        let q : countPlace o + 4 ≡ mapPlace o = omega arith in
+        f-uint s (o + 1) _ InGroup 4 (λ h. f-next (λ es d. readMap s o v (le 4 s (countPlace o)) (countPlace o + 4) ≡ got es d) InGroup _ _ (f-read _ _ (λ es d r. r)) (λ es d r.
+        f-next (λ ns c. readNotes (isAnnotated (getD s o 0)) s d ≡ got ns c) InGroup _ _ (f-read _ _ (λ ns c u. u)) (λ ns c u.
+        let j : d ≡ entryPlace (mapPlace o) (le 4 s (countPlace o)) = map-stop s o v (le 4 s (countPlace o)) (countPlace o + 4) r ∙ ap (λ (x : ℕ). entryPlace x (le 4 s (countPlace o))) q in
+        f-read InGroup _ (λ x e g. (omega arith, rw q at (map-holds (visitConstant s) s o v (le 4 s (countPlace o)) (countPlace o + 4) (v + le 4 s (countPlace o)) r g), (ns, c, rw j at u))))))
 
     group-record : Facts InGroup (visitRecord m s (getD s o 0) o v)
     unfolding visitRecord
     group-record =
         f-if InGroup _ _ _ (λ t. absurd (let a = from-yes-eq _ _ t in omega arith)) (λ _.
         f-if InGroup _ _ _ (λ t. absurd (let a = from-yes-eq _ _ t in omega arith)) (λ _.
-        f-if InGroup _ _ _ (λ _. group-in (getD s o 0)) (λ t. absurd (from-not-eq _ _ t z))))
+        f-if InGroup _ _ _ (λ _. group-in) (λ t. absurd (from-not-eq _ _ t z))))
 
     group-with : (inner : ℕ → ℕ → Got Sound) → Facts InGroup (visitWith m inner s o v)
     unfolding visitWith
@@ -124,11 +144,11 @@ module _ (m : SetCount) (s : List ℕ) (o : ℕ) (w : Visited m s o) where
   visited-inside = let a = w .accepted in fact _ _ (inside-facts m s (w .from) o (w .before) (w .left)) (a .2)
 
   -- the entities of a module were visited
-  pub module-reached : getD s o 0 ≡ 0 → (o + 5 ≤ length s) × Reached m s (o + 5) (le 4 s (o + 1))
+  pub module-reached : getD s o 0 ≡ moduleKind → (mapPlace o ≤ length s) × Reached m s (mapPlace o) (le 4 s (countPlace o))
   module-reached z = let a = w .accepted in fact _ _ (module-facts m s (w .from) o (w .before) z (w .left)) (a .2)
 
-  -- and the constants of a group
-  pub group-reached : kindOf (getD s o 0) ≡ 7 → (o + 5 ≤ length s) × Holds (visitConstant s) s (o + 5) (le 4 s (o + 1))
+  -- and the constants of a group, and its annotations were read
+  pub group-reached : kindOf (getD s o 0) ≡ groupKind → (mapPlace o ≤ length s) × Holds (visitConstant s) s (mapPlace o) (le 4 s (countPlace o)) × Accepted (readNotes (isAnnotated (getD s o 0)) s (entryPlace (mapPlace o) (le 4 s (countPlace o))))
   group-reached z = let a = w .accepted in fact _ _ (group-facts m s (w .from) o (w .before) z (w .left)) (a .2)
 
 -- a constant that was visited was read
@@ -170,13 +190,13 @@ called-visited m s at n w o r h =
     record { left = r .left; from = l .0; before = l .1; accepted = subst (λ (x : ℕ). Accepted (visitEntity m (r .left) s (l .0) x (l .1))) (sym (c .payload)) (l .2) }
 
 -- going on
-then-some : (g : Option ℕ) (k : ℕ → Option ℕ) {o : ℕ} → andThen g k ≡ some o → (q : ℕ) × ((g ≡ some q) × (k q ≡ some o))
+pub then-some : (g : Option ℕ) (k : ℕ → Option ℕ) {o : ℕ} → andThen g k ≡ some o → (q : ℕ) × ((g ≡ some q) × (k q ≡ some o))
 unfolding andThen
 then-some none k h = absurd (let z : _≡_ {A = ℕ} 0 1 = cc in omega arith)
 then-some (some q) k h = (q, (refl, h))
 
 -- a test that gives none
-only-if : (t : Bool) (g : Option ℕ) {o : ℕ} → (if t then g else none) ≡ some o → (t ≡ true) × (g ≡ some o)
+pub only-if : (t : Bool) (g : Option ℕ) {o : ℕ} → (if t then g else none) ≡ some o → (t ≡ true) × (g ≡ some o)
 unfolding if_then_else_
 only-if true g h = (refl, h)
 only-if false g h = absurd (let z : _≡_ {A = ℕ} 0 1 = cc in omega arith)
@@ -187,9 +207,9 @@ entity-visited m s [] at n o r h = absurd (let z : _≡_ {A = ℕ} 0 1 = cc in o
 entity-visited m s (w ∷ []) at n o r h = called-visited m s at n w o r h
 entity-visited m s (w ∷ x ∷ ws) at n o r h =
     let q = then-some (payloadOf s at n w) _ h in
-    let t = only-if (getD s (q .0) 0 =? 0) _ (q .1 .1) in
+    let t = only-if (getD s (q .0) 0 =? moduleKind) _ (q .1 .1) in
     let v = called-visited m s at n w (q .0) r (q .1 .0) in
-    entity-visited m s (x ∷ ws) (q .0 + 5) (le 4 s (q .0 + 1)) o (module-reached m s (q .0) v (from-yes-eq _ _ (t .0)) .1) (t .1)
+    entity-visited m s (x ∷ ws) (mapPlace (q .0)) (le 4 s (countPlace (q .0))) o (module-reached m s (q .0) v (from-yes-eq _ _ (t .0)) .1) (t .1)
 
 -- in a file that was accepted, an entity that is found was visited, and a constant was read
 module _ (s : List ℕ) (c : Checked s) (ws : List (List ℕ)) (o : ℕ) where
@@ -202,9 +222,9 @@ module _ (s : List ℕ) (c : Checked s) (ws : List (List ℕ)) (o : ℕ) where
   unfolding constantAt constantIn
   found-read h =
       let q = then-some (entityAt s (front ws)) _ h in
-      let t = only-if (kindOf (getD s (q .0) 0) =? 7) _ (q .1 .1) in
+      let t = only-if (kindOf (getD s (q .0) 0) =? groupKind) _ (q .1 .1) in
       let v = found-visited s c (front ws) (q .0) (q .1 .0) in
       let g = group-reached (c .reading) s (q .0) v (from-yes-eq _ _ (t .0)) .1 in
-      let d = payload-called s (q .0 + 5) (le 4 s (q .0 + 1)) (last ws) o (t .1) in
+      let d = payload-called s (mapPlace (q .0)) (le 4 s (countPlace (q .0))) (last ws) o (t .1) in
       let l = g .leads (d .place) (d .below) in
-      subst (λ (x : ℕ). Accepted (readConstant s x)) (sym (d .payload)) (constant-read s (l .0) (payloadAt s (q .0 + 5) (d .place)) (l .1) (l .2))
+      subst (λ (x : ℕ). Accepted (readConstant s x)) (sym (d .payload)) (constant-read s (l .0) (payloadAt s (mapPlace (q .0)) (d .place)) (l .1) (l .2))

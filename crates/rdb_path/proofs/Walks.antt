@@ -10,8 +10,9 @@ use Rattle.number.specs.Number.{le}
 use Rattle.number.specs.Scan.{scan}
 use Rattle.number.proofs.Parts.{part-rest}
 use Rattle.rdb_interface.specs.declared.SetCount.{SetCount}
+use Rattle.rdb_file.specs.Visit.{countPlace, mapPlace}
 use Rattle.rdb_file.specs.File.{rootAt, rootCount}
-use Rattle.rdb_file.specs.Kind.{kindOf}
+use Rattle.rdb_file.specs.Kind.{moduleKind, groupKind, kindOf}
 use Rattle.rdb_path.specs.declared.Place.{Place}
 use Rattle.rdb_path.specs.declared.Place.the-variants.{At, Nowhere}
 use Rattle.rdb_path.specs.Path.{dotAt, cut, front, last, payloadOf, entityIn, entityAt, constantIn, constantAt}
@@ -45,16 +46,16 @@ module _ (s path : List ℕ) (at n from to : ℕ) (w : Walk s path at n from to)
       pub walk-visited : Visited (w .reading) s o
       walk-visited = called-visited (w .reading) s at n _ o (w .reached) (place-at _ q h)
 
-      pub walk-other : (getD s o 0 ≡ 0 → ⊥) → Nowhere ≡ placeOf (entityAt s (cut path))
+      pub walk-other : (getD s o 0 ≡ moduleKind → ⊥) → Nowhere ≡ placeOf (entityAt s (cut path))
       walk-other f = nowhere _ (w .same ∙ entity-other s path at n from to walk-word o l (place-at _ q h) f)
 
-      pub walk-on : {k d : ℕ} → getD s o 0 ≡ 0 → k ≡ le 4 s (o + 1) → d ≡ scan (dotAt path) (length path - (to + 1)) (to + 1) → Walk s path (o + 5) k (to + 1) d
+      pub walk-on : {k d : ℕ} → getD s o 0 ≡ moduleKind → k ≡ le 4 s (countPlace o) → d ≡ scan (dotAt path) (length path - (to + 1)) (to + 1) → Walk s path (mapPlace o) k (to + 1) d
       walk-on {k} {d} z e f = record {
         inside = omega arith;
         dot = f;
         reading = w .reading;
-        reached = subst (λ (x : ℕ). Reached (w .reading) s (o + 5) x) (sym e) (module-reached (w .reading) s o walk-visited z .1);
-        same = w .same ∙ entity-more s path at n from to walk-word o l (place-at _ q h) z ∙ ap (λ (x : ℕ). entityIn s (o + 5) x (cut (drop (to + 1) path))) (sym e);
+        reached = subst (λ (x : ℕ). Reached (w .reading) s (mapPlace o) x) (sym e) (module-reached (w .reading) s o walk-visited z .1);
+        same = w .same ∙ entity-more s path at n from to walk-word o l (place-at _ q h) z ∙ ap (λ (x : ℕ). entityIn s (mapPlace o) x (cut (drop (to + 1) path))) (sym e);
       }
 
   pub walk-last : {r : Place} → length path ≤ to → r ≡ placeOf (payloadOf s at n (take (length path - from) (drop from path))) → r ≡ placeOf (entityAt s (cut path))
@@ -65,9 +66,9 @@ module _ (s path : List ℕ) (at n from to : ℕ) (w : Walk s path at n from to)
 
 -- ---- constants
 
-module _ (m : SetCount) (s : List ℕ) (o : ℕ) (v : Visited m s o) (z : kindOf (getD s o 0) ≡ 7) where
-  pub group-keyed : {n : ℕ} → n ≡ le 4 s (o + 1) → Keyed s (o + 5) n
-  group-keyed e = subst (λ (x : ℕ). Keyed s (o + 5) x) (sym e) (group-reached m s o v z .1 .keyed)
+module _ (m : SetCount) (s : List ℕ) (o : ℕ) (v : Visited m s o) (z : kindOf (getD s o 0) ≡ groupKind) where
+  pub group-keyed : {n : ℕ} → n ≡ le 4 s (countPlace o) → Keyed s (mapPlace o) n
+  group-keyed e = subst (λ (x : ℕ). Keyed s (mapPlace o) x) (sym e) (group-reached m s o v z .1 .keyed)
 
 module _ (s path : List ℕ) (from : ℕ) (w : LastWord path from) where
   nothing : entityAt s [] ≡ none

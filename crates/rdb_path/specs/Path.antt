@@ -9,8 +9,9 @@ use Rattle.number.specs.Choice.{if_then_else_, _<?_, _=?_}
 use Rattle.number.specs.Number.{le}
 use Rattle.number.specs.Scan.{scan}
 use Rattle.key.specs.Word.{sameWord}
-use Rattle.rdb_map.specs.Map.{keyAt}
-use Rattle.rdb_file.specs.Kind.{kindOf}
+use Rattle.rdb_map.specs.Map.{entryPlace, payloadPlace, keyAt}
+use Rattle.rdb_file.specs.Kind.{kindOf, moduleKind, groupKind}
+use Rattle.rdb_file.specs.Visit.{countPlace, mapPlace}
 use Rattle.rdb_file.specs.File.{rootAt, rootCount}
 
 -- ---- the words of a path
@@ -49,11 +50,11 @@ joined (w ∷ x ∷ ws) = w ++ (0x2e ∷ joined (x ∷ ws))
 
 -- entry i of the map at `at` is called w
 unfoldable pub isCalled : List ℕ → ℕ → List ℕ → ℕ → Bool
-isCalled s at w i = sameWord (keyAt s (at + 8 * i)) w
+isCalled s at w i = sameWord (keyAt s (entryPlace at i)) w
 
 -- the payload of entry i
 unfoldable pub payloadAt : List ℕ → ℕ → ℕ → ℕ
-payloadAt s at i = le 4 s (at + 8 * i + 4)
+payloadAt s at i = le 4 s (payloadPlace at i)
 
 -- the payload of the entry called w, of the n entries of the map at `at`; keys are unique, so one at most is called so
 unfoldable pub payloadOf : List ℕ → ℕ → ℕ → List ℕ → Option ℕ
@@ -72,7 +73,7 @@ entityIn s at n [] = none
 entityIn s at n (w ∷ []) = payloadOf s at n w
 entityIn s at n (w ∷ x ∷ ws) =
     andThen (payloadOf s at n w) λ o.
-    if getD s o 0 =? 0 then entityIn s (o + 5) (le 4 s (o + 1)) (x ∷ ws) else
+    if getD s o 0 =? moduleKind then entityIn s (mapPlace o) (le 4 s (countPlace o)) (x ∷ ws) else
     none
 
 unfoldable pub entityAt : List ℕ → List (List ℕ) → Option ℕ
@@ -81,7 +82,7 @@ entityAt s ws = entityIn s (rootAt s) (rootCount s) ws
 -- the constant called w, if the entity at o is a constant group
 unfoldable pub constantIn : List ℕ → List ℕ → ℕ → Option ℕ
 constantIn s w o =
-    if kindOf (getD s o 0) =? 7 then payloadOf s (o + 5) (le 4 s (o + 1)) w else
+    if kindOf (getD s o 0) =? groupKind then payloadOf s (mapPlace o) (le 4 s (countPlace o)) w else
     none
 
 -- all words but the last lead to the group, and the last is the constant's

@@ -12,11 +12,12 @@ use Rattle.rdb_interface.specs.declared.SetCount.{SetCount}
 use Rattle.rdb_file.specs.Visit.{Sound, visitEntity}
 use Rattle.rdb_file.specs.File.{readFile}
 use Rattle.rdb_path.specs.Path.{payloadAt}
+use Rattle.rdb_map.specs.Map.{entryBytes, entryPlace}
 
 -- the map at `at` has n entries in the file, and their keys have a NUL
 pub record Keyed (s : List ℕ) (at n : ℕ) : Type 0 where
-  pub room : (i : ℕ) → i < n → at + 8 * i + 8 ≤ length s
-  pub ended : (i : ℕ) → i < n → wordEnd s (le 4 s (at + 8 * i)) < length s
+  pub room : (i : ℕ) → i < n → entryPlace at i + entryBytes ≤ length s
+  pub ended : (i : ℕ) → i < n → wordEnd s (le 4 s (entryPlace at i)) < length s
 
 -- what each leads to passes `visit`
 pub record Holds (visit : ℕ → ℕ → ℕ → Got Sound) (s : List ℕ) (at n : ℕ) : Type 0 where

@@ -6,10 +6,16 @@ ghost use Rattle.number.specs.Limits.{fileLimit};
 ghost use Rattle.number.specs.Number.{le};
 ghost use Rattle.number.specs.Scan.{scan};
 ghost use Rattle.key.specs.Word.{wordEnd};
+ghost use Rattle.rdb_map.specs.Map.{entryBytes, entryPlace};
 ghost use Rattle.rdb_interface.specs.declared.SetCount.{SetCount};
 ghost use Rattle.rdb_path.specs.Path.{dotAt, cut, isCalled, payloadOf, entityAt, constantIn, constantAt};
 ghost use Rattle.rdb_path.specs.Reached.{Keyed, Visited, Checked, LastWord};
 ghost use Rattle.rdb_path.specs.Place.{placeOf};
+use rdb_file::COUNT_PLACE;
+use rdb_file::GROUP;
+use rdb_file::MAP_PLACE;
+use rdb_file::MODULE;
+use rdb_map::ENTRY_BYTES;
 
 // Where something stands, if anywhere.
 pub enum Place {
@@ -54,10 +60,10 @@ fn last_word(path: &[u8]) -> usize
 
 // Whether entry i of the map at `at` is called so. Where no zero byte stands at the word's length, its bytes aren't looked at.
 fn is_called(file: &[u8], at: usize, i: usize, word: &[u8]) -> bool
-    requires { ⌜ (length (now file) ≤ fileLimit) × (at + 8 * i + 8 ≤ length (now file)) × (wordEnd (now file) (le 4 (now file) (at + 8 * i)) < length (now file)) ⌝ }
+    requires { ⌜ (length (now file) ≤ fileLimit) × (entryPlace at i + entryBytes ≤ length (now file)) × (wordEnd (now file) (le 4 (now file) (entryPlace at i)) < length (now file)) ⌝ }
     ensures { λ r. ⌜ r ≡ isCalled (now (file .entry)) at (now (word .entry)) i ⌝ }
 {
-    let q = pointer(number::le32_at(file, at + 8 * i));
+    let q = pointer(number::le32_at(file, at + ENTRY_BYTES * i));
     if file.len() - q <= word.len() {
         return false;
     }
@@ -89,7 +95,7 @@ fn payload_of(file: &[u8], at: usize, n: usize, word: &[u8]) -> Place
 {
     let i = find_entry(file, at, n, word);
     if i < n {
-        return Place::At(pointer(number::le32_at(file, at + 8 * i + 4)));
+        return Place::At(pointer(number::le32_at(file, at + ENTRY_BYTES * i + 4)));
     }
     Place::Nowhere
 }
@@ -108,11 +114,11 @@ pub fn entity_at(file: &[u8], path: &[u8]) -> Place
         let Place::At(o) = found else {
             return found;
         };
-        if file[o] != 0 {
+        if file[o] != MODULE {
             return Place::Nowhere;
         }
-        at = o + 5;
-        n = pointer(number::le32_at(file, o + 1));
+        at = o + MAP_PLACE;
+        n = pointer(number::le32_at(file, o + COUNT_PLACE));
         from = to + 1;
         to = dot_from(path, from);
     }
@@ -124,11 +130,11 @@ fn constant_in(file: &[u8], o: usize, word: &[u8]) -> Place
     requires { ⌜ (length (now file) ≤ fileLimit) × ((m : SetCount) × Visited m (now file) o) ⌝ }
     ensures { λ r. ⌜ r ≡ placeOf (constantIn (now (file .entry)) (now (word .entry)) o) ⌝ }
 {
-    if file[o] % 32 != 7 {
+    if file[o] % 32 != GROUP {
         return Place::Nowhere;
     }
-    let n = pointer(number::le32_at(file, o + 1));
-    payload_of(file, o + 5, n, word)
+    let n = pointer(number::le32_at(file, o + COUNT_PLACE));
+    payload_of(file, o + MAP_PLACE, n, word)
 }
 
 // The constant that the path leads to.

@@ -96,7 +96,7 @@ pub fn read_enum(file: &[u8], annotated: bool, at: usize) -> Step
 }
 
 // The bytes of a constant's value, by its kind.
-fn value_size(kind: u8) -> usize
+pub fn value_size(kind: u8) -> usize
     ensures { λ r. ⌜ r ≡ valueSize kind ⌝ }
 {
     if kind < 2 {

@@ -18,7 +18,7 @@ use Rattle.rdb_record.specs.Constant.{valueSize}
 use Rattle.rdb_record.proofs.SizeLaws.{size-one, size-two, size-four, size-eight, size-float, size-double}
 use Rattle.rdb_value.specs.declared.Value.{Value}
 use Rattle.rdb_value.specs.declared.Value.the-variants.{Boolean, Byte, Short, UnsignedShort, Long, UnsignedLong, Hyper, UnsignedHyper, Float, Double, FloatNan, DoubleNan}
-use Rattle.rdb_value.specs.Value.{float32, float64, valueOf, storedOf}
+use Rattle.rdb_value.specs.Value.{float32, float64, valueOf, valueKind, storedOf}
 
 module _ (k : ℕ) where
   -- a value of w bytes
@@ -87,6 +87,13 @@ module _ (v : ℕ) where
   unfolding storedOf
   kept-plain = (refl, refl, refl)
 
+module _ (k : ℕ) where
+  up : (n : ℕ) → n ≤ k → (k ≡ n → ⊥) → n + 1 ≤ k
+  up n l f = omega arith
+
+  over-eight : (k ≡ 0 → ⊥) → (k ≡ 1 → ⊥) → (k ≡ 2 → ⊥) → (k ≡ 3 → ⊥) → (k ≡ 4 → ⊥) → (k ≡ 5 → ⊥) → (k ≡ 6 → ⊥) → (k ≡ 7 → ⊥) → (k ≡ 8 → ⊥) → 9 ≤ k
+  over-eight a b c d e f g h i = up 8 (up 7 (up 6 (up 5 (up 4 (up 3 (up 2 (up 1 (up 0 (omega arith) a) b) c) d) e) f) g) h) i
+
 -- of a constant of kind k, whose stored number fits its bytes and is 0 or 1 for a BOOLEAN
 pub kept : (k v : ℕ) → v < 256 ^ valueSize k → (k ≡ 0 → v ≤ 1) → storedOf (valueOf k v) ≡ v
 unfolding valueOf
@@ -100,7 +107,7 @@ kept k v h b =
     both P (k =? 6) _ _ (λ e. (let q = from-yes-eq k 6 e in kept-hyper v (at-most 8 (size-eight k (omega arith) (omega arith))))) (λ e6.
     both P (k =? 7) _ _ (λ e. kept-plain v .2) (λ e7.
     both P (k =? 8) _ _ (λ e. kept32 v (at-most 4 (size-float k (from-yes-eq k 8 e)))) (λ e8.
-    kept64 v (at-most 8 (size-double k (last (from-not-eq k 0 e0) (from-not-eq k 1 e1) (from-not-eq k 2 e2) (from-not-eq k 3 e3) (from-not-eq k 4 e4) (from-not-eq k 5 e5) (from-not-eq k 6 e6) (from-not-eq k 7 e7) (from-not-eq k 8 e8)))))))))))))
+    kept64 v (at-most 8 (size-double k (over-eight k (from-not-eq k 0 e0) (from-not-eq k 1 e1) (from-not-eq k 2 e2) (from-not-eq k 3 e3) (from-not-eq k 4 e4) (from-not-eq k 5 e5) (from-not-eq k 6 e6) (from-not-eq k 7 e7) (from-not-eq k 8 e8)))))))))))))
   where
     P : Value → Type 0
     P r = storedOf r ≡ v
@@ -108,8 +115,31 @@ kept k v h b =
     at-most : (w : ℕ) → valueSize k ≡ w → v < 256 ^ w
     at-most w e = rw e at h
 
-    up : (n : ℕ) → n ≤ k → (k ≡ n → ⊥) → n + 1 ≤ k
-    up n l f = omega arith
+-- ---- a value is of the kind that it was read as
 
-    last : (k ≡ 0 → ⊥) → (k ≡ 1 → ⊥) → (k ≡ 2 → ⊥) → (k ≡ 3 → ⊥) → (k ≡ 4 → ⊥) → (k ≡ 5 → ⊥) → (k ≡ 6 → ⊥) → (k ≡ 7 → ⊥) → (k ≡ 8 → ⊥) → 9 ≤ k
-    last a b c d e f g h i = up 8 (up 7 (up 6 (up 5 (up 4 (up 3 (up 2 (up 1 (up 0 (omega arith) a) b) c) d) e) f) g) h) i
+kind32 : (v : ℕ) → valueKind (float32 v) ≡ 8
+unfolding float32 valueKind
+kind32 v = both (λ (r : Value). valueKind r ≡ 8) (nanBits binary32 v) (FloatNan v) (Float (ofBits binary32 v)) (λ e. refl) (λ e. refl)
+
+kind64 : (v : ℕ) → valueKind (float64 v) ≡ 9
+unfolding float64 valueKind
+kind64 v = both (λ (r : Value). valueKind r ≡ 9) (nanBits binary64 v) (DoubleNan v) (Double (ofBits binary64 v)) (λ e. refl) (λ e. refl)
+
+pub kind-kept : (k v : ℕ) → k ≤ 9 → valueKind (valueOf k v) ≡ k
+unfolding valueOf valueKind
+kind-kept k v l =
+    both P (k =? 0) _ _ (λ e. sym (from-yes-eq k 0 e)) (λ e0.
+    both P (k =? 1) _ _ (λ e. sym (from-yes-eq k 1 e)) (λ e1.
+    both P (k =? 2) _ _ (λ e. sym (from-yes-eq k 2 e)) (λ e2.
+    both P (k =? 3) _ _ (λ e. sym (from-yes-eq k 3 e)) (λ e3.
+    both P (k =? 4) _ _ (λ e. sym (from-yes-eq k 4 e)) (λ e4.
+    both P (k =? 5) _ _ (λ e. sym (from-yes-eq k 5 e)) (λ e5.
+    both P (k =? 6) _ _ (λ e. sym (from-yes-eq k 6 e)) (λ e6.
+    both P (k =? 7) _ _ (λ e. sym (from-yes-eq k 7 e)) (λ e7.
+    both P (k =? 8) _ _ (λ e. kind32 v ∙ sym (from-yes-eq k 8 e)) (λ e8.
+    let n = over-eight k (from-not-eq k 0 e0) (from-not-eq k 1 e1) (from-not-eq k 2 e2) (from-not-eq k 3 e3) (from-not-eq k 4 e4) (from-not-eq k 5 e5) (from-not-eq k 6 e6) (from-not-eq k 7 e7) (from-not-eq k 8 e8) in
+    let q : 9 ≡ k = omega arith in
+    kind64 v ∙ q)))))))))
+  where
+    P : Value → Type 0
+    P r = valueKind r ≡ k

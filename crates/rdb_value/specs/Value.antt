@@ -31,7 +31,21 @@ valueOf k v =
     if k =? 8 then float32 v else
     float64 v
 
--- ---- back again: what a value was stored as
+-- ---- back again: of which of the ten kinds a value is, and what it was stored as
+
+unfoldable pub valueKind : Value → ℕ
+valueKind (Boolean b) = 0
+valueKind (Byte z) = 1
+valueKind (Short z) = 2
+valueKind (UnsignedShort n) = 3
+valueKind (Long z) = 4
+valueKind (UnsignedLong n) = 5
+valueKind (Hyper z) = 6
+valueKind (UnsignedHyper n) = 7
+valueKind (Float x) = 8
+valueKind (Double x) = 9
+valueKind (FloatNan n) = 8
+valueKind (DoubleNan n) = 9
 
 unfoldable pub storedOf : Value → ℕ
 storedOf (Boolean true) = 1

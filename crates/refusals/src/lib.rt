@@ -48,6 +48,10 @@ fn say_file(
         remarks::unadopted(&line[a..b], &all[c..d], why, text);
         return;
     }
+    if let Task::Types(m, _) = tasks::task_of(line, separator) {
+        remarks::types_refused(&line[a..b], &all[c..d], m, why, text);
+        return;
+    }
     remarks::refused(&line[a..b], &all[c..d], why, text);
 }
 

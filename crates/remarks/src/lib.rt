@@ -1,7 +1,9 @@
 // Lines on standard error: why a file, a question or a link was refused, and what an `error` line on standard output says. Each goes out in one write.
 use failures::ROOM;
 use faults::Fault;
+use rdb_interface::SetCount;
 use reading::Refusal;
+use reading::Verdict;
 use verbs::Question;
 ghost use mathlib.Core.Path.{_≡_};
 ghost use Prim.Native.Nat.{_+_, _≤_};
@@ -110,6 +112,28 @@ pub fn refused(name: &[u8], file: &[u8], why: Refusal, text: &mut [u8; ROOM])
         8 => refused_place(name, file, why, text),
         29..=30 => refused_length(name, file, why, text),
         _ => refused_inside(name, file, why, text),
+    }
+}
+
+// Where a types.rdb is refused as document 001 reads it, whether `office` accepts it.
+fn other_reading(name: &[u8], file: &[u8], text: &mut [u8; ROOM]) {
+    if let Verdict::Accepted(_) = rdb_file::check(file, SetCount::UnlessReadOnly) {
+        error(
+            name,
+            b"error office suites write it so: `xpt office` accepts it, reading no set exceptions for read-only attributes\n",
+            text,
+        );
+    }
+}
+
+// Why a types.rdb was refused, read as m says.
+pub fn types_refused(name: &[u8], file: &[u8], m: SetCount, why: Refusal, text: &mut [u8; ROOM])
+    requires { ⌜ length (now name) ≤ wordLimit ⌝ }
+{
+    let end = reasons::refused(name, why, 0, b"", text);
+    put(text, end);
+    if let SetCount::Always = m {
+        other_reading(name, file, text);
     }
 }
 

@@ -5,7 +5,7 @@ use Prim.Native.Nat.{ℕ}
 use Rattle.number.proofs.Choice.{both}
 use Rattle.failures.specs.OneLine.{Plain}
 use Rattle.failures.proofs.PlainLaws.{plain-text}
-use Rattle.sentences.specs.Sentences.{positionText, betweenText, wordText, headerText, directoryText, ownText, linkText, sentenceText}
+use Rattle.sentences.specs.Sentences.{positionText, betweenText, wordText, headerText, directoryText, ownText, linkText, typesText, sentenceText}
 
 position-plain : (rule : ℕ) → Plain (positionText rule)
 unfolding positionText
@@ -35,7 +35,11 @@ link-plain : (n : ℕ) → Plain (linkText n)
 unfolding linkText
 link-plain n = both Plain _ _ _ (λ t. plain-text _ refl) (λ t. both Plain _ _ _ (λ t. plain-text _ refl) (λ t. both Plain _ _ _ (λ t. plain-text _ refl) (λ t. both Plain _ _ _ (λ t. plain-text _ refl) (λ t. both Plain _ _ _ (λ t. plain-text _ refl) (λ t. both Plain _ _ _ (λ t. plain-text _ refl) (λ t. plain-text _ refl))))))
 
+types-plain : (n : ℕ) → Plain (typesText n)
+unfolding typesText
+types-plain n = both Plain _ _ _ (λ t. plain-text _ refl) (λ t. both Plain _ _ _ (λ t. plain-text _ refl) (λ t. both Plain _ _ _ (λ t. plain-text _ refl) (λ t. both Plain _ _ _ (λ t. plain-text _ refl) (λ t. both Plain _ _ _ (λ t. plain-text _ refl) (λ t. both Plain _ _ _ (λ t. plain-text _ refl) (λ t. plain-text _ refl))))))
+
 pub sentence-plain : (n rule : ℕ) → Plain (sentenceText n rule)
 unfolding sentenceText
 sentence-plain n rule =
-    both Plain _ _ _ (λ t. header-plain n rule) (λ t. both Plain _ _ _ (λ t. directory-plain n) (λ t. both Plain _ _ _ (λ t. own-plain n rule) (λ t. link-plain n)))
+    both Plain _ _ _ (λ t. header-plain n rule) (λ t. both Plain _ _ _ (λ t. directory-plain n) (λ t. both Plain _ _ _ (λ t. own-plain n rule) (λ t. both Plain _ _ _ (λ t. link-plain n) (λ t. types-plain n))))

@@ -79,10 +79,22 @@ linkText n =
     if n =? 26 then ascii "the output would have more than 1,048,576 bytes" else
     ascii "the output has room for fewer bytes than are needed"
 
+-- 31 to 37: a types.rdb
+unfoldable pub typesText : ℕ → List ℕ
+typesText n =
+    if n =? 31 then ascii "the file does not begin as a types.rdb does: UNOIDL, byte 255, version 0, and the offset and count of its root map" else
+    if n =? 32 then ascii "an offset leads past the end of the file, or a field, a name or a text does not fit, or the length of a text that is pointed to has its top bit set" else
+    if n =? 33 then ascii "what an entry leads to does not stand below the record or root map that holds the entry" else
+    if n =? 34 then ascii "a kind or a value is reserved, or a name is not US-ASCII, or an annotation not UTF-8" else
+    if n =? 35 then ascii "a key stands twice in one map" else
+    if n =? 36 then ascii "more than 16 modules stand one inside another" else
+    ascii "more than 65,536 entries are visited, each counted whenever its map is read"
+
 -- all of them but 29 and 30, whose sentences have numbers of the file in them (crate `reasons`)
 unfoldable pub sentenceText : ℕ → ℕ → List ℕ
 sentenceText n rule =
     if n <? 9 then headerText n rule else
     if n <? 15 then directoryText n else
     if n <? 21 then ownText n rule else
-    linkText n
+    if n <? 31 then linkText n else
+    typesText n

@@ -3,7 +3,7 @@ use failures::ROOM;
 ghost use Prim.Native.Nat.{_+_, _≤_};
 ghost use Rattle.printed.specs.Writing.{Wrote};
 ghost use Rattle.failures.specs.Room.{room};
-ghost use Rattle.sentences.specs.Sentences.{positionText, betweenText, wordText, headerText, directoryText, ownText, linkText, sentenceText};
+ghost use Rattle.sentences.specs.Sentences.{positionText, betweenText, wordText, headerText, directoryText, ownText, linkText, typesText, sentenceText};
 
 // 8, by the rule.
 fn put_position(rule: u8, text: &mut [u8; ROOM], at: usize) -> usize
@@ -214,6 +214,42 @@ fn put_link(no: u8, text: &mut [u8; ROOM], at: usize) -> usize
     }
 }
 
+// 31 to 37: a types.rdb.
+fn put_types(no: u8, text: &mut [u8; ROOM], at: usize) -> usize
+    requires { ⌜ at + 192 ≤ room ⌝ }
+    ensures { λ r. ⌜ Wrote (now (text .entry)) at (typesText no) r (now (text .exit)) × (r ≤ at + 192) ⌝ }
+{
+    match no {
+        31 => text::put_bytes(
+            text,
+            at,
+            b"the file does not begin as a types.rdb does: UNOIDL, byte 255, version 0, and the offset and count of its root map",
+        ),
+        32 => text::put_bytes(
+            text,
+            at,
+            b"an offset leads past the end of the file, or a field, a name or a text does not fit, or the length of a text that is pointed to has its top bit set",
+        ),
+        33 => text::put_bytes(
+            text,
+            at,
+            b"what an entry leads to does not stand below the record or root map that holds the entry",
+        ),
+        34 => text::put_bytes(
+            text,
+            at,
+            b"a kind or a value is reserved, or a name is not US-ASCII, or an annotation not UTF-8",
+        ),
+        35 => text::put_bytes(text, at, b"a key stands twice in one map"),
+        36 => text::put_bytes(text, at, b"more than 16 modules stand one inside another"),
+        _ => text::put_bytes(
+            text,
+            at,
+            b"more than 65,536 entries are visited, each counted whenever its map is read",
+        ),
+    }
+}
+
 pub fn put_sentence(no: u8, rule: u8, text: &mut [u8; ROOM], at: usize) -> usize
     requires { ⌜ at + 192 ≤ room ⌝ }
     ensures { λ r. ⌜ Wrote (now (text .entry)) at (sentenceText no rule) r (now (text .exit)) × (r ≤ at + 192) ⌝ }
@@ -222,6 +258,7 @@ pub fn put_sentence(no: u8, rule: u8, text: &mut [u8; ROOM], at: usize) -> usize
         0..=8 => put_header(no, rule, text, at),
         9..=14 => put_directory(no, text, at),
         15..=20 => put_own(no, rule, text, at),
-        _ => put_link(no, text, at),
+        21..=30 => put_link(no, text, at),
+        _ => put_types(no, text, at),
     }
 }

@@ -13,11 +13,14 @@ use Rattle.verbs.specs.declared.Verb.{Verb}
 use Rattle.verbs.specs.declared.Verb.the-variants as verb
 use Rattle.verbs.specs.Verbs.{verbOf, wordsIn}
 use Rattle.verbs.specs.Empty.{hasEmpty}
+use Rattle.rdb_interface.specs.declared.SetCount.{SetCount}
+use Rattle.rdb_tasks.specs.declared.Asked.{Asked}
+use Rattle.rdb_tasks.specs.Asked.{isTypes, readingOf, askedOf, hasWords}
 use Rattle.tasks.specs.declared.Mistake.{Mistake}
-use Rattle.tasks.specs.declared.Mistake.the-variants.{Blank, CarriageReturn, Spaces, Words, Files}
+use Rattle.tasks.specs.declared.Mistake.the-variants.{Blank, CarriageReturn, Spaces, Words, Files, TypesWords}
 use Rattle.tasks.specs.declared.Task.{Task}
-use Rattle.tasks.specs.declared.Task.the-variants.{Mistaken, Run, Pile}
-use Rattle.tasks.specs.Tasks.{inBatch, shift, pileTask, otherTask, wordsTask, lineTask, taskOf, filesRead, filesOf}
+use Rattle.tasks.specs.declared.Task.the-variants.{Mistaken, Run, Pile, Types}
+use Rattle.tasks.specs.Tasks.{inBatch, shift, pileTask, otherTask, verbTask, typesTask, wordsTask, lineTask, taskOf, filesRead, filesOf}
 
 pub words-few : (v : Verb) → wordsIn v ≤ 5
 unfolding wordsIn
@@ -71,11 +74,26 @@ other-few verb.Link n more = pile-few n more
 other-few verb.Salvage n more = wrong-few (Words verb.Salvage)
 other-few verb.Unknown n more = wrong-few (Words verb.Unknown)
 
-words-task-few : (ws : List (List ℕ)) → Few (wordsTask ws)
-unfolding wordsTask
-words-task-few ws =
+verb-task-few : (ws : List (List ℕ)) → Few (verbTask ws)
+unfolding verbTask
+verb-task-few ws =
     let v : Verb = verbOf (wordIn 0 ws) in
     both Few (length ws =? wordsIn v + shift ws) (Run v) (otherTask v (length ws) (shift ws)) (λ _. run-few v) (λ _. other-few v (length ws) (shift ws))
+
+one-few : (m : SetCount) (q : Asked) → Few (Types m q)
+unfolding filesOf
+one-few m q = omega arith
+
+types-task-few : (ws : List (List ℕ)) → Few (typesTask ws)
+unfolding typesTask
+types-task-few ws =
+    let m : SetCount = readingOf (wordIn 0 ws) in
+    let q : Asked = askedOf (wordIn 1 ws) in
+    both Few (hasWords q (length ws)) (Types m q) (Mistaken (TypesWords m q)) (λ _. one-few m q) (λ _. wrong-few (TypesWords m q))
+
+words-task-few : (ws : List (List ℕ)) → Few (wordsTask ws)
+unfolding wordsTask
+words-task-few ws = both Few (isTypes (wordIn 0 ws)) (typesTask ws) (verbTask ws) (λ _. types-task-few ws) (λ _. verb-task-few ws)
 
 line-task-few : (line : List ℕ) → Few (lineTask line)
 unfolding lineTask

@@ -13,9 +13,12 @@ use Rattle.verbs.specs.declared.Verb.{Verb}
 use Rattle.verbs.specs.declared.Verb.the-variants as verb
 use Rattle.verbs.specs.Verbs.{verbOf, wordsIn}
 use Rattle.verbs.specs.Empty.{hasEmpty}
-use Rattle.tasks.specs.declared.Mistake.the-variants.{Blank, CarriageReturn, Spaces, Words, Files}
+use Rattle.rdb_interface.specs.declared.SetCount.{SetCount}
+use Rattle.rdb_tasks.specs.declared.Asked.{Asked}
+use Rattle.rdb_tasks.specs.Asked.{isTypes, readingOf, askedOf, hasWords}
+use Rattle.tasks.specs.declared.Mistake.the-variants.{Blank, CarriageReturn, Spaces, Words, Files, TypesWords}
 use Rattle.tasks.specs.declared.Task.{Task}
-use Rattle.tasks.specs.declared.Task.the-variants.{Mistaken, Run, Pile}
+use Rattle.tasks.specs.declared.Task.the-variants.{Mistaken, Run, Pile, Types}
 
 -- the separator of a batch
 unfoldable pub inBatch : ℕ → Bool
@@ -35,11 +38,14 @@ writesFile verb.Unknown = false
 unfoldable pub isForced : List (List ℕ) → Bool
 isForced ws = if writesFile (verbOf (wordIn 0 ws)) then sameWord (wordIn 1 ws) (ascii "-f") else false
 
--- so many words more stand before the first file
+-- so many words more stand before the first file: `-f`, or what is asked about a types.rdb
 unfoldable pub shift : List (List ℕ) → ℕ
-shift ws = if isForced ws then 1 else 0
+shift ws =
+    if isTypes (wordIn 0 ws) then 1 else
+    if isForced ws then 1 else
+    0
 
--- the k-th word of the command, from 1; `-f` is not counted
+-- the k-th word of the command, from 1; those before the first file are not counted
 abbrev pub argument : ℕ → List (List ℕ) → List ℕ
 argument k ws = wordIn (k + shift ws) ws
 
@@ -62,10 +68,20 @@ otherTask verb.Salvage n more = Mistaken (Words verb.Salvage)
 otherTask verb.Unknown n more = Mistaken (Words verb.Unknown)
 
 -- the command of the first word, with as many words as it takes
-unfoldable pub wordsTask : List (List ℕ) → Task
-wordsTask ws =
+unfoldable pub verbTask : List (List ℕ) → Task
+verbTask ws =
     let v : Verb = verbOf (wordIn 0 ws) in
     if length ws =? wordsIn v + shift ws then Run v else otherTask v (length ws) (shift ws)
+
+-- a question about a types.rdb, with as many words as it takes
+unfoldable pub typesTask : List (List ℕ) → Task
+typesTask ws =
+    let m : SetCount = readingOf (wordIn 0 ws) in
+    let q : Asked = askedOf (wordIn 1 ws) in
+    if hasWords q (length ws) then Types m q else Mistaken (TypesWords m q)
+
+unfoldable pub wordsTask : List (List ℕ) → Task
+wordsTask ws = if isTypes (wordIn 0 ws) then typesTask ws else verbTask ws
 
 -- a line of a batch: single spaces part its words, and a newline alone ended it
 unfoldable pub lineTask : List ℕ → Task
@@ -93,12 +109,14 @@ unfoldable pub filesOf : Task → ℕ
 filesOf (Mistaken m) = 0
 filesOf (Run v) = filesRead v
 filesOf (Pile n) = n
+filesOf (Types m q) = 1
 
 -- it writes a file, which its last word names
 unfoldable pub isWriting : Task → Bool
 isWriting (Mistaken m) = false
 isWriting (Run v) = writesFile v
 isWriting (Pile n) = true
+isWriting (Types m q) = false
 
 abbrev pub outputWord : ℕ → List ℕ → List ℕ
 outputWord separator line = argument (filesOf (taskOf separator line) + 1) (wordsOf separator line)

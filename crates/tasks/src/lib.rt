@@ -1,6 +1,8 @@
 // What a line asks for: a command with its words, or a mistake. Words are parted by a separator, which is a space in a batch and a zero byte between
 // arguments.
 use pile::MOST_FILES;
+use rdb_interface::SetCount;
+use rdb_tasks::Asked;
 use sayings::ANSWER_ROOM;
 use sayings::Said;
 use verbs::Question;
@@ -12,23 +14,27 @@ ghost use Rattle.words.specs.Words.{wordsOf, wordIn, Spans};
 ghost use Rattle.verbs.specs.Verbs.{verbOf};
 ghost use Rattle.verbs.specs.declared.Verb.the-variants.{Ask};
 ghost use Rattle.sayings.specs.Sayings.{Says, mistaken};
-ghost use Rattle.tasks.specs.Tasks.{inBatch, writesFile, isForced, shift, pileTask, otherTask, wordsTask, lineTask, taskOf, filesRead, filesOf, isWriting};
+ghost use Rattle.rdb_tasks.specs.Asked.{isTypes};
+ghost use Rattle.tasks.specs.Tasks.{inBatch, writesFile, isForced, shift, pileTask, otherTask, verbTask, typesTask, wordsTask, lineTask, taskOf, filesRead, filesOf, isWriting};
 ghost use Rattle.tasks.specs.Mistakes.{usageText, mistakeText};
 
-// What is wrong with a line; `Words` has the command whose words are not as many as it takes, or none that there is.
+// What is wrong with a line; `Words` has the command whose words are not as many as it takes, or none that there is, and `TypesWords` a question about a
+// types.rdb.
 pub enum Mistake {
     Blank,
     CarriageReturn,
     Spaces,
     Words(Verb),
     Files,
+    TypesWords(SetCount, Asked),
 }
 
-// A command, or a link of so many files, where they are more than two.
+// A command, a link of so many files, where they are more than two, or a question about a types.rdb, with how that is read.
 pub enum Task {
     Mistaken(Mistake),
     Run(Verb),
     Pile(usize),
+    Types(SetCount, Asked),
 }
 
 // Whether the separator is that of a batch.
@@ -63,6 +69,16 @@ fn verb_in(line: &[u8], separator: u8) -> Verb
     verbs::verb_of(&line[from..end])
 }
 
+// Whether the line asks about a types.rdb.
+fn asks_types(line: &[u8], separator: u8) -> bool
+    ensures { λ r. ⌜ r ≡ isTypes (wordIn 0 (wordsOf separator (now (line .entry)))) ⌝ }
+{
+    let first = words::word(line, separator, 0);
+    let from = first.from;
+    let end = first.end;
+    rdb_tasks::is_types(&line[from..end])
+}
+
 // Whether `-f` stands before the files of a command that writes one.
 pub fn is_forced(line: &[u8], separator: u8) -> bool
     ensures { λ r. ⌜ r ≡ isForced (wordsOf separator (now (line .entry))) ⌝ }
@@ -80,13 +96,16 @@ pub fn is_forced(line: &[u8], separator: u8) -> bool
 fn shift(line: &[u8], separator: u8) -> usize
     ensures { λ r. ⌜ (r ≡ shift (wordsOf separator (now (line .entry)))) × (r ≤ 1) ⌝ }
 {
+    if asks_types(line, separator) {
+        return 1;
+    }
     if is_forced(line, separator) {
         return 1;
     }
     0
 }
 
-// The k-th word of the command, from 1; `-f` is not counted.
+// The k-th word of the command, from 1; those before the first file are not counted.
 pub fn argument(line: &[u8], separator: u8, k: usize) -> Span
     requires { ⌜ k ≤ 257 ⌝ }
     ensures { λ r. ⌜ Spans (now (line .entry)) separator (k + shift (wordsOf separator (now (line .entry)))) r ⌝ }
@@ -126,8 +145,8 @@ fn other_task(verb: Verb, n: usize, more: usize) -> Task
     }
 }
 
-fn words_task(line: &[u8], separator: u8) -> Task
-    ensures { λ r. ⌜ r ≡ wordsTask (wordsOf separator (now (line .entry))) ⌝ }
+fn verb_task(line: &[u8], separator: u8) -> Task
+    ensures { λ r. ⌜ r ≡ verbTask (wordsOf separator (now (line .entry))) ⌝ }
 {
     let verb = verb_in(line, separator);
     let count = words::word_count(line, separator);
@@ -136,6 +155,33 @@ fn words_task(line: &[u8], separator: u8) -> Task
         return Task::Run(verb);
     }
     other_task(verb, count, more)
+}
+
+// A question about a types.rdb.
+fn types_task(line: &[u8], separator: u8) -> Task
+    ensures { λ r. ⌜ r ≡ typesTask (wordsOf separator (now (line .entry))) ⌝ }
+{
+    let first = words::word(line, separator, 0);
+    let second = words::word(line, separator, 1);
+    let a = first.from;
+    let b = first.end;
+    let c = second.from;
+    let d = second.end;
+    let m = rdb_tasks::reading_of(&line[a..b]);
+    let asked = rdb_tasks::asked_of(&line[c..d]);
+    if rdb_tasks::has_words(asked, words::word_count(line, separator)) {
+        return Task::Types(m, asked);
+    }
+    Task::Mistaken(Mistake::TypesWords(m, asked))
+}
+
+fn words_task(line: &[u8], separator: u8) -> Task
+    ensures { λ r. ⌜ r ≡ wordsTask (wordsOf separator (now (line .entry))) ⌝ }
+{
+    if asks_types(line, separator) {
+        return types_task(line, separator);
+    }
+    verb_task(line, separator)
 }
 
 fn line_task(line: &[u8]) -> Task
@@ -187,6 +233,7 @@ pub fn files_of(task: Task) -> usize
         Task::Mistaken(_) => 0,
         Task::Run(verb) => files_read(verb),
         Task::Pile(n) => n,
+        Task::Types(_, _) => 1,
     }
 }
 
@@ -198,6 +245,7 @@ pub fn is_writing(task: Task) -> bool
         Task::Mistaken(_) => false,
         Task::Run(verb) => writes_file(verb),
         Task::Pile(_) => true,
+        Task::Types(_, _) => false,
     }
 }
 
@@ -243,7 +291,7 @@ fn usage(verb: Verb, text: &mut [u8; ANSWER_ROOM]) -> Said
         Verb::Link => sayings::mistake(b"error the words are: link [-f] A B .. OUT\n", text),
         Verb::Salvage => sayings::mistake(b"error the words are: salvage [-f] FILE OUT\n", text),
         Verb::Unknown => sayings::mistake(
-            b"error unknown command; the commands are: check list table iid looks key method slot const normal adopt link salvage\n",
+            b"error unknown command; the commands are: check list table iid looks key method slot const normal adopt link salvage rdb office\n",
             text,
         ),
     }
@@ -265,5 +313,6 @@ pub fn tell(what: Mistake, text: &mut [u8; ANSWER_ROOM]) -> Said
         ),
         Mistake::Words(verb) => usage(verb, text),
         Mistake::Files => sayings::mistake(b"error a link takes at most 256 files\n", text),
+        Mistake::TypesWords(m, asked) => rdb_tasks::usage(m, asked, text),
     }
 }

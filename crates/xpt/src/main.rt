@@ -41,6 +41,18 @@ fn told(text: &[u8; ROOM], n: usize) -> Work
     nothing()
 }
 
+// The help of the command whose name is the first k bytes.
+fn put_help_of(input: &[u8; INPUT_ROOM], k: usize, text: &mut [u8; ROOM]) -> usize
+    requires { ⌜ k ≤ inputRoom ⌝ }
+    ensures { λ r. ⌜ r ≤ room ⌝ }
+{
+    let all: &[u8] = input;
+    if rdb_tasks::is_types(&all[..k]) {
+        return manual::types_help(text);
+    }
+    manual::help_of(verbs::verb_of(&all[..k]), text)
+}
+
 // What the arguments ask for; what needs no file is answered here.
 fn find_work(input: &mut [u8; INPUT_ROOM], text: &mut [u8; ROOM]) -> Work
     ensures { λ r. ⌜ r .length ≤ inputRoom ⌝ }
@@ -66,8 +78,7 @@ fn find_work(input: &mut [u8; INPUT_ROOM], text: &mut [u8; ROOM]) -> Work
             told(text, n)
         }
         Gathered::HelpOf(k) => {
-            let all: &[u8] = input;
-            let n = manual::help_of(verbs::verb_of(&all[..k]), text);
+            let n = put_help_of(input, k, text);
             told(text, n)
         }
         Gathered::Batch => Work {

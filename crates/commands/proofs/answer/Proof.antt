@@ -20,6 +20,10 @@ returns-3 c =
     rw (← c .before .before .before .before .task-of .ensures, c .before .before .enum-told .given .1)
     (says-replies _ _ _ _ _ _ _ _ (silent-says _ _ (c .before .silent .ensures)) (c .answered2 .ensures))
 
+returns-4 : tie.Need-returns-4
+unfolding answerOf taskAnswer
+returns-4 c = rw (← c .before .before .before .before .before .before .task-of .ensures, c .before .before .before .before .m .given .1) (says-replies _ _ _ _ _ _ _ _ (c .before .ask .ensures) (c .answered3 .ensures))
+
 pub answer-spec : {M : Type 1} → statement M
 answer-spec =
     tie.close
@@ -33,7 +37,11 @@ answer-spec =
     (λ c. search needs)
     (λ c κs. search needs)
     (λ c κs. search needs)
+    (λ c. search needs)
+    (λ c κs. search needs)
+    (λ c κs. search needs)
     returns
     (λ c. search needs)
     returns-2
-    returns-3)
+    returns-3
+    returns-4)

@@ -3,6 +3,7 @@
 use Rattle.number.proofs.Tools.{needs, arith, sym, _∙_}
 use Rattle.reading.proofs.Steps.{at-bad, is-lt, no-lt, is-ne, no-ne, is-true, is-false}
 use Rattle.rdb_file.specs.File.{readFile}
+use Rattle.rdb_file.proofs.SeenLaws.{settled-none}
 use Rattle.rdb_file.proofs.read_file.Statement.{statement}
 use Rattle.rdb_file.proofs.read_file.Tie as tie
 
@@ -22,9 +23,12 @@ returns-4 : tie.Need-returns-4
 unfolding readFile
 returns-4 c = no-lt _ _ _ _ (omega arith) (no-lt _ _ _ _ (omega arith) (is-false _ _ _ (sym (c .before .before .before .off-magic .ensures) ∙ c .before .before .if3 .left) (is-ne _ _ _ _ (λ e. omega arith) (at-bad _ _ _))))
 
+check-root-requires : tie.Need-check-root-requires
+check-root-requires c κs = (omega arith, omega arith, search needs, search needs, settled-none _ _ 262145, search needs, c .before .before .before .before .fill-stops .ensures)
+
 returns-5 : tie.Need-returns-5
 unfolding readFile
-returns-5 c = no-lt _ _ _ _ (omega arith) (no-lt _ _ _ _ (omega arith) (is-false _ _ _ (sym (c .before .before .before .before .before .before .off-magic .ensures) ∙ c .before .before .before .before .before .if3 .left) (no-ne _ _ _ _ (omega arith) (c .before .check-root .ensures))))
+returns-5 c = no-lt _ _ _ _ (omega arith) (no-lt _ _ _ _ (omega arith) (is-false _ _ _ (sym (c .before .before .before .before .before .before .before .before .before .before .before .before .off-magic .ensures) ∙ c .before .before .before .before .before .before .before .before .before .before .before .if3 .left) (no-ne _ _ _ _ (omega arith) (c .before .before .check-root .ensures))))
 
 pub read-file-spec : {M : Type 1} → statement M
 read-file-spec =
@@ -38,4 +42,8 @@ read-file-spec =
     returns-4
     (λ c. search needs)
     (λ c κs. search needs)
+    (λ c. search needs)
+    (λ c. search needs)
+    (λ c. search needs)
+    check-root-requires
     returns-5)

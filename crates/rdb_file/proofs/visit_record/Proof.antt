@@ -4,32 +4,36 @@ use Rattle.number.proofs.Tools.{needs, arith}
 use Rattle.reading.proofs.Steps.{is-eq, no-eq, at-end}
 use Rattle.rdb_file.specs.Visit.{visitRecord}
 use Rattle.rdb_file.proofs.VisitLaws.{alone-end, alone-refused}
+use Rattle.rdb_file.proofs.SeenLaws.{kept-same}
 use Rattle.rdb_file.proofs.visit_record.Statement.{statement}
 use Rattle.rdb_file.proofs.visit_record.Tie as tie
 
 returns : tie.Need-returns
 unfolding visitRecord
-returns c = is-eq _ _ _ _ (omega arith) (alone-refused _ _ (c .enum-told .given .1) (rw (← c .before .before .before .is-annotated .ensures) (c .before .before .read-enum .ensures)))
+returns c = (is-eq _ _ _ _ (omega arith) (alone-refused _ _ (c .enum-told .given .1) (rw (← c .before .before .before .is-annotated .ensures) (c .before .before .read-enum .ensures))), kept-same _ _)
 
 returns-2 : tie.Need-returns-2
 unfolding visitRecord
-returns-2 c = is-eq _ _ _ _ (omega arith) (alone-end _ _ (c .before .r .given .1) (rw (← c .before .before .before .before .is-annotated .ensures) (c .before .before .before .read-enum .ensures)))
+returns-2 c = (is-eq _ _ _ _ (omega arith) (alone-end _ _ (c .before .r .given .1) (rw (← c .before .before .before .before .is-annotated .ensures) (c .before .before .before .read-enum .ensures))), kept-same _ _)
 
 returns-3 : tie.Need-returns-3
 unfolding visitRecord
-returns-3 c = no-eq _ _ _ _ (λ e. omega arith) (is-eq _ _ _ _ (omega arith) (alone-refused _ _ (c .enum-told2 .given .1) (rw (← c .before .before .before .is-annotated2 .ensures) (c .before .before .read-interface .ensures))))
+returns-3 c = (no-eq _ _ _ _ (λ e. omega arith) (is-eq _ _ _ _ (omega arith) (alone-refused _ _ (c .enum-told2 .given .1) (rw (← c .before .before .before .is-annotated2 .ensures) (c .before .before .read-interface .ensures)))), kept-same _ _)
 
 returns-4 : tie.Need-returns-4
 unfolding visitRecord
-returns-4 c = no-eq _ _ _ _ (λ e. omega arith) (is-eq _ _ _ _ (omega arith) (alone-end _ _ (c .before .q .given .1) (rw (← c .before .before .before .before .is-annotated2 .ensures) (c .before .before .before .read-interface .ensures))))
+returns-4 c = (no-eq _ _ _ _ (λ e. omega arith) (is-eq _ _ _ _ (omega arith) (alone-end _ _ (c .before .q .given .1) (rw (← c .before .before .before .before .is-annotated2 .ensures) (c .before .before .before .read-interface .ensures)))), kept-same _ _)
+
+visit-group-requires : tie.Need-visit-group-requires
+visit-group-requires c κs = (omega arith, omega arith, omega arith, omega arith, omega arith, c .before .before .before .before .before .before .before .before .before .pre .5, c .before .before .before .before .before .before .before .before .before .pre .6, c .before .before .before .before .before .before .before .before .before .pre .7)
 
 returns-5 : tie.Need-returns-5
 unfolding visitRecord
-returns-5 c = no-eq _ _ _ _ (λ e. omega arith) (no-eq _ _ _ _ (λ e. omega arith) (is-eq _ _ _ _ (omega arith) (c .before .before .visit-group .ensures)))
+returns-5 c = (no-eq _ _ _ _ (λ e. omega arith) (no-eq _ _ _ _ (λ e. omega arith) (is-eq _ _ _ _ (omega arith) (c .before .before .before .before .visit-group .ensures .0))), c .before .before .before .before .visit-group .ensures .1)
 
 returns-6 : tie.Need-returns-6
 unfolding visitRecord
-returns-6 c = no-eq _ _ _ _ (λ e. omega arith) (no-eq _ _ _ _ (λ e. omega arith) (no-eq _ _ _ _ (λ e. omega arith) (at-end _ _)))
+returns-6 c = (no-eq _ _ _ _ (λ e. omega arith) (no-eq _ _ _ _ (λ e. omega arith) (no-eq _ _ _ _ (λ e. omega arith) (at-end _ _))), kept-same _ _)
 
 pub visit-record-spec : {M : Type 1} → statement M
 visit-record-spec =
@@ -48,7 +52,8 @@ visit-record-spec =
     (λ c. search needs)
     returns-3
     returns-4
-    (λ c κs. search needs)
+    visit-group-requires
+    (λ c. search needs)
     (λ c. search needs)
     returns-5
     returns-6)

@@ -1,40 +1,37 @@
 -- `rdb_map::check_map` meets its contract.
 -- Assumes nothing.
-use Rattle.number.proofs.Tools.{needs, arith, refl, _≡_, _≤_, _-_, _+_, _*_, length}
+use Rattle.number.proofs.Tools.{needs, arith, refl, _≡_, _≤_, _-_, length}
 use Rattle.sorting.proofs.Tables.{sorted-start}
 use Rattle.sorting.specs.Table.{Sorted}
 use Rattle.reading.proofs.Steps.{turn-refused, turn-done}
 use Rattle.reading.specs.Got.{many, stepOf}
 use Rattle.rdb_map.specs.Table.{nameIn}
 use Rattle.rdb_map.specs.Named.{Named}
-use Rattle.rdb_map.specs.Map.{readEntry, readMap}
+use Rattle.rdb_map.specs.Map.{entryPlace, readEntry, readMap}
 use Rattle.rdb_map.proofs.MapLaws.{entry-ends, named-none, named-more, map-start, map-next}
 use Rattle.rdb_map.proofs.check_map.Statement.{statement}
 use Rattle.rdb_map.proofs.check_map.Tie as tie
 
 abbrev Inv-loop : tie.InvT-loop
-Inv-loop file t₀ hold v n at k₀ t k = (k ≤ n) × (at + 8 * k ≤ length file) × (length t ≡ length t₀) × Named file at k × Sorted (nameIn file at) t k k × (stepOf (readMap file hold v n at) ≡ stepOf (many (readEntry file at hold v) (n - k) (at + 8 * k)))
+Inv-loop file stops t₀ hold v n at k₀ t k = (k ≤ n) × (entryPlace at k ≤ length file) × (length t ≡ length t₀) × Named file at k × Sorted (nameIn file at) t k k × (stepOf (readMap file hold v n at) ≡ stepOf (many (readEntry file at hold v) (n - k) (entryPlace at k)))
 
 abbrev μ-loop : tie.MeasureT-loop
-μ-loop file t₀ hold v n at k₀ t k = n - k
+μ-loop file stops t₀ hold v n at k₀ t k = n - k
 
 loop-holds : tie.Need-loop-holds Inv-loop μ-loop
 loop-holds c = (omega arith, omega arith, refl, named-none _ _, sorted-start _ _, map-start _ _ _ _ _)
 
 check-entry-requires : tie.Need-check-entry-requires Inv-loop μ-loop
-check-entry-requires c κs = (omega arith, omega arith, omega arith, omega arith, c .before .before .loop .inv .3, c .before .before .loop .inv .4)
+check-entry-requires c κs = (omega arith, omega arith, omega arith, omega arith, c .before .before .loop .inv .3, c .before .before .loop .inv .4, c .before .before .before .before .before .before .pre .4, c .before .before .before .before .before .before .pre .5)
 
 same-length : tie.Need-same-length Inv-loop μ-loop
-same-length c = omega (arith, c .before .before .before .before .check-entry .kept .1 .0)
+same-length c = omega (arith, c .before .before .before .before .check-entry .kept .1 .1 .0)
 
 returns : tie.Need-returns Inv-loop μ-loop
 returns c = turn-refused _ _ _ _ (c .before .before .before .before .before .before .before .loop .inv .5) (omega arith) (c .enum-told .given .1) (c .before .before .before .before .check-entry .ensures .step)
 
 loop-again : tie.Need-loop-again Inv-loop μ-loop
-loop-again c = let q = c .before .r .given .1 in let g = c .before .before .before .before .before .check-entry .ensures .step in (omega arith, omega (arith, entry-ends _ _ _ _ _ q g), omega (arith, c .before .before .before .before .before .check-entry .kept .1 .0), named-more _ _ _ _ _ (c .before .before .before .before .before .before .before .before .loop .inv .3) q g, c .before .before .before .before .before .check-entry .ensures .sorted _ q, map-next _ _ _ _ _ _ (c .before .before .before .before .before .before .before .before .loop .inv .5) (omega arith) q g)
-
-returns-2 : tie.Need-returns-2 Inv-loop μ-loop
-returns-2 c = turn-done _ _ _ _ (c .before .loop .inv .5) (omega arith)
+loop-again c = let q = c .before .r .given .1 in let g = c .before .before .before .before .before .check-entry .ensures .step in (omega arith, omega (arith, entry-ends _ _ _ _ _ q g), omega (arith, c .before .before .before .before .before .check-entry .kept .1 .1 .0), named-more _ _ _ _ _ (c .before .before .before .before .before .before .before .before .loop .inv .3) q g, c .before .before .before .before .before .check-entry .ensures .sorted _ q, map-next _ _ _ _ _ _ (c .before .before .before .before .before .before .before .before .loop .inv .5) (omega arith) q g)
 
 pub check-map-spec : {M : Type 1} → statement M
 check-map-spec =
@@ -54,4 +51,4 @@ check-map-spec =
     (λ c. search needs)
     (λ c. search needs)
     (λ c. search needs)
-    returns-2)
+    (λ c. turn-done _ _ _ _ (c .before .loop .inv .5) (omega arith)))

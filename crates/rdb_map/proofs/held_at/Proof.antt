@@ -7,11 +7,8 @@ use Rattle.key.specs.Word.{isSame}
 use Rattle.rdb_map.proofs.held_at.Statement.{statement}
 use Rattle.rdb_map.proofs.held_at.Tie as tie
 
-returns : tie.Need-returns
-returns c = laws.held-out _ _ _ _ _ (omega arith)
-
 compare-entries-requires : tie.Need-compare-entries-requires
-compare-entries-requires c κs = (omega arith, c .before .before .before .before .before .pre .1, omega (arith, c .index .ensures, c .before .before .before .before .before .pre .4 .within (c .before .before .before .before .before .args .p) (omega arith)))
+compare-entries-requires c κs = (omega arith, c .before .before .before .before .before .before .pre .1, omega (arith, c .index .ensures, c .before .before .before .before .before .before .pre .4 .within (c .before .before .before .before .before .before .args .p) (omega arith)), c .before .before .before .before .before .before .pre .5, c .before .before .before .before .before .before .pre .6)
 
 returns-2 : tie.Need-returns-2
 unfolding isSame
@@ -29,7 +26,7 @@ pub held-at-spec : {M : Type 1} → statement M
 held-at-spec =
     tie.close
     (tie.spec
-    returns
+    (λ c. laws.held-out _ _ _ _ _ (omega arith))
     (λ c. search needs)
     (λ c. search needs)
     (λ c κs. search needs)

@@ -7,37 +7,25 @@ use Rattle.rdb_map.proofs.slot_of.Statement.{statement}
 use Rattle.rdb_map.proofs.slot_of.Tie as tie
 
 abbrev Inv-loop : tie.InvT-loop
-Inv-loop file at t k lo₀ hi₀ lo hi = laws.Between (nameIn file at) t k k lo hi
+Inv-loop file stops at t k lo₀ hi₀ lo hi = laws.Between (nameIn file at) t k k lo hi
 
 abbrev μ-loop : tie.MeasureT-loop
-μ-loop file at t k lo₀ hi₀ lo hi = hi - lo
-
-loop-holds : tie.Need-loop-holds Inv-loop μ-loop
-loop-holds c = laws.between-start _ _ _ _
-
-add-mid : tie.Need-add-mid Inv-loop μ-loop
-add-mid c = omega (arith, c .before .loop .inv .top)
-
-mul-index : tie.Need-mul-index Inv-loop μ-loop
-mul-index c = omega (arith, c .before .loop .inv .top)
-
-shared-slice-read-index : tie.Need-shared-slice-read-index Inv-loop μ-loop
-shared-slice-read-index c = omega (arith, c .before .before .loop .inv .top)
+μ-loop file stops at t k lo₀ hi₀ lo hi = hi - lo
 
 compare-entries-requires : tie.Need-compare-entries-requires Inv-loop μ-loop
-compare-entries-requires c κs = (omega arith, c .before .before .before .before .before .before .pre .1, omega (arith, c .index .ensures, c .before .before .before .before .before .before .pre .4 .within (c .before .before .before .loop .lo + (c .before .before .before .loop .hi - c .before .before .before .loop .lo) / 2) (omega (arith, c .before .before .before .loop .inv .top))))
+compare-entries-requires c κs = (omega arith, c .before .before .before .before .before .before .before .pre .1, omega (arith, c .index .ensures, c .before .before .before .before .before .before .before .pre .4 .within (c .before .before .before .loop .lo + (c .before .before .before .loop .hi - c .before .before .before .loop .lo) / 2) (omega (arith, c .before .before .before .loop .inv .top))), c .before .before .before .before .before .before .before .pre .5, c .before .before .before .before .before .before .before .pre .6)
 
 add-lo : tie.Need-add-lo Inv-loop μ-loop
 add-lo c = omega (arith, c .before .before .before .before .before .before .loop .inv .top)
 
 loop-again : tie.Need-loop-again Inv-loop μ-loop
-loop-again c = laws.between-up _ _ _ _ _ _ _ (c .before .before .before .before .before .before .before .before .before .pre .4) (c .before .before .before .before .before .before .loop .inv) (omega arith) (c .before .before .before .index .ensures) (c .before .before .compare-entries .ensures) (c .enum-told .given .1)
+loop-again c = laws.between-up _ _ _ _ _ _ _ (c .before .before .before .before .before .before .before .before .before .before .pre .4) (c .before .before .before .before .before .before .loop .inv) (omega arith) (c .before .before .before .index .ensures) (c .before .before .compare-entries .ensures) (c .enum-told .given .1)
 
 loop-again-2 : tie.Need-loop-again-2 Inv-loop μ-loop
-loop-again-2 c = laws.between-same _ _ _ _ _ _ _ (c .before .before .before .before .before .before .before .before .before .pre .4) (c .before .before .before .before .before .before .loop .inv) (omega arith) (omega arith) (c .before .before .before .index .ensures) (c .before .before .compare-entries .ensures) (c .enum-told2 .given .1)
+loop-again-2 c = laws.between-same _ _ _ _ _ _ _ (c .before .before .before .before .before .before .before .before .before .before .pre .4) (c .before .before .before .before .before .before .loop .inv) (omega arith) (omega arith) (c .before .before .before .index .ensures) (c .before .before .compare-entries .ensures) (c .enum-told2 .given .1)
 
 loop-again-3 : tie.Need-loop-again-3 Inv-loop μ-loop
-loop-again-3 c = laws.between-after _ _ _ _ _ _ _ (c .before .before .before .before .before .before .before .before .before .pre .4) (c .before .before .before .before .before .before .loop .inv) (omega arith) (omega arith) (c .before .before .before .index .ensures) (c .before .before .compare-entries .ensures) (c .enum-told3 .given .1)
+loop-again-3 c = laws.between-after _ _ _ _ _ _ _ (c .before .before .before .before .before .before .before .before .before .before .pre .4) (c .before .before .before .before .before .before .loop .inv) (omega arith) (omega arith) (c .before .before .before .index .ensures) (c .before .before .compare-entries .ensures) (c .enum-told3 .given .1)
 
 returns : tie.Need-returns Inv-loop μ-loop
 returns c = laws.between-end _ _ _ _ _ _ (c .before .loop .inv) (omega arith)
@@ -48,11 +36,11 @@ slot-of-spec =
     (tie.spec
     Inv-loop
     μ-loop
-    loop-holds
+    (λ c. laws.between-start _ _ _ _)
     (λ c. omega arith)
-    add-mid
-    mul-index
-    shared-slice-read-index
+    (λ c. omega (arith, c .before .loop .inv .top))
+    (λ c. omega (arith, c .before .loop .inv .top))
+    (λ c. omega (arith, c .before .before .loop .inv .top))
     (λ c κs. search needs)
     compare-entries-requires
     (λ c. search needs)

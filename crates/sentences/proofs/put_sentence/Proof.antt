@@ -20,7 +20,11 @@ returns-3 c = (wrote-as (no-lt _ _ _ _ (omega arith) (no-lt _ _ _ _ (omega arith
 
 returns-4 : tie.Need-returns-4
 unfolding sentenceText
-returns-4 c = (wrote-as (no-lt _ _ _ _ (omega arith) (no-lt _ _ _ _ (omega arith) (no-lt _ _ _ _ (omega arith) refl))) (c .put-link .ensures .0), c .put-link .ensures .1)
+returns-4 c = (wrote-as (no-lt _ _ _ _ (omega arith) (no-lt _ _ _ _ (omega arith) (no-lt _ _ _ _ (omega arith) (is-lt _ _ _ _ (omega arith) refl)))) (c .put-link .ensures .0), c .put-link .ensures .1)
+
+returns-5 : tie.Need-returns-5
+unfolding sentenceText
+returns-5 c = (wrote-as (no-lt _ _ _ _ (omega arith) (no-lt _ _ _ _ (omega arith) (no-lt _ _ _ _ (omega arith) (no-lt _ _ _ _ (omega arith) refl)))) (c .put-types .ensures .0), c .put-types .ensures .1)
 
 pub put-sentence-spec : {M : Type 1} → statement M
 put-sentence-spec =
@@ -30,7 +34,9 @@ put-sentence-spec =
     (λ c κs. omega arith)
     (λ c κs. omega arith)
     (λ c κs. omega arith)
+    (λ c κs. omega arith)
     returns
     returns-2
     returns-3
-    returns-4)
+    returns-4
+    returns-5)

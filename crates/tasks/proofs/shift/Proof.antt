@@ -11,5 +11,7 @@ shift-spec =
     tie.close
     (tie.spec
     (λ c κs. search needs)
-    (λ c. (is-true _ _ _ (sym (c .before .is-forced .ensures) ∙ c .if1 .taken) refl, omega arith))
-    (λ c. (is-false _ _ _ (sym (c .before .is-forced .ensures) ∙ c .if1 .left) refl, omega arith)))
+    (λ c. (is-true _ _ _ (sym (c .before .asks-types .ensures) ∙ c .if1 .taken) refl, omega arith))
+    (λ c κs. search needs)
+    (λ c. (is-false _ _ _ (sym (c .before .before .before .asks-types .ensures) ∙ c .before .before .if1 .left) (is-true _ _ _ (sym (c .before .is-forced .ensures) ∙ c .if2 .taken) refl), omega arith))
+    (λ c. (is-false _ _ _ (sym (c .before .before .before .asks-types .ensures) ∙ c .before .before .if1 .left) (is-false _ _ _ (sym (c .before .is-forced .ensures) ∙ c .if2 .left) refl), omega arith)))

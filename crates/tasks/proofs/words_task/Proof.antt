@@ -1,37 +1,17 @@
 -- `tasks::words_task` meets its contract.
 -- Assumes nothing.
-use Rattle.number.proofs.Tools.{refl, arith, needs, is-eq, no-eq}
+use Rattle.number.proofs.Tools.{sym, _∙_, is-true, is-false, needs}
 use Rattle.tasks.specs.Tasks.{wordsTask}
-use Rattle.tasks.proofs.CountLaws.{words-few}
 use Rattle.tasks.proofs.words_task.Statement.{statement}
 use Rattle.tasks.proofs.words_task.Tie as tie
 
-add-if1 : tie.Need-add-if1
-add-if1 c = omega (arith, words-few (c .before .before .before .verb-in .result), c .words-of .ensures, c .before .shift .ensures .1)
-
-returns : tie.Need-returns
-unfolding wordsTask
-returns c =
-    rw (← c .before .before .before .before .verb-in .ensures)
-    (is-eq _ _ _ _ (omega (arith, c .before .before .before .word-count .ensures, c .before .words-of .ensures, c .before .before .shift .ensures .0, c .if1 .taken)) refl)
-
-returns-2 : tie.Need-returns-2
-unfolding wordsTask
-returns-2 c =
-    let count = c .before .before .before .before .word-count in
-    let more = c .before .before .before .shift in
-    rw (← c .before .before .before .before .before .verb-in .ensures)
-    (no-eq _ _ _ _ (omega (arith, count .ensures, c .before .before .words-of .ensures, more .ensures .0, c .before .if1 .left)) (rw (← count .ensures, ← more .ensures .0) (c .other-task .ensures)))
-
 pub words-task-spec : {M : Type 1} → statement M
+unfolding wordsTask
 words-task-spec =
     tie.close
     (tie.spec
     (λ c κs. search needs)
     (λ c κs. search needs)
+    (λ c. is-true _ _ _ (sym (c .before .before .asks-types .ensures) ∙ c .before .if1 .taken) (c .types-task .ensures))
     (λ c κs. search needs)
-    (λ c κs. search needs)
-    add-if1
-    returns
-    (λ c κs. search needs)
-    returns-2)
+    (λ c. is-false _ _ _ (sym (c .before .before .asks-types .ensures) ∙ c .before .if1 .left) (c .verb-task .ensures)))

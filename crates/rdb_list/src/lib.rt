@@ -1,0 +1,1 @@
+// What a types.rdb holds, entry by entry.

@@ -1,0 +1,1 @@
+// No code: what the listing of a types.rdb says of a path is what is answered about it.
