@@ -19,6 +19,9 @@
 //!   `linked/src/saniotka/lists.rs` and its enums beside that, a kind of `Asked` in
 //!   `library/cases.rs`, its numbers in `library/lists.rs`, and a driver beside
 //!   `library/questions.rs`;
+//! - for types.rdb: a rule in `program/rdb`, a field or a record in `making/rdb.rs` with its faults in
+//!   `making/rdb_damage.rs`, a file that is hard on a check in `making/rdb_hostile.rs`, a call in
+//!   `library::rdb::Program` and `linked/src/saniotka/rdb.rs`, a command in `line/rdb.rs`;
 //! - a command of `xpt`: its answer in `line/answers.rs`, its words in `line/malformed.rs`, a method
 //!   of `Script`, and a story.
 

@@ -397,7 +397,7 @@ fn planted_differences() {
 fn what_is_told_and_counted() {
     let told = |file: &[u8]| {
         let refusal = check(file).unwrap_err();
-        (refusal, vec!["a 7.xpt".to_string()], reason(file, refusal))
+        (Some(refusal), vec!["a 7.xpt".to_string()], reason(file, refusal))
     };
     let mut seven = marked()[0].clone();
     seven[18] = 9;
@@ -472,6 +472,9 @@ fn what_is_told_and_counted() {
         "listings",
         "batches",
         "alone",
+        "rdb",
+        "rdb-batches",
+        "rdb-alone",
     ];
-    assert_eq!(parts.map(|part| floors(part).len()).iter().sum::<usize>(), 1187);
+    assert_eq!(parts.map(|part| floors(part).len()).iter().sum::<usize>(), 1342);
 }

@@ -1,5 +1,6 @@
 //! The checked library's calls as those of a program that is compared.
 
+pub mod rdb;
 pub mod saniotka;
 
 use saniotka::{lists, Answer as Told, Which};

@@ -8,6 +8,7 @@ pub mod lists;
 pub mod looks;
 pub mod piles;
 pub mod questions;
+pub mod rdb;
 pub mod salvages;
 
 use crate::in_parallel;

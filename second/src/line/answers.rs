@@ -30,7 +30,7 @@ pub struct Outcome {
 }
 
 impl Outcome {
-    fn line(what: &'static str, text: impl Into<Vec<u8>>) -> Outcome {
+    pub fn line(what: &'static str, text: impl Into<Vec<u8>>) -> Outcome {
         Outcome { text: Some(text.into()), what, ..Outcome::default() }
     }
 
@@ -43,7 +43,7 @@ impl Outcome {
         Outcome { or_error: true, what, ..Outcome::default() }
     }
 
-    fn refused(what: &'static str, refusal: Refusal) -> Outcome {
+    pub fn refused(what: &'static str, refusal: Refusal) -> Outcome {
         let line = Outcome::line(what, shown(Err(refusal)));
         Outcome { refusal: Some((1, refusal)), ..line }
     }

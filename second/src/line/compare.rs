@@ -3,7 +3,7 @@
 
 use super::process::{self, Ran};
 use super::script::{Files, Script, Step, Told, SUBFOLDER};
-use crate::program::format::refusal::is_of_file;
+use crate::program::format::{refusal::is_of_file, Refusal};
 use crate::tally::{Came, Tally};
 use std::{fs, io, path::Path};
 
@@ -81,8 +81,10 @@ pub fn tells(line: &[u8], (refusal, files, [held, end]): &Told) -> bool {
         let is = |word: &str| word.trim_matches(|c: char| c.is_ascii_punctuation()).to_string();
         bare.split_whitespace().any(|word| is(word) == number.to_string())
     };
-    has(refusal.number as usize)
-        && (!is_of_file(refusal.number) || has(refusal.place))
+    let is_of = |refusal: &Refusal| {
+        has(refusal.number as usize) && (!is_of_file(refusal.number) || has(refusal.place))
+    };
+    refusal.as_ref().is_none_or(is_of)
         && bare.contains(held)
         && bare.ends_with(end)
 }

@@ -44,7 +44,7 @@ const USAGES: [&str; 13] = [
     "salvage [-f] FILE OUT",
 ];
 
-const COMMANDS: &str = "check list table iid looks key method slot const normal adopt link salvage";
+const COMMANDS: &str = "check list table iid looks key method slot const normal adopt link salvage rdb office";
 
 /// What the error says, of the kinds where that is fixed.
 fn told(kind: &str, words: &[Vec<u8>]) -> Option<String> {

@@ -7,6 +7,7 @@ mod iids;
 pub mod listing;
 mod malformed;
 pub mod process;
+pub mod rdb;
 mod script;
 mod stories;
 mod supply;
@@ -123,15 +124,19 @@ pub const PARTS: [Part; 2] =
     [("batches", batch, BATCHES, BATCHES - 1), ("alone", alone, 2 * ALONE, 2 * ALONE - 2)];
 
 /// The scripts of a part with one seed, several at a time.
-fn scripts(program: &Path, supply: &Supply, part: Part, seed: u64) -> io::Result<Tally> {
-    let (name, fill, count, usual) = part;
+fn scripts(
+    program: &Path,
+    fill: &(dyn Fn(&mut Script, usize) + Sync),
+    (name, count, usual): (&'static str, usize, usize),
+    seed: u64,
+) -> io::Result<Tally> {
     let rng = &mut Rng::new(seed);
     let seeds: Vec<_> = (0..count).map(|k| (k, rng.number())).collect();
     let run = |(k, seed): (usize, u64)| -> io::Result<Tally> {
         let folder = folder(&format!("compare-xpt-{}-{name}-{k}", std::process::id()), k != usual)?;
         let mut tally = Tally::new(name);
-        let mut script = Script::new(folder.clone(), name == "alone", seed);
-        fill(&mut script, supply, k);
+        let mut script = Script::new(folder.clone(), name.ends_with("alone"), seed);
+        fill(&mut script, k);
         let compared = compare::run(program, &script, &mut tally);
         compared.inspect_err(|_| println!("{name}: the files are kept in {}", folder.display()))?;
         fs::remove_dir_all(&folder)?;
@@ -153,8 +158,9 @@ pub fn run(program: &Path, parts: &[Part], seed: u64, rounds: u64) -> io::Result
         let supply = Supply::new(seed);
         for part in parts {
             let start = Instant::now();
-            let done = scripts(program, &supply, *part, seed);
-            println!("{}, seed {seed}: {:.1} s", part.0, start.elapsed().as_secs_f64());
+            let (name, fill, count, usual) = *part;
+            let done = scripts(program, &|s, k| fill(s, &supply, k), (name, count, usual), seed);
+            println!("{name}, seed {seed}: {:.1} s", start.elapsed().as_secs_f64());
             good &= done?.is_enough();
         }
     }

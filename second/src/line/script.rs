@@ -1,10 +1,11 @@
 //! Commands on the files of a folder, each with what it must answer and write.
 
 use super::answers::{self, Bytes, Outcome, Words};
-use super::iids;
+use super::{iids, rdb};
 use crate::library::{looks::LOOKED, piles::STEP, questions::Question};
 use crate::making::rng::Rng;
 use crate::program::format::{refusal, Refusal};
+use crate::program::rdb::{accept, Reading};
 use crate::tally::{LINK, NUMBER};
 use std::{collections::BTreeMap, collections::HashMap, path::PathBuf};
 
@@ -26,9 +27,9 @@ type Count = (What, What, Option<u64>);
 /// What the files that a command reads must be answered.
 type To<'a> = &'a dyn Fn(&[&[u8]]) -> Outcome;
 
-/// What a refusal must tell on standard error, the files of which it must name one, and what its
-/// reason must hold and how it must end.
-pub type Told = (Refusal, Vec<String>, [String; 2]);
+/// What a line on standard error must tell: the refusal that it is of, if any, the files of which it must
+/// name one, and what its reason must hold and how it must end.
+pub type Told = (Option<Refusal>, Vec<String>, [String; 2]);
 
 #[derive(Default)]
 pub struct Step {
@@ -248,7 +249,7 @@ impl Script {
             let is_read_otherwise = matches!(command, "adopt" | "salvage");
             let own = reads.get(which.wrapping_sub(1)).filter(|_| !is_read_otherwise);
             let reason = own.map_or_else(Default::default, |file| answers::reason(file, refusal));
-            (refusal, whose.iter().map(|file| file.word.clone()).collect(), reason)
+            (Some(refusal), whose.iter().map(|file| file.word.clone()).collect(), reason)
         });
         let told = told.into_iter().collect();
         let out = out.first().map(|out| out.path.clone());
@@ -287,11 +288,7 @@ impl Script {
             question => question.clone(),
         };
         let words = answers::question_words(&question, &mut self.rng);
-        let cannot = if self.alone { &b"\0"[..] } else { b" \n" };
-        let is_long = words.iter().map(Vec::len).sum::<usize>() > LONGEST_LINE - 1_000;
-        if words.iter().flatten().any(|byte| cannot.contains(byte)) || self.alone && is_long {
-            return;
-        }
+        let Some(is_long) = self.is_long(&words) else { return };
         let question = match question {
             Question::Iid(_) => match iids::read(&words[0]) {
                 Some(iid) => Question::Iid(iid),
@@ -315,6 +312,32 @@ impl Script {
         }
     }
 
+    /// Whether these words make a long line, if they can be said.
+    fn is_long(&self, words: &Words) -> Option<bool> {
+        let cannot = if self.alone { &b"\0"[..] } else { b" \n" };
+        let is_long = words.iter().map(Vec::len).sum::<usize>() > LONGEST_LINE - 1_000;
+        let can = !words.iter().flatten().any(|byte| cannot.contains(byte));
+        (can && !(self.alone && is_long)).then_some(is_long)
+    }
+
+    /// A question of a types.rdb, if it can be put so.
+    pub fn rdb(&mut self, file: &Name, reading: Reading, question: &rdb::Question) {
+        let (command, words) = question.words();
+        let Some(is_long) = self.is_long(&words) else { return };
+        let is_empty = words.iter().any(Vec::is_empty);
+        let first = if reading == Reading::Literal { "rdb" } else { "office" };
+        let answer = |files: &[&[u8]]| rdb::answered(files[0], reading, question);
+        let alone = self.alone;
+        let office = self.content(file).is_some_and(|bytes| accept(bytes, Reading::Office).is_ok());
+        let step = self.command(&[first, command], &[file], words, &answer);
+        step.counts.push((question.row(), step.outcome.what, None));
+        if reading == Reading::Literal && office && !step.told.is_empty() {
+            let names = ["xpt office".to_string(), String::new()];
+            step.told.push((None, vec![file.word.clone()], names));
+        }
+        step.outcome.or_error |= !alone && (is_long || is_empty);
+    }
+
     /// One question in these words after the file's.
     pub fn ask_so(&mut self, file: &Name, command: What, words: Words, q: &Question) -> &mut Step {
         self.command(&[command], &[file], words, &|files| answers::asked(command, files[0], q))
@@ -333,7 +356,7 @@ impl Script {
             step.counts.push(("pile", step.outcome.what, None));
             step.counts.extend(last_step(step).map(|step| ("pile", step, None)));
         }
-        if let (Some(order), Some((why, ..))) = (order, step.told.first()) {
+        if let (Some(order), Some((Some(why), ..))) = (order, step.told.first()) {
             if !refusal::is_of_file(why.number) {
                 step.counts.push((LINK[why.number as usize], order, Some(why.place as u64)));
             }
@@ -385,7 +408,7 @@ impl Script {
                 line.split(' ').filter_map(|word| word.parse().ok()).collect();
             let [_, number, place] = numbers[..] else { continue };
             let why = Refusal { number: number as u32, place };
-            step.told.push((why, vec![file.word.clone()], Default::default()));
+            step.told.push((Some(why), vec![file.word.clone()], Default::default()));
             step.counts.push(("salvaged", NUMBER[number], Some(place as u64)));
         }
     }

@@ -9,5 +9,8 @@ pub mod genuine;
 pub mod hostile;
 pub mod model;
 pub mod pairs;
+pub mod rdb;
+pub mod rdb_damage;
+pub mod rdb_hostile;
 pub mod rng;
 pub mod shape;

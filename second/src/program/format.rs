@@ -141,10 +141,17 @@ pub mod refusal {
     pub const BUFFER: u32 = 27;
     pub const CUT: u32 = 29;
     pub const PADDED: u32 = 30;
+    pub const RDB_HEADER: u32 = 31;
+    pub const RDB_OUTSIDE: u32 = 32;
+    pub const RDB_NOT_BELOW: u32 = 33;
+    pub const RDB_VALUE: u32 = 34;
+    pub const RDB_KEY_TWICE: u32 = 35;
+    pub const RDB_TOO_DEEP: u32 = 36;
+    pub const RDB_TOO_MANY: u32 = 37;
     pub const SHORT_LISTS: u32 = 38;
 
     /// Whether it is a file's own, at a byte.
     pub fn is_of_file(number: u32) -> bool {
-        number <= CYCLE || number == CUT || number == PADDED
+        number <= CYCLE || (CUT..=RDB_TOO_MANY).contains(&number)
     }
 }

@@ -1,5 +1,6 @@
 //! The independent program: the check of a typelib, its questions, listing, tables, normal form and
-//! links, libxpt's files and what is left of bad ones, written from the documents and the readings alone.
+//! links, libxpt's files, what is left of bad ones, and types.rdb, written from the documents and the
+//! readings alone.
 
 pub mod accepted;
 pub mod adopt;
@@ -9,6 +10,7 @@ pub mod link;
 pub mod listing;
 pub mod normal;
 pub mod questions;
+pub mod rdb;
 pub mod salvage;
 pub mod table;
 

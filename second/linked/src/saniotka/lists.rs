@@ -27,6 +27,9 @@ extern "C" {
     fn saniotka_pile_add(n: u64, l: u64, f: In, fl: usize, o: Out, ol: usize, p: Out, pl: usize, a: List, al: usize) -> i32;
     fn saniotka_pile_end(n: u64, l: u64, o: Out, ol: usize, p: Out, pl: usize, a: List, al: usize) -> i32;
     fn saniotka_salvage(f: In, fl: usize, i: List, il: usize, n: List, nl: usize, p: List, pl: usize, o: Out, ol: usize, a: List, al: usize) -> i32;
+    fn saniotka_rdb_check(f: In, fl: usize, r: u64, a: List, al: usize) -> i32;
+    fn saniotka_rdb_entity(f: In, fl: usize, r: u64, p: In, pl: usize, a: List, al: usize) -> i32;
+    fn saniotka_rdb_constant(f: In, fl: usize, r: u64, p: In, pl: usize, a: List, al: usize) -> i32;
 }
 
 // SAFETY, of all calls: the library reads at most as many bytes as it is told from what is lent
@@ -124,5 +127,25 @@ pub fn salvage(file: &[u8], report: [&mut [u64]; 3], out: &mut [u8], answer: &mu
             a,
             a_length,
         )
+    }
+}
+
+/// Any reading but 0 and 1 is a malformed question, here and below.
+pub fn rdb_check(file: &[u8], reading: u64, answer: &mut [u64]) -> i32 {
+    let (f, a) = (file, answer);
+    unsafe { saniotka_rdb_check(f.as_ptr(), f.len(), reading, a.as_mut_ptr(), a.len()) }
+}
+
+pub fn rdb_entity(file: &[u8], reading: u64, path: &[u8], answer: &mut [u64]) -> i32 {
+    let (f, a, p, p_length) = (file, answer, path.as_ptr(), path.len());
+    unsafe {
+        saniotka_rdb_entity(f.as_ptr(), f.len(), reading, p, p_length, a.as_mut_ptr(), a.len())
+    }
+}
+
+pub fn rdb_constant(file: &[u8], reading: u64, path: &[u8], answer: &mut [u64]) -> i32 {
+    let (f, a, p, p_length) = (file, answer, path.as_ptr(), path.len());
+    unsafe {
+        saniotka_rdb_constant(f.as_ptr(), f.len(), reading, p, p_length, a.as_mut_ptr(), a.len())
     }
 }

@@ -74,16 +74,40 @@ pub enum Which {
     Second,
 }
 
+/// How a types.rdb is read.
+#[derive(Clone, Copy, Debug, PartialEq, Eq)]
+pub enum Reading {
+    /// Each attribute has a number of set exceptions, as document 001 says.
+    Document,
+    /// One that is read-only has none, as office suites write.
+    Office,
+}
+
+/// An entity of a types.rdb: its kind byte, flags and all, and that byte's offset.
+#[derive(Clone, Copy, Debug, PartialEq, Eq)]
+pub struct Entity {
+    pub kind: u8,
+    pub offset: usize,
+}
+
+/// A constant of a types.rdb; a FLOAT and a DOUBLE are told by their bits.
+#[derive(Clone, Copy, Debug, PartialEq, Eq)]
+pub enum Value {
+    Boolean(bool),
+    Byte(i8),
+    Short(i16),
+    UnsignedShort(u16),
+    Long(i32),
+    UnsignedLong(u32),
+    Hyper(i64),
+    UnsignedHyper(u64),
+    Float(u32),
+    Double(u64),
+}
+
 /// Whether a file is a typelib: how many interfaces it has.
 pub fn check(file: &[u8]) -> Result<usize, Refusal> {
-    told(
-        |list| lists::check(file, list),
-        |numbers| match *numbers {
-            [0, n] => Some(Ok(n as usize)),
-            [number, place] => Some(Err(refusal(number, place)?)),
-            _ => None,
-        },
-    )
+    told(|list| lists::check(file, list), verdict)
 }
 
 /// Interface by IID: 16 bytes, not all zero.
@@ -195,6 +219,29 @@ pub fn pile(files: &[&[u8]]) -> Result<Option<Vec<u8>>, (Which, Refusal, usize)>
     }))
 }
 
+/// Whether a file is a types.rdb, in that reading: how many entries were visited.
+pub fn rdb_check(file: &[u8], reading: Reading) -> Result<usize, Refusal> {
+    told(|list| lists::rdb_check(file, reading as u64, list), verdict)
+}
+
+/// Entity by its dotted path.
+pub fn rdb_entity(file: &[u8], reading: Reading, path: &[u8]) -> Answer<Entity> {
+    asked(
+        |list| lists::rdb_entity(file, reading as u64, path, list),
+        |numbers| match *numbers {
+            [_, kind, offset] => {
+                Some(Entity { kind: kind.try_into().ok()?, offset: offset as usize })
+            }
+            _ => None,
+        },
+    )
+}
+
+/// Constant by its dotted path.
+pub fn rdb_constant(file: &[u8], reading: Reading, path: &[u8]) -> Answer<Value> {
+    asked(|list| lists::rdb_constant(file, reading as u64, path, list), value)
+}
+
 // From numbers to enums.
 
 /// What a list holds before a call: numbers that the answer has no use for keep it.
@@ -228,6 +275,14 @@ fn asked<T>(
 
 fn refusal(number: u64, place: u64) -> Option<Refusal> {
     Some(Refusal { number: number.try_into().ok()?, place: place as usize })
+}
+
+fn verdict(numbers: &Numbers) -> Option<Result<usize, Refusal>> {
+    match *numbers {
+        [0, n] => Some(Ok(n as usize)),
+        [number, place] => Some(Err(refusal(number, place)?)),
+        _ => None,
+    }
 }
 
 fn written(numbers: &Numbers) -> Option<Result<usize, Refusal>> {
@@ -265,6 +320,23 @@ fn constant(numbers: &Numbers) -> Option<Constant> {
         2 => Some(Constant::I32(u32::try_from(bits).ok()? as i32)),
         5 => Some(Constant::U16(bits.try_into().ok()?)),
         6 => Some(Constant::U32(bits.try_into().ok()?)),
+        _ => None,
+    }
+}
+
+fn value(numbers: &Numbers) -> Option<Value> {
+    let [_, kind, bits] = *numbers else { return None };
+    match kind {
+        0 if bits < 2 => Some(Value::Boolean(bits == 1)),
+        1 => Some(Value::Byte(u8::try_from(bits).ok()? as i8)),
+        2 => Some(Value::Short(u16::try_from(bits).ok()? as i16)),
+        3 => Some(Value::UnsignedShort(bits.try_into().ok()?)),
+        4 => Some(Value::Long(u32::try_from(bits).ok()? as i32)),
+        5 => Some(Value::UnsignedLong(bits.try_into().ok()?)),
+        6 => Some(Value::Hyper(bits as i64)),
+        7 => Some(Value::UnsignedHyper(bits)),
+        8 => Some(Value::Float(bits.try_into().ok()?)),
+        9 => Some(Value::Double(bits)),
         _ => None,
     }
 }
