@@ -1,5 +1,6 @@
 /* Saniotka for C and C++: the check of XPCOM typelibs, the five questions, the normal form, the adoption of a
- * file that libxpt wrote, the link of two files and of many, and what is left of a damaged file.
+ * file that libxpt wrote, the link of two files and of many, and what is left of a damaged file; and of the types.rdb
+ * files of office suites the check, an entity and a constant.
  *
  * Every function is proved to answer what the definitions in the sources say, for every input. docs/FORMAT.md there says
  * what a typelib is, what each refusal means and what its place counts. The library is made by `rt staticlib cabi`, as
@@ -11,7 +12,7 @@
  * What goes in. A run of bytes is a pointer and its length; texts have no zero byte at their end. With the length 0 the
  * pointer is not followed and may be NULL. Nothing is written to what is const, and const runs may be one another's
  * bytes, so that a file can be linked with itself; `out`, `answer`, the lists of a report and the buffers of a pile share
- * no byte with any other argument. A file may have any bytes and any length: what is no typelib is refused.
+ * no byte with any other argument. A file may have any bytes and any length: what is no typelib, or no types.rdb, is refused.
  *
  * What comes out. A call returns SANIOTKA_ANSWERED, and its answer is in the first numbers of `answer`, a list of
  * `answers` numbers; those that the answer has no use for keep what they held. A list of fewer than SANIOTKA_ROOM numbers
@@ -24,8 +25,8 @@
  * Threads. The functions keep no state, allocate nothing and call nothing of the system: any number of threads may call
  * them at once, as long as nobody changes what is lent for a call while it runs.
  *
- * Stack. A call needs fewer than SANIOTKA_STACK bytes of it, and saniotka_salvage, which copies the file, fewer than
- * SANIOTKA_SALVAGE_STACK.
+ * Stack. A call needs fewer than SANIOTKA_STACK bytes of it; saniotka_salvage, which copies the file, fewer than
+ * SANIOTKA_SALVAGE_STACK, and one about a types.rdb fewer than SANIOTKA_RDB_STACK.
  */
 #ifndef SANIOTKA_H
 #define SANIOTKA_H
@@ -49,9 +50,12 @@ extern "C" {
 /* Numbers of each list of a report. */
 #define SANIOTKA_REPORTS 1024
 
-/* Bytes of stack that are enough for any call but saniotka_salvage, and for that one. */
+/* Bytes of stack that are enough for any call about typelibs but saniotka_salvage, and for that one. */
 #define SANIOTKA_STACK 131072
 #define SANIOTKA_SALVAGE_STACK 1310720
+
+/* And for any about a types.rdb. */
+#define SANIOTKA_RDB_STACK 2097152
 
 /* What a call returns. */
 enum {
@@ -89,6 +93,27 @@ enum {
     SANIOTKA_I32 = 2,
     SANIOTKA_U16 = 5,
     SANIOTKA_U32 = 6
+};
+
+/* How a types.rdb is read. Document 001 says that each attribute of an interface has a number of set exceptions; office
+ * suites write none for those that are read-only. Never found out by trying: some files can be read both ways. */
+enum {
+    SANIOTKA_RDB_DOCUMENT = 0,
+    SANIOTKA_RDB_OFFICE = 1
+};
+
+/* The kinds of constants of a types.rdb. */
+enum {
+    SANIOTKA_RDB_BOOLEAN = 0,
+    SANIOTKA_RDB_BYTE = 1,
+    SANIOTKA_RDB_SHORT = 2,
+    SANIOTKA_RDB_UNSIGNED_SHORT = 3,
+    SANIOTKA_RDB_LONG = 4,
+    SANIOTKA_RDB_UNSIGNED_LONG = 5,
+    SANIOTKA_RDB_HYPER = 6,
+    SANIOTKA_RDB_UNSIGNED_HYPER = 7,
+    SANIOTKA_RDB_FLOAT = 8,
+    SANIOTKA_RDB_DOUBLE = 9
 };
 
 /* Which file of a link is refused. */
@@ -241,6 +266,35 @@ int saniotka_pile_end(uint64_t files, uint64_t left, uint8_t *one, size_t one_le
 int saniotka_salvage(const uint8_t *file, size_t length, uint64_t *indexes, size_t index_count, uint64_t *numbers,
                      size_t number_count, uint64_t *places, size_t place_count, uint8_t *out, size_t out_length,
                      uint64_t *answer, size_t answers);
+
+/* Is this a types.rdb, in that reading? A reading that is none of the two is malformed, here and below, whatever the file
+ * is.
+ *
+ *     0, n            it is accepted, and n entries were visited (0 to 65,536), each as often as its map is read
+ *     number, place   it is refused, with 2 or the first of 31 to 37 that applies (docs/FORMAT.md) and its place, or
+ *                     SANIOTKA_MALFORMED and 0
+ */
+int saniotka_rdb_check(const uint8_t *file, size_t length, uint64_t reading, uint64_t *answer, size_t answers);
+
+/* Which entity does this dotted path lead to? It is cut at every dot, and no path is malformed.
+ *
+ *     SANIOTKA_FOUND, kind, offset      its kind byte, flags and all, and that byte's offset
+ *     SANIOTKA_NONE
+ *     SANIOTKA_REFUSED, number, place   as above
+ */
+int saniotka_rdb_entity(const uint8_t *file, size_t length, uint64_t reading, const uint8_t *path, size_t path_length,
+                        uint64_t *answer, size_t answers);
+
+/* Which constant does it lead to?
+ *
+ *     SANIOTKA_FOUND, kind, bits        one of the ten kinds, and the value: 8 to 64 bits as stored, in two's complement
+ *                                       where the kind is signed, a FLOAT and a DOUBLE as binary32 and binary64, a NaN's
+ *                                       bits too; the others zero
+ *     SANIOTKA_NONE
+ *     SANIOTKA_REFUSED, number, place   as above
+ */
+int saniotka_rdb_constant(const uint8_t *file, size_t length, uint64_t reading, const uint8_t *path, size_t path_length,
+                          uint64_t *answer, size_t answers);
 
 #ifdef __cplusplus
 }
