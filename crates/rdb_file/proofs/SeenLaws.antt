@@ -8,6 +8,7 @@ use Prim.Native.Nat.{ℕ, zero, suc, _+_, _-_, _≤_, _<_}
 use native.Mathlib.Omega.{arith}
 use lib.ListN.{length, getD, replicate}
 use Rattle.number.specs.Choice.{if_then_else_, _≤?_, _=?_, _<?_}
+use Rattle.number.specs.Limits.{fileLimit}
 use Rattle.number.specs.Number.{le}
 use Rattle.number.proofs.Choice as choice
 use Rattle.number.proofs.Choice.{from-yes-le, from-not-le, from-yes-lt, from-not-lt, from-yes-eq, both}
@@ -21,6 +22,8 @@ use Rattle.reading.proofs.Rows.{many-first, many-empty, accepted}
 use Rattle.rdb_seen.specs.Marks.{marked, Marking}
 use Rattle.rdb_seen.proofs.MarkLaws.{marked-before, none-marked}
 use Rattle.rdb_text.proofs.FieldLaws.{f-uint}
+use Rattle.rdb_memory.specs.Memory.{Learnt}
+use Rattle.rdb_memory.proofs.GoodLaws.{remembers-other, remembers-none}
 use Rattle.rdb_map.specs.Map.{visitLimit, entryPlace, Entry, entryPayload, entriesBefore, readEntry, readMap}
 use Rattle.rdb_map.proofs.MapLaws.{entry-at, before-is}
 use Rattle.rdb_interface.specs.declared.SetCount.{SetCount}
@@ -29,7 +32,7 @@ use Rattle.rdb_record.specs.Constant.{readConstant}
 use Rattle.rdb_file.specs.Kind.{moduleKind, enumKind, interfaceKind, groupKind, kindOf, isAnnotated}
 use Rattle.rdb_file.specs.Visit.{countPlace, mapPlace, Sound, sound, each, alone, visitConstant, visitGroup, visitRecord}
 use Rattle.rdb_file.proofs.VisitLaws.{group-map}
-use Rattle.rdb_file.specs.Seen.{entityMark, constantMark, countAgain, Known, Settled, Trusted, Keeps, Visited}
+use Rattle.rdb_file.specs.Seen.{seenCells, entityMark, constantMark, countAgain, Known, Settled, Trusted, Keeps, Visited}
 
 -- ---- a map, after v entries instead of u
 
@@ -239,7 +242,7 @@ trust m s seen h = record { reading = m; settled = h }
 pub trust-kept : (s seen after : List ℕ) → Trusted s seen → Keeps s seen after → Trusted s after
 trust-kept s seen after t k = record { reading = t .reading; settled = k .still (t .reading) (t .settled) }
 
-module _ (s seen after : List ℕ) (o : ℕ) where
+module _ (s seen after : List ℕ) (o : ℕ) (l : length s ≤ fileLimit) where
   -- an entity more
   pub settled-entity : (m : SetCount) → Marking seen (entityMark o) after → Known m s o → Settled m s seen → Settled m s after
   settled-entity m w k t = record {
@@ -248,6 +251,7 @@ module _ (s seen after : List ℕ) (o : ℕ) where
       | inr q ↦ t .entity p q
     ];
     constant = λ p e. elim (marked-before seen after (entityMark o) (constantMark p) w e) [ inl q ↦ absurd (omega arith) | inr q ↦ t .constant p q ];
+    texts = remembers-other s seen after l (entityMark o) (omega arith) w (t .texts);
   }
 
   pub settled-constant : Marking seen (constantMark o) after → Accepted (readConstant s o) → Keeps s seen after
@@ -258,14 +262,26 @@ module _ (s seen after : List ℕ) (o : ℕ) where
         | inl q ↦ (let z : p ≡ o = omega arith in rw z k)
         | inr q ↦ t .constant p q
       ];
+      texts = remembers-other s seen after l (constantMark o) (omega arith) w (t .texts);
     };
   }
 
+-- texts that were read
+pub learnt-keeps : {s seen after : List ℕ} → Learnt s seen after → Keeps s seen after
+learnt-keeps l = record {
+  still = λ m t. record {
+    entity = λ p e. t .entity p (sym (l .others (entityMark p) (omega arith)) ∙ e);
+    constant = λ p e. t .constant p (sym (l .others (constantMark p) (omega arith)) ∙ e);
+    texts = l .kept;
+  };
+}
+
 -- the table at the start
-pub settled-none : (m : SetCount) (s : List ℕ) (n : ℕ) → Settled m s (replicate n 0)
-settled-none m s n = record {
+pub settled-none : (m : SetCount) (s : List ℕ) (n : ℕ) → seenCells ≤ n → Settled m s (replicate n 0)
+settled-none m s n l = record {
   entity = λ o e. clash (marked (replicate n 0) (entityMark o)) e (none-marked n (entityMark o));
   constant = λ o e. clash (marked (replicate n 0) (constantMark o)) e (none-marked n (constantMark o));
+  texts = remembers-none s n (omega arith);
 }
 
 -- a module whose map was read

@@ -1,4 +1,4 @@
--- What the check remembers, by offsets: records and maps that were read well. A record gives the same however it was reached, but for refusals 36 and 37;
+-- What the check remembers, by offsets: texts, records and maps that were read well. A record gives the same however it was reached, but for refusals 36 and 37;
 -- a map that is read again counts its entries again, and what a module's entries lead to is visited again.
 -- Assumes nothing.
 use mathlib.Core.Path.{_≡_}
@@ -12,21 +12,22 @@ use Rattle.reading.specs.Got.{Accepted}
 use Rattle.reading.specs.declared.Step.{Step}
 use Rattle.reading.specs.declared.Step.the-variants.{End, Refused}
 use Rattle.rdb_seen.specs.Marks.{marked}
+use Rattle.rdb_memory.specs.Memory.{markCells, textCells, otherMarks, Remembers}
 use Rattle.rdb_map.specs.Map.{visitLimit, entryPlace, readMap}
 use Rattle.rdb_interface.specs.declared.SetCount.{SetCount}
 use Rattle.rdb_record.specs.Constant.{readConstant}
 use Rattle.rdb_file.specs.Kind.{moduleKind}
 use Rattle.rdb_file.specs.Visit.{countPlace, mapPlace, visitRecord}
 
--- two marks for each offset, the end of the file among them: of an entity, and of a constant
-abbrev pub seenBytes : ℕ
-seenBytes = 262145
+-- the texts' cells, and two marks for each offset: of an entity, and of a constant
+abbrev pub seenCells : ℕ
+seenCells = textCells + markCells
 
 abbrev pub entityMark : ℕ → ℕ
-entityMark o = 2 * o
+entityMark o = otherMarks + 2 * o
 
 abbrev pub constantMark : ℕ → ℕ
-constantMark o = 2 * o + 1
+constantMark o = otherMarks + 2 * o + 1
 
 -- the map at `at` with n entries again, after v entries
 unfoldable pub countAgain : ℕ → ℕ → ℕ → Step
@@ -43,6 +44,7 @@ pub record Known (m : SetCount) (s : List ℕ) (o : ℕ) : Type 0 where
 pub record Settled (m : SetCount) (s seen : List ℕ) : Type 0 where
   pub entity : (o : ℕ) → marked seen (entityMark o) ≡ true → Known m s o
   pub constant : (o : ℕ) → marked seen (constantMark o) ≡ true → Accepted (readConstant s o)
+  pub texts : Remembers s seen
 
 -- in one reading
 pub record Trusted (s seen : List ℕ) : Type 0 where

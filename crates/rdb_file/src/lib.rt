@@ -11,7 +11,7 @@ ghost use Rattle.rdb_map.specs.Map.{Entry, visitLimit, readMap};
 ghost use Rattle.rdb_stops.specs.Stops.{stopCount, Stopped};
 ghost use Rattle.rdb_file.specs.Entered.{Entered, Stands};
 ghost use Rattle.rdb_record.specs.Constant.{readConstant};
-ghost use Rattle.rdb_file.specs.Seen.{seenBytes, countAgain, Settled, Trusted, Keeps, Visited};
+ghost use Rattle.rdb_file.specs.Seen.{seenCells, countAgain, Settled, Trusted, Keeps, Visited};
 ghost use Rattle.rdb_file.specs.Kind.{moduleKind, isAnnotated, mayFlag, isReserved};
 ghost use Rattle.rdb_file.specs.Visit.{countPlace, mapPlace, each, alone, visitConstant, visitGroup, visitModule, visitRecord, visitEntity};
 ghost use Rattle.rdb_file.specs.File.{offMagic, readRoot, readFile, verdictOf};
@@ -19,6 +19,8 @@ use number::FILE_LIMIT;
 use rdb_interface::SetCount;
 use rdb_map::ENTRY_BYTES;
 use rdb_map::VISIT_LIMIT;
+use rdb_memory::MARK_CELLS;
+use rdb_memory::OTHER_MARKS;
 use rdb_stops::STOP_COUNT;
 use reading::Refusal;
 use reading::Step;
@@ -52,8 +54,8 @@ pub const COUNT_PLACE: usize = 1;
 
 pub const MAP_PLACE: usize = 5;
 
-// Two marks for each offset and for the file's end: 2 o of an entity at o, 2 o + 1 of a constant.
-const SEEN_BYTES: usize = 262145;
+// What was read well: texts, then two marks for each offset, of an entity and of a constant.
+const SEEN_CELLS: usize = OTHER_MARKS / 32 + MARK_CELLS;
 
 // The modules that may be entered one in another.
 const MODULE_LIMIT: usize = 16;
@@ -118,45 +120,45 @@ fn enter_map(
     file: &[u8],
     stops: &[u32],
     t: &mut [u16],
-    seen: &mut [u8],
+    seen: &mut [u32],
     o: usize,
     v: usize,
     n: usize,
 ) -> Step
-    requires { ⌜ (length (now file) ≤ fileLimit) × (v ≤ visitLimit) × (visitLimit ≤ length (now t)) × (seenBytes ≤ length (now seen)) × (mapPlace o ≤ length (now file)) × (getD (now file) o 0 ≡ moduleKind) × (n ≡ le 4 (now file) (countPlace o)) × (n ≤ 0xffffffff) × Trusted (now file) (now seen) × (stopCount ≤ length (now stops)) × Stopped (now file) (now stops) 0 ⌝ }
+    requires { ⌜ (length (now file) ≤ fileLimit) × (v ≤ visitLimit) × (visitLimit ≤ length (now t)) × (seenCells ≤ length (now seen)) × (mapPlace o ≤ length (now file)) × (getD (now file) o 0 ≡ moduleKind) × (n ≡ le 4 (now file) (countPlace o)) × (n ≤ 0xffffffff) × Trusted (now file) (now seen) × (stopCount ≤ length (now stops)) × Stopped (now file) (now stops) 0 ⌝ }
     ensures { λ r. ⌜ (r ≡ stepOf (readMap (now (file .entry)) o v n (mapPlace o))) × Keeps (now (file .entry)) (now (seen .entry)) (now (seen .exit)) ⌝ }
 {
     let at = o + MAP_PLACE;
-    if rdb_seen::is_marked(seen, 2 * o) {
+    if rdb_seen::is_marked(seen, OTHER_MARKS + 2 * o) {
         return count_again(v, n, at);
     }
     let r = rdb_map::check_map(file, stops, t, o, v, n, at);
     let Step::End(e) = r else {
         return r;
     };
-    rdb_seen::mark(seen, 2 * o);
+    rdb_seen::mark(seen, OTHER_MARKS + 2 * o);
     r
 }
 
 // The constant at o, unless it was read well before.
-fn visit_constant(file: &[u8], seen: &mut [u8], o: usize, v: usize) -> Step
-    requires { ⌜ (length (now file) ≤ fileLimit) × (seenBytes ≤ length (now seen)) × (o ≤ length (now file)) × Trusted (now file) (now seen) ⌝ }
+fn visit_constant(file: &[u8], seen: &mut [u32], o: usize, v: usize) -> Step
+    requires { ⌜ (length (now file) ≤ fileLimit) × (seenCells ≤ length (now seen)) × (o ≤ length (now file)) × Trusted (now file) (now seen) ⌝ }
     ensures { λ r. ⌜ (r ≡ stepOf (alone (readConstant (now (file .entry)) o) v)) × Keeps (now (file .entry)) (now (seen .entry)) (now (seen .exit)) ⌝ }
 {
-    if rdb_seen::is_marked(seen, 2 * o + 1) {
+    if rdb_seen::is_marked(seen, OTHER_MARKS + 2 * o + 1) {
         return Step::End(v);
     }
-    let r = rdb_record::read_constant(file, o);
+    let r = rdb_record::read_constant(file, seen, o);
     let Step::End(e) = r else {
         return r;
     };
-    rdb_seen::mark(seen, 2 * o + 1);
+    rdb_seen::mark(seen, OTHER_MARKS + 2 * o + 1);
     Step::End(v)
 }
 
 // The constants of the n entries of the map at `at`.
-fn visit_constants(file: &[u8], seen: &mut [u8], n: usize, at: usize, v: usize) -> Step
-    requires { ⌜ (length (now file) ≤ fileLimit) × (seenBytes ≤ length (now seen)) × Stands (now file) at n × Trusted (now file) (now seen) ⌝ }
+fn visit_constants(file: &[u8], seen: &mut [u32], n: usize, at: usize, v: usize) -> Step
+    requires { ⌜ (length (now file) ≤ fileLimit) × (seenCells ≤ length (now seen)) × Stands (now file) at n × Trusted (now file) (now seen) ⌝ }
     ensures { λ r. ⌜ ((es : List Entry) → Entered (now (file .entry)) at n es → r ≡ stepOf (each (visitConstant (now (file .entry))) es v)) × Keeps (now (file .entry)) (now (seen .entry)) (now (seen .exit)) ⌝ }
 {
     let mut i: usize = 0;
@@ -176,14 +178,14 @@ fn visit_all(
     file: &[u8],
     stops: &[u32],
     t: &mut [u16],
-    seen: &mut [u8],
+    seen: &mut [u32],
     m: SetCount,
     left: usize,
     n: usize,
     at: usize,
     v: usize,
 ) -> Step
-    requires { ⌜ (length (now file) ≤ fileLimit) × (v ≤ visitLimit) × (visitLimit ≤ length (now t)) × (seenBytes ≤ length (now seen)) × Stands (now file) at n × Settled m (now file) (now seen) × (stopCount ≤ length (now stops)) × Stopped (now file) (now stops) 0 ⌝ }
+    requires { ⌜ (length (now file) ≤ fileLimit) × (v ≤ visitLimit) × (visitLimit ≤ length (now t)) × (seenCells ≤ length (now seen)) × Stands (now file) at n × Settled m (now file) (now seen) × (stopCount ≤ length (now stops)) × Stopped (now file) (now stops) 0 ⌝ }
     ensures { λ r. ⌜ ((es : List Entry) → Entered (now (file .entry)) at n es → r ≡ stepOf (each (visitEntity m left (now (file .entry))) es v)) × Settled m (now (file .entry)) (now (seen .exit)) ⌝ }
 {
     let mut i: usize = 0;
@@ -206,13 +208,13 @@ fn visit_module(
     file: &[u8],
     stops: &[u32],
     t: &mut [u16],
-    seen: &mut [u8],
+    seen: &mut [u32],
     m: SetCount,
     left: usize,
     o: usize,
     v: usize,
 ) -> Step
-    requires { ⌜ (length (now file) ≤ fileLimit) × (v ≤ visitLimit) × (visitLimit ≤ length (now t)) × (seenBytes ≤ length (now seen)) × (o ≤ length (now file)) × (getD (now file) o 0 ≡ moduleKind) × Settled m (now file) (now seen) × (stopCount ≤ length (now stops)) × Stopped (now file) (now stops) 0 ⌝ }
+    requires { ⌜ (length (now file) ≤ fileLimit) × (v ≤ visitLimit) × (visitLimit ≤ length (now t)) × (seenCells ≤ length (now seen)) × (o ≤ length (now file)) × (getD (now file) o 0 ≡ moduleKind) × Settled m (now file) (now seen) × (stopCount ≤ length (now stops)) × Stopped (now file) (now stops) 0 ⌝ }
     ensures { λ r. ⌜ (r ≡ stepOf (visitModule (visitEntity m left (now (file .entry))) (now (file .entry)) o v)) × Settled m (now (file .entry)) (now (seen .exit)) ⌝ }
 {
     let field = o + COUNT_PLACE;
@@ -236,14 +238,14 @@ fn visit_entity(
     file: &[u8],
     stops: &[u32],
     t: &mut [u16],
-    seen: &mut [u8],
+    seen: &mut [u32],
     m: SetCount,
     left: usize,
     place: usize,
     o: usize,
     v: usize,
 ) -> Step
-    requires { ⌜ (length (now file) ≤ fileLimit) × (v ≤ visitLimit) × (visitLimit ≤ length (now t)) × (seenBytes ≤ length (now seen)) × (o ≤ length (now file)) × Settled m (now file) (now seen) × (stopCount ≤ length (now stops)) × Stopped (now file) (now stops) 0 ⌝ }
+    requires { ⌜ (length (now file) ≤ fileLimit) × (v ≤ visitLimit) × (visitLimit ≤ length (now t)) × (seenCells ≤ length (now seen)) × (o ≤ length (now file)) × Settled m (now file) (now seen) × (stopCount ≤ length (now stops)) × Stopped (now file) (now stops) 0 ⌝ }
     ensures { λ r. ⌜ (r ≡ stepOf (visitEntity m left (now (file .entry)) place o v)) × Settled m (now (file .entry)) (now (seen .exit)) ⌝ }
 {
     if file.len() <= o {
@@ -267,12 +269,12 @@ fn visit_group(
     file: &[u8],
     stops: &[u32],
     t: &mut [u16],
-    seen: &mut [u8],
+    seen: &mut [u32],
     k: u8,
     o: usize,
     v: usize,
 ) -> Step
-    requires { ⌜ (length (now file) ≤ fileLimit) × (v ≤ visitLimit) × (visitLimit ≤ length (now t)) × (seenBytes ≤ length (now seen)) × (o ≤ length (now file)) × Trusted (now file) (now seen) × (stopCount ≤ length (now stops)) × Stopped (now file) (now stops) 0 ⌝ }
+    requires { ⌜ (length (now file) ≤ fileLimit) × (v ≤ visitLimit) × (visitLimit ≤ length (now t)) × (seenCells ≤ length (now seen)) × (o ≤ length (now file)) × Trusted (now file) (now seen) × (stopCount ≤ length (now stops)) × Stopped (now file) (now stops) 0 ⌝ }
     ensures { λ r. ⌜ (r ≡ stepOf (visitGroup (now (file .entry)) k o v)) × Keeps (now (file .entry)) (now (seen .entry)) (now (seen .exit)) ⌝ }
 {
     let field = o + COUNT_PLACE;
@@ -288,7 +290,7 @@ fn visit_group(
     let Step::End(e) = r else {
         return r;
     };
-    let q = rdb_record::read_notes(file, is_annotated(k), e);
+    let q = rdb_record::read_notes(file, seen, is_annotated(k), e);
     let Step::End(d) = q else {
         return q;
     };
@@ -300,25 +302,25 @@ fn visit_record(
     file: &[u8],
     stops: &[u32],
     t: &mut [u16],
-    seen: &mut [u8],
+    seen: &mut [u32],
     m: SetCount,
     k: u8,
     o: usize,
     v: usize,
 ) -> Step
-    requires { ⌜ (length (now file) ≤ fileLimit) × (v ≤ visitLimit) × (visitLimit ≤ length (now t)) × (seenBytes ≤ length (now seen)) × (o + 1 ≤ length (now file)) × Trusted (now file) (now seen) × (stopCount ≤ length (now stops)) × Stopped (now file) (now stops) 0 ⌝ }
+    requires { ⌜ (length (now file) ≤ fileLimit) × (v ≤ visitLimit) × (visitLimit ≤ length (now t)) × (seenCells ≤ length (now seen)) × (o + 1 ≤ length (now file)) × Trusted (now file) (now seen) × (stopCount ≤ length (now stops)) × Stopped (now file) (now stops) 0 ⌝ }
     ensures { λ r. ⌜ (r ≡ stepOf (visitRecord m (now (file .entry)) k o v)) × Keeps (now (file .entry)) (now (seen .entry)) (now (seen .exit)) ⌝ }
 {
     let from = o + 1;
     if k % 32 == ENUM {
-        let r = rdb_record::read_enum(file, is_annotated(k), from);
+        let r = rdb_record::read_enum(file, seen, is_annotated(k), from);
         let Step::End(e) = r else {
             return r;
         };
         return Step::End(v);
     }
     if k % 32 == INTERFACE {
-        let q = rdb_interface::read_interface(file, m, is_annotated(k), from);
+        let q = rdb_interface::read_interface(file, seen, m, is_annotated(k), from);
         let Step::End(d) = q else {
             return q;
         };
@@ -351,23 +353,23 @@ fn visit_known(
     file: &[u8],
     stops: &[u32],
     t: &mut [u16],
-    seen: &mut [u8],
+    seen: &mut [u32],
     m: SetCount,
     k: u8,
     o: usize,
     v: usize,
 ) -> Step
-    requires { ⌜ (length (now file) ≤ fileLimit) × (v ≤ visitLimit) × (visitLimit ≤ length (now t)) × (seenBytes ≤ length (now seen)) × (o + 1 ≤ length (now file)) × (k ≡ getD (now file) o 0) × (moduleKind < k) × Settled m (now file) (now seen) × (stopCount ≤ length (now stops)) × Stopped (now file) (now stops) 0 ⌝ }
+    requires { ⌜ (length (now file) ≤ fileLimit) × (v ≤ visitLimit) × (visitLimit ≤ length (now t)) × (seenCells ≤ length (now seen)) × (o + 1 ≤ length (now file)) × (k ≡ getD (now file) o 0) × (moduleKind < k) × Settled m (now file) (now seen) × (stopCount ≤ length (now stops)) × Stopped (now file) (now stops) 0 ⌝ }
     ensures { λ r. ⌜ (r ≡ stepOf (visitRecord m (now (file .entry)) k o v)) × Settled m (now (file .entry)) (now (seen .exit)) ⌝ }
 {
-    if rdb_seen::is_marked(seen, 2 * o) {
+    if rdb_seen::is_marked(seen, OTHER_MARKS + 2 * o) {
         return visit_again(file, k, o, v);
     }
     let r = visit_record(file, stops, t, seen, m, k, o, v);
     let Step::End(e) = r else {
         return r;
     };
-    rdb_seen::mark(seen, 2 * o);
+    rdb_seen::mark(seen, OTHER_MARKS + 2 * o);
     r
 }
 
@@ -389,8 +391,8 @@ fn off_magic(file: &[u8]) -> bool
 }
 
 // The root map, and what its entries lead to.
-fn check_root(file: &[u8], stops: &[u32], t: &mut [u16], seen: &mut [u8], m: SetCount) -> Step
-    requires { ⌜ (16 ≤ length (now file)) × (length (now file) ≤ fileLimit) × (visitLimit ≤ length (now t)) × (seenBytes ≤ length (now seen)) × Settled m (now file) (now seen) × (stopCount ≤ length (now stops)) × Stopped (now file) (now stops) 0 ⌝ }
+fn check_root(file: &[u8], stops: &[u32], t: &mut [u16], seen: &mut [u32], m: SetCount) -> Step
+    requires { ⌜ (16 ≤ length (now file)) × (length (now file) ≤ fileLimit) × (visitLimit ≤ length (now t)) × (seenCells ≤ length (now seen)) × Settled m (now file) (now seen) × (stopCount ≤ length (now stops)) × Stopped (now file) (now stops) 0 ⌝ }
     ensures { λ r. ⌜ r ≡ stepOf (readRoot m (now (file .entry))) ⌝ }
 {
     let at = pointer(number::le32_at(file, 8));
@@ -424,7 +426,7 @@ fn read_file(file: &[u8], m: SetCount) -> Step
         return Step::Refused(Refusal { no: 31, place: 7 });
     }
     let mut t = [0u16; VISIT_LIMIT];
-    let mut seen = [0u8; SEEN_BYTES];
+    let mut seen = [0u32; SEEN_CELLS];
     let mut stops = [0u32; STOP_COUNT];
     rdb_stops::fill_stops(file, &mut stops);
     check_root(file, &stops, &mut t, &mut seen, m)

@@ -1,10 +1,10 @@
 -- A name's end by the first byte that no name has: its NUL, or a byte that is not US-ASCII.
 -- Assumes nothing.
-use mathlib.Core.Path.{_≡_, refl, sym, _∙_}
+use mathlib.Core.Path.{_≡_, refl, sym}
 use mathlib.Core.Bool.{Bool, true, false}
 use mathlib.Core.List.{List}
 use mathlib.Core.Logic.{inl, inr}
-use Prim.Native.Nat.{ℕ, zero, suc, _+_, _-_, _≤_, _<_}
+use Prim.Native.Nat.{ℕ, _+_, _-_, _≤_, _<_}
 use native.Mathlib.Omega.{arith}
 use lib.ListN.{length, getD}
 use Rattle.number.specs.Choice.{_≤?_, _=?_}
@@ -15,8 +15,8 @@ use Rattle.key.specs.Word.{wordEnd, wordAt}
 use Rattle.key.proofs.Ends.{word-from, word-zero, word-nonzero, end-is}
 use Rattle.rdb_stops.specs.Stops.{noName, endsName, nameEnd}
 use Rattle.rdb_stops.proofs.StopLaws.{sides, end-range}
-use Rattle.rdb_text.specs.Bytes.{isAscii}
-use Rattle.rdb_text.proofs.ByteLaws.{ascii-done, ascii-more, ascii-off}
+use Rattle.rdb_runs.specs.Bytes.{isAscii}
+use Rattle.rdb_runs.proofs.ByteLaws.{ascii-all, ascii-none}
 
 -- ---- bytes
 
@@ -36,22 +36,9 @@ zero-ends b e = sym (is-eq b 0 true (0x80 ≤? b) e refl)
 high-byte : (b : ℕ) → noName b ≡ true → (b ≡ 0 → ⊥) → 0x80 ≤ b
 high-byte b e n = elim (sides 0x80 b) [ inl l ↦ l | inr l ↦ clash (noName b) e (byte-name b n l) ]
 
--- ---- parts of US-ASCII
-
-module _ (s : List ℕ) (j : ℕ) (h : j ≤ length s) where
-  ascii-all : (n i : ℕ) → i + n ≡ j → ((k : ℕ) → i ≤ k → k < j → getD s k 0 < 0x80) → isAscii (part s i j) ≡ true
-  ascii-all zero i e f = ascii-done s i j (omega arith)
-  ascii-all (suc n) i e f = ascii-more s i j (omega arith) h (f i (omega arith) (omega arith)) ∙ ascii-all n (i + 1) (omega arith) (λ k a b. f k (omega arith) b)
-
-  ascii-none : (n i k : ℕ) → i + n ≡ k → k < j → 0x80 ≤ getD s k 0 → isAscii (part s i j) ≡ false
-  ascii-none zero i k e l b = ascii-off s i j (omega arith) h (let q : i ≡ k = omega arith in rw q b)
-  ascii-none (suc n) i k e l b = elim (sides 0x80 (getD s i 0)) [
-    | inl w ↦ ascii-off s i j (omega arith) h w
-    | inr w ↦ ascii-more s i j (omega arith) h w ∙ ascii-none n (i + 1) k (omega arith) l b
-  ]
-
-  ascii-each : (n i k : ℕ) → i + n ≡ k → k < j → isAscii (part s i j) ≡ true → getD s k 0 < 0x80
-  ascii-each n i k e l a = elim (sides 0x80 (getD s k 0)) [ inl b ↦ clash (isAscii (part s i j)) a (ascii-none n i k e l b) | inr b ↦ b ]
+-- a byte of a part of US-ASCII
+ascii-each : (s : List ℕ) (j : ℕ) → j ≤ length s → (n i k : ℕ) → i + n ≡ k → k < j → isAscii (part s i j) ≡ true → getD s k 0 < 0x80
+ascii-each s j h n i k e l a = elim (sides 0x80 (getD s k 0)) [ inl b ↦ clash (isAscii (part s i j)) a (ascii-none s j h n i k e l b) | inr b ↦ b ]
 
 -- ---- the name at q
 

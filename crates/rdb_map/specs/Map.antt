@@ -12,7 +12,7 @@ use Rattle.reading.specs.Got.{Got, got, bad, next, many}
 use Rattle.key.specs.Word.{wordEnd, wordAt, sameWord}
 use Rattle.rdb_text.specs.declared.Text.{Text}
 use Rattle.rdb_text.specs.Field.{uint}
-use Rattle.rdb_text.specs.Bytes.{isAscii}
+use Rattle.rdb_runs.specs.Bytes.{isAscii}
 
 -- "65,536 entries visited, each counted whenever its map is read"
 abbrev pub visitLimit : ℕ

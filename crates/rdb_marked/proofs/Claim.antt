@@ -12,7 +12,8 @@ use Rattle.reading.specs.Got.{next, many}
 use Rattle.signed.specs.Bits.{signed}
 use Rattle.key.specs.Word.{zeroByte, wordEnd, wordAt, compareWords, isSame, sameWord}
 use Rattle.rdb_text.specs.Field.{byteAt, uintOf, uint, counted}
-use Rattle.rdb_text.specs.Bytes.{isAscii, charsEnd, isUtf8, suits}
+use Rattle.rdb_runs.specs.Bytes.{isAscii, charsEnd, isUtf8}
+use Rattle.rdb_text.specs.Bytes.{suits}
 use Rattle.rdb_text.specs.Text.{readLen, readText, readTexts}
 use Rattle.rdb_map.specs.Map.{entryAt, entryPayload, readKey, keyAt, hasKeyOf, entriesBefore, stoodEarlier, readPayload, readEntry, readMap}
 use Rattle.rdb_record.specs.Notes.{readNotes}

@@ -5,6 +5,7 @@ ghost use lib.ListN.{length};
 ghost use Rattle.number.specs.Limits.{fileLimit};
 ghost use Rattle.number.specs.Number.{le};
 ghost use Rattle.reading.specs.Got.{stepOf, many};
+ghost use Rattle.rdb_memory.specs.Memory.{Remembers, Judged};
 ghost use Rattle.rdb_text.specs.Field.{uint, counted};
 ghost use Rattle.rdb_record.specs.Notes.{readNotes};
 ghost use Rattle.rdb_record.specs.Enum.{readMember, readEnum};
@@ -14,12 +15,12 @@ use reading::Refusal;
 use reading::Step;
 
 // Annotations, where there are any.
-pub fn read_notes(file: &[u8], annotated: bool, at: usize) -> Step
-    requires { ⌜ (length (now file) ≤ fileLimit) × (at ≤ length (now file)) ⌝ }
-    ensures { λ r. ⌜ r ≡ stepOf (readNotes annotated (now (file .entry)) at) ⌝ }
+pub fn read_notes(file: &[u8], memory: &mut [u32], annotated: bool, at: usize) -> Step
+    requires { ⌜ (length (now file) ≤ fileLimit) × (at ≤ length (now file)) × Remembers (now file) (now memory) ⌝ }
+    ensures { λ r. ⌜ Judged (now (file .entry)) (now (memory .entry)) (now (memory .exit)) r (readNotes annotated (now (file .entry)) at) ⌝ }
 {
     if annotated {
-        return rdb_text::read_texts(file, Class::Utf8, at);
+        return rdb_memory::read_texts(file, memory, Class::Utf8, at);
     }
     Step::End(at)
 }
@@ -37,11 +38,11 @@ fn read_four(file: &[u8], at: usize) -> Step
 }
 
 // A member of an enum.
-fn read_member(file: &[u8], annotated: bool, at: usize) -> Step
-    requires { ⌜ (length (now file) ≤ fileLimit) × (at ≤ length (now file)) ⌝ }
-    ensures { λ r. ⌜ r ≡ stepOf (readMember annotated (now (file .entry)) at) ⌝ }
+fn read_member(file: &[u8], memory: &mut [u32], annotated: bool, at: usize) -> Step
+    requires { ⌜ (length (now file) ≤ fileLimit) × (at ≤ length (now file)) × Remembers (now file) (now memory) ⌝ }
+    ensures { λ r. ⌜ Judged (now (file .entry)) (now (memory .entry)) (now (memory .exit)) r (readMember annotated (now (file .entry)) at) ⌝ }
 {
-    let a = rdb_text::read_text(file, Class::Ascii, at);
+    let a = rdb_memory::read_text(file, memory, Class::Ascii, at);
     let Step::End(u) = a else {
         return a;
     };
@@ -49,18 +50,18 @@ fn read_member(file: &[u8], annotated: bool, at: usize) -> Step
     let Step::End(v) = b else {
         return b;
     };
-    read_notes(file, annotated, v)
+    read_notes(file, memory, annotated, v)
 }
 
 // n of them.
-fn read_members(file: &[u8], annotated: bool, n: usize, at: usize) -> Step
-    requires { ⌜ (length (now file) ≤ fileLimit) × (at ≤ length (now file)) ⌝ }
-    ensures { λ r. ⌜ r ≡ stepOf (many (readMember annotated (now (file .entry))) n at) ⌝ }
+fn read_members(file: &[u8], memory: &mut [u32], annotated: bool, n: usize, at: usize) -> Step
+    requires { ⌜ (length (now file) ≤ fileLimit) × (at ≤ length (now file)) × Remembers (now file) (now memory) ⌝ }
+    ensures { λ r. ⌜ Judged (now (file .entry)) (now (memory .entry)) (now (memory .exit)) r (many (readMember annotated (now (file .entry))) n at) ⌝ }
 {
     let mut k: usize = 0;
     let mut p = at;
     while k < n {
-        let r = read_member(file, annotated, p);
+        let r = read_member(file, memory, annotated, p);
         let Step::End(e) = r else {
             return r;
         };
@@ -71,28 +72,28 @@ fn read_members(file: &[u8], annotated: bool, n: usize, at: usize) -> Step
 }
 
 // Their number, and that many.
-fn all_members(file: &[u8], annotated: bool, at: usize) -> Step
-    requires { ⌜ (length (now file) ≤ fileLimit) × (at ≤ length (now file)) ⌝ }
-    ensures { λ r. ⌜ r ≡ stepOf (counted (readMember annotated (now (file .entry))) (now (file .entry)) at) ⌝ }
+fn all_members(file: &[u8], memory: &mut [u32], annotated: bool, at: usize) -> Step
+    requires { ⌜ (length (now file) ≤ fileLimit) × (at ≤ length (now file)) × Remembers (now file) (now memory) ⌝ }
+    ensures { λ r. ⌜ Judged (now (file .entry)) (now (memory .entry)) (now (memory .exit)) r (counted (readMember annotated (now (file .entry))) (now (file .entry)) at) ⌝ }
 {
     let from = at + 4;
     if file.len() < from {
         return Step::Refused(Refusal { no: 32, place: at });
     }
     let n = number::le32_at(file, at) as usize;
-    read_members(file, annotated, n, from)
+    read_members(file, memory, annotated, n, from)
 }
 
 // An enum, after its kind byte.
-pub fn read_enum(file: &[u8], annotated: bool, at: usize) -> Step
-    requires { ⌜ (length (now file) ≤ fileLimit) × (at ≤ length (now file)) ⌝ }
-    ensures { λ r. ⌜ r ≡ stepOf (readEnum annotated (now (file .entry)) at) ⌝ }
+pub fn read_enum(file: &[u8], memory: &mut [u32], annotated: bool, at: usize) -> Step
+    requires { ⌜ (length (now file) ≤ fileLimit) × (at ≤ length (now file)) × Remembers (now file) (now memory) ⌝ }
+    ensures { λ r. ⌜ Judged (now (file .entry)) (now (memory .entry)) (now (memory .exit)) r (readEnum annotated (now (file .entry)) at) ⌝ }
 {
-    let a = all_members(file, annotated, at);
+    let a = all_members(file, memory, annotated, at);
     let Step::End(u) = a else {
         return a;
     };
-    read_notes(file, annotated, u)
+    read_notes(file, memory, annotated, u)
 }
 
 // The bytes of a constant's value, by its kind.
@@ -129,9 +130,9 @@ fn no_boolean(file: &[u8], kind: u8, at: usize) -> bool
 }
 
 // What follows the kind byte of a constant: its value and its annotations.
-fn read_stored(file: &[u8], byte: u8, at: usize) -> Step
-    requires { ⌜ (length (now file) ≤ fileLimit) × (at ≤ length (now file)) ⌝ }
-    ensures { λ r. ⌜ r ≡ stepOf (readStored byte (now (file .entry)) at) ⌝ }
+fn read_stored(file: &[u8], memory: &mut [u32], byte: u8, at: usize) -> Step
+    requires { ⌜ (length (now file) ≤ fileLimit) × (at ≤ length (now file)) × Remembers (now file) (now memory) ⌝ }
+    ensures { λ r. ⌜ Judged (now (file .entry)) (now (memory .entry)) (now (memory .exit)) r (readStored byte (now (file .entry)) at) ⌝ }
 {
     let kind = byte % 128;
     let end = at + value_size(kind);
@@ -141,13 +142,13 @@ fn read_stored(file: &[u8], byte: u8, at: usize) -> Step
     if no_boolean(file, kind, at) {
         return Step::Refused(Refusal { no: 34, place: at });
     }
-    read_notes(file, 128 <= byte, end)
+    read_notes(file, memory, 128 <= byte, end)
 }
 
 // A constant.
-pub fn read_constant(file: &[u8], at: usize) -> Step
-    requires { ⌜ (length (now file) ≤ fileLimit) × (at ≤ length (now file)) ⌝ }
-    ensures { λ r. ⌜ r ≡ stepOf (readConstant (now (file .entry)) at) ⌝ }
+pub fn read_constant(file: &[u8], memory: &mut [u32], at: usize) -> Step
+    requires { ⌜ (length (now file) ≤ fileLimit) × (at ≤ length (now file)) × Remembers (now file) (now memory) ⌝ }
+    ensures { λ r. ⌜ Judged (now (file .entry)) (now (memory .entry)) (now (memory .exit)) r (readConstant (now (file .entry)) at) ⌝ }
 {
     if file.len() <= at {
         return Step::Refused(Refusal { no: 32, place: at });
@@ -157,5 +158,5 @@ pub fn read_constant(file: &[u8], at: usize) -> Step
         return Step::Refused(Refusal { no: 34, place: at });
     }
     let from = at + 1;
-    read_stored(file, byte, from)
+    read_stored(file, memory, byte, from)
 }

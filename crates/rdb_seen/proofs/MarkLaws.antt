@@ -1,4 +1,4 @@
--- Bits of a byte when one of them is set, and tables of them.
+-- Bits of a cell when one of them is set, and tables of them.
 -- Assumes nothing.
 use mathlib.Core.Path.{_≡_, refl, sym, ap, _∙_}
 use mathlib.Core.Bool.{Bool, true, false}
@@ -7,7 +7,7 @@ use mathlib.Core.Logic.{_⊎_, inl, inr}
 use Prim.Native.Nat.{ℕ, zero, suc, _+_, _-_, _*_, _/_, _%_, _^_, _<_}
 use native.Mathlib.Omega.{arith}
 use native.Mathlib.Nat.{div-eq-of-lt, div-self, mul-div-cancel, mul-mod-left, mod-eq-of-lt, mod-lt, pow-suc, one-mul}
-use lib.ListN.{length, getD, set, replicate}
+use lib.ListN.{length, getD, set, length-set, replicate}
 use lib.Seq.{getD-set-same, getD-set-other}
 use lib.Pow.{pow-pos, pow-lt, pow-add}
 use lib.Bits.{bitOr, or-shr, or-mod, or-zero-r}
@@ -59,34 +59,34 @@ set-other x k j h = ap (λ (z : ℕ). z =? 1) (or-digit x (2 ^ k) j ∙ rw (pow-
 
 -- the table with the bit of number i set, as the code sets it
 abbrev put : List ℕ → ℕ → List ℕ
-put t i = set t (i / 8) (bitOr (getD t (i / 8) 0) (2 ^ (i % 8)))
+put t i = set t (i / 32) (bitOr (getD t (i / 32) 0) (2 ^ (i % 32)))
 
-module _ (t : List ℕ) (i : ℕ) (h : i < 8 * length t) where
-  byte-of : getD (put t i) (i / 8) 0 ≡ bitOr (getD t (i / 8) 0) (2 ^ (i % 8))
-  byte-of = getD-set-same t (i / 8) _ 0 (omega arith)
+module _ (t : List ℕ) (i : ℕ) (h : i < 32 * length t) where
+  cell-of : getD (put t i) (i / 32) 0 ≡ bitOr (getD t (i / 32) 0) (2 ^ (i % 32))
+  cell-of = getD-set-same t (i / 32) _ 0 (omega arith)
 
   put-same : marked (put t i) i ≡ true
   unfolding marked
-  put-same = rw byte-of (set-same (getD t (i / 8) 0) (i % 8))
+  put-same = rw cell-of (set-same (getD t (i / 32) 0) (i % 32))
 
-  -- another number, in another byte or in the same one
-  put-other : (j : ℕ) → (j ≡ i → ⊥) → (b : Bool) → (j / 8 =? i / 8) ≡ b → marked (put t i) j ≡ marked t j
+  -- another number, in another cell or in the same one
+  put-other : (j : ℕ) → (j ≡ i → ⊥) → (b : Bool) → (j / 32 =? i / 32) ≡ b → marked (put t i) j ≡ marked t j
   unfolding marked
-  put-other j n false e = ap (λ (x : ℕ). isSet x (j % 8)) (getD-set-other t (i / 8) (j / 8) _ 0 (from-not-eq (j / 8) (i / 8) e))
+  put-other j n false e = ap (λ (x : ℕ). isSet x (j % 32)) (getD-set-other t (i / 32) (j / 32) _ 0 (from-not-eq (j / 32) (i / 32) e))
   put-other j n true e =
-      let q = from-yes-eq (j / 8) (i / 8) e in
-      rw (q, byte-of) (set-other (getD t (i / 8) 0) (i % 8) (j % 8) (λ r. n (omega arith)))
+      let q = from-yes-eq (j / 32) (i / 32) e in
+      rw (q, cell-of) (set-other (getD t (i / 32) 0) (i % 32) (j % 32) (λ r. n (omega arith)))
 
   put-each : (j : ℕ) (b : Bool) → (j =? i) ≡ b → marked (put t i) j ≡ (if j =? i then true else marked t j)
   put-each j true e = let q = from-yes-eq j i e in is-eq j i _ _ q (rw q put-same)
-  put-each j false e = let q = from-not-eq j i e in no-eq j i _ _ q (put-other j q (j / 8 =? i / 8) refl)
+  put-each j false e = let q = from-not-eq j i e in no-eq j i _ _ q (put-other j q (j / 32 =? i / 32) refl)
 
-  pub put-marks : {x : ℕ} → x ≡ 2 ^ (i % 8) → Marking t i (set t (i / 8) (bitOr (getD t (i / 8) 0) x))
-  put-marks e = rw e record { each = λ j. put-each j (j =? i) refl }
+  pub put-marks : {x : ℕ} → x ≡ 2 ^ (i % 32) → Marking t i (set t (i / 32) (bitOr (getD t (i / 32) 0) x))
+  put-marks e = rw e record { each = λ j. put-each j (j =? i) refl; cells = λ j n. getD-set-other t (i / 32) j _ 0 n; size = length-set t (i / 32) _ }
 
 -- the bit that the code sets
-pub shifted : (i : ℕ) → 1 * 2 ^ (i % 8) % 256 ≡ 2 ^ (i % 8)
-shifted i = rw (one-mul (2 ^ (i % 8))) (mod-eq-of-lt (pow-lt (mod-lt i (omega arith))))
+pub shifted : (i : ℕ) → 1 * 2 ^ (i % 32) % 0x100000000 ≡ 2 ^ (i % 32)
+shifted i = rw (one-mul (2 ^ (i % 32))) (mod-eq-of-lt (pow-lt (mod-lt i (omega arith))))
 
 -- ---- what is marked
 
@@ -98,7 +98,7 @@ marked-before t after i j m e = go (j =? i) refl
     go true q = inl (from-yes-eq j i q)
     go false q = inr (no-eq j i true (marked t j) (from-not-eq j i q) refl ∙ sym (m .each j) ∙ e)
 
-zeros : (n i : ℕ) → getD {A = ℕ} (replicate n 0) i 0 ≡ 0
+pub zeros : (n i : ℕ) → getD {A = ℕ} (replicate n 0) i 0 ≡ 0
 zeros zero i = refl
 zeros (suc n) zero = refl
 zeros (suc n) (suc i) = zeros n i
@@ -106,4 +106,4 @@ zeros (suc n) (suc i) = zeros n i
 -- no number is marked in a table of zeros
 pub none-marked : (n i : ℕ) → marked (replicate n 0) i ≡ false
 unfolding marked isSet
-none-marked n i = rw (zeros n (i / 8), div-eq-of-lt (pow-pos (i % 8))) (not-eq 0 1 (λ e. omega arith))
+none-marked n i = rw (zeros n (i / 32), div-eq-of-lt (pow-pos (i % 32))) (not-eq 0 1 (λ e. omega arith))

@@ -6,7 +6,8 @@ ghost use Rattle.number.specs.Limits.{fileLimit};
 ghost use Rattle.number.specs.Scan.{scan};
 ghost use Rattle.rdb_stops.specs.Stops.{block, stopCount, noName, endsName, nameEnd, Stopped};
 
-const BLOCK: usize = 64;
+// Bytes of a block.
+pub const BLOCK: usize = 64;
 
 // Blocks of a file, and one for its end.
 pub const STOP_COUNT: usize = 16385;

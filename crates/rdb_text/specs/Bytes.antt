@@ -1,27 +1,11 @@
 -- Which bytes a text may have: US-ASCII for UNOIDL related names, UTF-8 for annotations.
 -- Assumes nothing.
-use mathlib.Core.Bool.{Bool, true, false}
-use mathlib.Core.List.{List, [], _∷_}
-use Prim.Native.Nat.{ℕ, zero, suc, _+_}
-use lib.ListN.{length}
-use Rattle.number.specs.Choice.{if_then_else_, _<?_, _=?_}
-use Rattle.utf8.specs.Utf8.{charSize}
+use mathlib.Core.Bool.{Bool}
+use mathlib.Core.List.{List}
+use Prim.Native.Nat.{ℕ}
+use Rattle.rdb_runs.specs.Bytes.{isAscii, isUtf8}
 use Rattle.rdb_text.specs.declared.Class.{Class}
 use Rattle.rdb_text.specs.declared.Class.the-variants.{Ascii, Utf8}
-
--- each byte is below 0x80
-unfoldable pub isAscii : List ℕ → Bool
-isAscii [] = true
-isAscii (b ∷ w) = if b <? 0x80 then isAscii w else false
-
--- where the characters from p on end, at most f of them
-unfoldable pub charsEnd : ℕ → List ℕ → ℕ → ℕ
-charsEnd zero w p = p
-charsEnd (suc f) w p = if charSize w p =? 0 then p else charsEnd f w (p + charSize w p)
-
--- they are characters of RFC 3629 up to their end
-unfoldable pub isUtf8 : List ℕ → Bool
-isUtf8 w = charsEnd (length w) w 0 =? length w
 
 unfoldable pub suits : Class → List ℕ → Bool
 suits Ascii w = isAscii w

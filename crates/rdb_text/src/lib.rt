@@ -1,14 +1,10 @@
-// Texts of a types.rdb: Len-Strings, Idx-Strings, and counted lists of them.
+// Texts of a types.rdb: which bytes they have. Len-Strings, Idx-Strings and counted lists of them are read by rdb_memory.
 ghost use mathlib.Core.Path.{_≡_};
-ghost use Prim.Native.Nat.{_+_, _≤_};
+ghost use Prim.Native.Nat.{_≤_};
 ghost use lib.ListN.{length};
-ghost use Rattle.number.specs.Limits.{fileLimit};
 ghost use Rattle.number.specs.Part.{part};
-ghost use Rattle.reading.specs.Got.{stepOf, many};
-ghost use Rattle.rdb_text.specs.Bytes.{isAscii, isUtf8, suits};
-ghost use Rattle.rdb_text.specs.Text.{readLen, readText, readTexts};
-use reading::Refusal;
-use reading::Step;
+ghost use Rattle.rdb_runs.specs.Bytes.{isAscii, isUtf8};
+ghost use Rattle.rdb_text.specs.Bytes.{suits};
 
 // US-ASCII for UNOIDL related names, UTF-8 for annotations.
 pub enum Class {
@@ -54,7 +50,7 @@ fn utf8_only(file: &[u8], from: usize, to: usize) -> bool
 }
 
 // Whether they are what a text of that class has.
-fn suits_class(file: &[u8], class: Class, from: usize, to: usize) -> bool
+pub fn suits_class(file: &[u8], class: Class, from: usize, to: usize) -> bool
     requires { ⌜ (from ≤ to) × (to ≤ length (now file)) ⌝ }
     ensures { λ r. ⌜ r ≡ suits class (part (now (file .entry)) from to) ⌝ }
 {
@@ -62,78 +58,4 @@ fn suits_class(file: &[u8], class: Class, from: usize, to: usize) -> bool
         Class::Ascii => ascii_only(file, from, to),
         Class::Utf8 => utf8_only(file, from, to),
     }
-}
-
-// The Len-String at `at`, named by the field at `place`.
-fn read_len(file: &[u8], class: Class, place: usize, at: usize) -> Step
-    requires { ⌜ (length (now file) ≤ fileLimit) × (at ≤ 0xffffffff) ⌝ }
-    ensures { λ r. ⌜ r ≡ stepOf (readLen class (now (file .entry)) place at) ⌝ }
-{
-    let from = at + 4;
-    if file.len() < from {
-        return Step::Refused(Refusal { no: 32, place });
-    }
-    let n = number::le32_at(file, at) as usize;
-    if 0x80000000 <= n {
-        return Step::Refused(Refusal { no: 32, place });
-    }
-    let end = from + n;
-    if file.len() < end {
-        return Step::Refused(Refusal { no: 32, place });
-    }
-    if suits_class(file, class, from, end) {
-        return Step::End(end);
-    }
-    Step::Refused(Refusal { no: 34, place })
-}
-
-// The Idx-String at `at`.
-pub fn read_text(file: &[u8], class: Class, at: usize) -> Step
-    requires { ⌜ (length (now file) ≤ fileLimit) × (at ≤ length (now file)) ⌝ }
-    ensures { λ r. ⌜ r ≡ stepOf (readText class (now (file .entry)) at) ⌝ }
-{
-    let end = at + 4;
-    if file.len() < end {
-        return Step::Refused(Refusal { no: 32, place: at });
-    }
-    let v = number::le32_at(file, at) as usize;
-    if v < 0x80000000 {
-        return read_len(file, class, at, at);
-    }
-    let r = read_len(file, class, at, v - 0x80000000);
-    let Step::End(e) = r else {
-        return r;
-    };
-    Step::End(end)
-}
-
-// n Idx-Strings.
-fn read_run(file: &[u8], class: Class, n: usize, at: usize) -> Step
-    requires { ⌜ (length (now file) ≤ fileLimit) × (at ≤ length (now file)) ⌝ }
-    ensures { λ r. ⌜ r ≡ stepOf (many (readText class (now (file .entry))) n at) ⌝ }
-{
-    let mut k: usize = 0;
-    let mut p = at;
-    while k < n {
-        let r = read_text(file, class, p);
-        let Step::End(e) = r else {
-            return r;
-        };
-        p = e;
-        k += 1;
-    }
-    Step::End(p)
-}
-
-// Their number, and that many.
-pub fn read_texts(file: &[u8], class: Class, at: usize) -> Step
-    requires { ⌜ (length (now file) ≤ fileLimit) × (at ≤ length (now file)) ⌝ }
-    ensures { λ r. ⌜ r ≡ stepOf (readTexts class (now (file .entry)) at) ⌝ }
-{
-    let from = at + 4;
-    if file.len() < from {
-        return Step::Refused(Refusal { no: 32, place: at });
-    }
-    let n = number::le32_at(file, at) as usize;
-    read_run(file, class, n, from)
 }

@@ -15,12 +15,13 @@ returns-2 : tie.Need-returns-2
 returns-2 c = (c .before .before .before .before .check-map .ensures, kept-same _ _)
 
 returns-3 : tie.Need-returns-3
-returns-3 c = (sym (c .before .before .before .before .before .r .given .1) ∙ c .before .before .before .before .before .before .before .before .before .check-map .ensures, record { still = λ m h. settled-entity _ _ _ _ m (c .before .before .mark .ensures) (known-map m _ _ _ (c .before .before .before .before .before .before .before .before .before .before .before .before .before .before .before .before .before .before .pre .5) (c .before .before .before .before .before .before .before .before .before .before .before .before .before .before .before .before .before .before .pre .6) (c .before .before .before .before .before .r .given .1) (c .before .before .before .before .before .before .before .before .before .check-map .ensures)) h })
+returns-3 c = (sym (c .before .before .before .before .before .r .given .1) ∙ c .before .before .before .before .before .before .before .before .before .check-map .ensures, record { still = λ m h. settled-entity _ _ _ _ (omega arith) m (c .before .before .mark .ensures) (known-map m _ _ _ (c .before .before .before .before .before .before .before .before .before .before .before .before .before .before .before .before .before .before .pre .5) (c .before .before .before .before .before .before .before .before .before .before .before .before .before .before .before .before .before .before .pre .6) (c .before .before .before .before .before .r .given .1) (c .before .before .before .before .before .before .before .before .before .check-map .ensures)) h })
 
 pub enter-map-spec : {M : Type 1} → statement M
 enter-map-spec =
     tie.close
     (tie.spec
+    (λ c. search needs)
     (λ c. search needs)
     (λ c. search needs)
     (λ c κs. search needs)
@@ -33,6 +34,7 @@ enter-map-spec =
     (λ c. search needs)
     (λ c. search needs)
     returns-2
+    (λ c. search needs)
     (λ c. search needs)
     (λ c κs. search needs)
     (λ c. search needs)

@@ -24,7 +24,7 @@ unfolding readFile
 returns-4 c = no-lt _ _ _ _ (omega arith) (no-lt _ _ _ _ (omega arith) (is-false _ _ _ (sym (c .before .before .before .off-magic .ensures) ∙ c .before .before .if3 .left) (is-ne _ _ _ _ (λ e. omega arith) (at-bad _ _ _))))
 
 check-root-requires : tie.Need-check-root-requires
-check-root-requires c κs = (omega arith, omega arith, search needs, search needs, settled-none _ _ 262145, search needs, c .before .before .before .before .fill-stops .ensures)
+check-root-requires c κs = (omega arith, omega arith, search needs, search needs, settled-none _ _ 163845 (omega arith), search needs, c .before .before .before .before .fill-stops .ensures)
 
 returns-5 : tie.Need-returns-5
 unfolding readFile

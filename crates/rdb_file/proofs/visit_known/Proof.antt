@@ -18,12 +18,13 @@ returns-2 : tie.Need-returns-2
 returns-2 c = (c .before .before .before .before .before .before .visit-record .ensures .0, c .before .before .before .before .before .before .visit-record .ensures .1 .still _ (c .before .before .before .before .before .before .before .before .before .before .before .before .before .before .before .before .pre .7))
 
 returns-3 : tie.Need-returns-3
-returns-3 c = (sym (c .before .before .before .before .before .r .given .1) ∙ c .before .before .before .before .before .before .before .before .before .before .before .visit-record .ensures .0, settled-entity _ _ _ _ _ (c .before .before .mark .ensures) (known-record _ _ _ _ _ (c .before .before .before .before .before .before .before .before .before .before .before .before .before .before .before .before .before .before .before .before .before .pre .5) (omega arith) (c .before .before .before .before .before .r .given .1) (c .before .before .before .before .before .before .before .before .before .before .before .visit-record .ensures .0)) (c .before .before .before .before .before .before .before .before .before .before .before .visit-record .ensures .1 .still _ (c .before .before .before .before .before .before .before .before .before .before .before .before .before .before .before .before .before .before .before .before .before .pre .7)))
+returns-3 c = (sym (c .before .before .before .before .before .r .given .1) ∙ c .before .before .before .before .before .before .before .before .before .before .before .visit-record .ensures .0, settled-entity _ _ _ _ (omega arith) _ (c .before .before .mark .ensures) (known-record _ _ _ _ _ (c .before .before .before .before .before .before .before .before .before .before .before .before .before .before .before .before .before .before .before .before .before .pre .5) (omega arith) (c .before .before .before .before .before .r .given .1) (c .before .before .before .before .before .before .before .before .before .before .before .visit-record .ensures .0)) (c .before .before .before .before .before .before .before .before .before .before .before .visit-record .ensures .1 .still _ (c .before .before .before .before .before .before .before .before .before .before .before .before .before .before .before .before .before .before .before .before .before .pre .7)))
 
 pub visit-known-spec : {M : Type 1} → statement M
 visit-known-spec =
     tie.close
     (tie.spec
+    (λ c. search needs)
     (λ c. search needs)
     (λ c κs. search needs)
     visit-again-requires
@@ -35,6 +36,7 @@ visit-known-spec =
     (λ c. search needs)
     (λ c. search needs)
     returns-2
+    (λ c. search needs)
     (λ c. search needs)
     (λ c κs. search needs)
     (λ c. search needs)

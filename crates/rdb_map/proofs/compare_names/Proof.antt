@@ -3,18 +3,18 @@
 use Rattle.number.proofs.Tools.{_∙_, needs, arith}
 use Rattle.key.proofs.Ends.{word-from}
 use Rattle.rdb_map.proofs.NameLaws.{name-starts, name-less, name-more, name-bytes}
-use Rattle.rdb_stops.proofs.StopLaws.{stopped-from}
+use Rattle.rdb_stops.proofs.StopLaws.{stops-from}
 use Rattle.rdb_map.proofs.compare_names.Statement.{statement}
 use Rattle.rdb_map.proofs.compare_names.Tie as tie
 
 name-end-requires : tie.Need-name-end-requires
-name-end-requires c κs = (omega arith, name-starts _ _ (c .before .before .pre .1), omega arith, stopped-from _ _ _ _ (c .before .before .pre .6) (omega arith))
+name-end-requires c κs = (omega arith, name-starts _ _ (c .before .before .pre .1), omega arith, stops-from _ _ _ _ _ _ (c .before .before .pre .6) (omega arith))
 
 sub-x : tie.Need-sub-x
 sub-x c = omega (arith, word-from (c .before .before .before .args .file .now) (c .before .before .before .args .a), c .name-end .ensures, c .before .before .before .pre .3)
 
 name-end-requires-2 : tie.Need-name-end-requires-2
-name-end-requires-2 c κs = (omega arith, name-starts _ _ (c .before .before .before .pre .2), omega arith, stopped-from _ _ _ _ (c .before .before .before .pre .6) (omega arith))
+name-end-requires-2 c κs = (omega arith, name-starts _ _ (c .before .before .before .pre .2), omega arith, stops-from _ _ _ _ _ _ (c .before .before .before .pre .6) (omega arith))
 
 sub-y : tie.Need-sub-y
 sub-y c = omega (arith, word-from (c .before .before .before .before .args .file .now) (c .before .before .before .before .args .b), c .name-end2 .ensures, c .before .before .before .before .pre .4)

@@ -3,7 +3,7 @@
 use Rattle.number.proofs.Tools.{needs, arith}
 use Rattle.reading.proofs.Steps.{at-bad, at-end-as, is-le, no-le, is-true, is-false}
 use Rattle.rdb_text.proofs.FieldLaws.{uint-in, uint-out}
-use Rattle.rdb_stops.proofs.StopLaws.{stopped-from}
+use Rattle.rdb_stops.proofs.StopLaws.{stops-from}
 use Rattle.rdb_map.specs.Map.{readKey}
 use Rattle.rdb_map.proofs.MapLaws.{past-end}
 use Rattle.rdb_map.proofs.NameEnds.{name-open, name-good, name-bad, name-lost}
@@ -19,7 +19,7 @@ unfolding readKey
 returns-2 c = uint-in _ _ _ _ (omega arith) (is-le _ _ _ _ (past-end (c .before .before .before .before .before .before .args .file .now) _ (rw (← c .before .before .le32-at .ensures, ← c .before .pointer .ensures) (omega arith))) (at-bad _ _ _))
 
 name-end-requires : tie.Need-name-end-requires
-name-end-requires c κs = (omega arith, omega arith, omega arith, stopped-from _ _ _ _ (c .before .before .before .before .before .before .pre .3) (omega arith))
+name-end-requires c κs = (omega arith, omega arith, omega arith, stops-from _ _ _ _ _ _ (c .before .before .before .before .before .before .pre .3) (omega arith))
 
 returns-3 : tie.Need-returns-3
 unfolding readKey

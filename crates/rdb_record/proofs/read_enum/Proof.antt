@@ -1,7 +1,7 @@
 -- `rdb_record::read_enum` meets its contract.
 -- Assumes nothing.
-use Rattle.number.proofs.Tools.{needs, arith, sym, _∙_}
-use Rattle.reading.proofs.Steps.{next-end, next-refused, next-last}
+use Rattle.number.proofs.Tools.{needs, arith}
+use Rattle.rdb_memory.proofs.JudgeLaws.{judged-end, judged-refused, judged-last}
 use Rattle.rdb_record.specs.Enum.{readEnum}
 use Rattle.rdb_record.proofs.EndLaws.{inside-end, members-inside}
 use Rattle.rdb_record.proofs.read_enum.Statement.{statement}
@@ -15,6 +15,8 @@ read-enum-spec =
     (λ c κs. search needs)
     (λ c. search needs)
     (λ c. search needs)
-    (λ c. next-refused _ _ (c .enum-told .given .1) (c .before .before .all-members .ensures))
-    (λ c κs. (omega arith, inside-end _ _ (members-inside _ _ _) (c .before .a .given .1) (c .before .before .before .all-members .ensures)))
-    (λ c. next-end _ _ (sym (c .before .before .a .given .1) ∙ c .before .before .before .before .all-members .ensures) (λ x1 h1. next-last _ _ (c .read-notes .ensures))))
+    (λ c. search needs)
+    (λ c. judged-refused _ _ (c .before .before .before .before .all-members .ensures) (c .enum-told .given .1))
+    (λ c κs. (c .before .before .before .before .before .before .before .before .before .before .pre .0, inside-end _ _ (members-inside _ _ _) (c .before .before .a .given .1) (c .before .before .before .before .before .before .all-members .ensures .step), (c .before .before .before .before .before .before .all-members .ensures .memory .kept)))
+    (λ c. search needs)
+    (λ c. judged-end _ _ (c .before .before .before .before .before .before .before .before .before .all-members .ensures) (c .before .before .before .before .before .a .given .1) (λ x1 h1. judged-last _ _ (c .before .before .read-notes .ensures))))

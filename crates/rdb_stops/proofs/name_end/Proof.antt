@@ -11,10 +11,12 @@ unfolding nameEnd
 returns c = c .stop-below .ensures
 
 returns-2 : tie.Need-returns-2
-returns-2 c = stop-here _ _ _ (omega arith) (omega arith) (c .before .stop-below2 .ensures) (omega arith)
+unfolding nameEnd
+returns-2 c = stop-here _ _ _ _ (omega arith) (omega arith) (c .before .stop-below2 .ensures) (omega arith)
 
 returns-3 : tie.Need-returns-3
-returns-3 c = c .pointer .ensures ∙ c .before .before .before .before .before .before .before .pre .3 .held _ (omega arith) (omega arith) ∙ stop-later _ _ _ (omega arith) (omega arith) (c .before .before .before .stop-below2 .ensures) (omega arith)
+unfolding nameEnd
+returns-3 c = c .pointer .ensures ∙ c .before .before .before .before .before .before .before .pre .3 .held _ _ (omega arith) (omega arith) (omega arith) ∙ stop-later _ _ _ _ (omega arith) (omega arith) (c .before .before .before .stop-below2 .ensures) (omega arith)
 
 pub name-end-spec : {M : Type 1} → statement M
 name-end-spec =

@@ -2,8 +2,8 @@
 -- Assumes nothing.
 use Rattle.number.specs.Part.{part}
 use Rattle.number.proofs.Tools.{needs, arith, refl, sym, _∙_, _≡_, _≤_, _-_}
-use Rattle.rdb_text.specs.Bytes.{isAscii}
-use Rattle.rdb_text.proofs.ByteLaws.{ascii-done, ascii-more, ascii-off}
+use Rattle.rdb_runs.specs.Bytes.{isAscii}
+use Rattle.rdb_runs.proofs.ByteLaws.{ascii-done, ascii-more, ascii-off}
 use Rattle.rdb_text.proofs.ascii_only.Statement.{statement}
 use Rattle.rdb_text.proofs.ascii_only.Tie as tie
 

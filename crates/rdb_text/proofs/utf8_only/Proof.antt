@@ -2,7 +2,7 @@
 -- Assumes nothing.
 use Rattle.number.proofs.Tools.{ℕ, _≡_, arith, needs, refl, sym, _∙_, take, _-_, _≤_}
 use Rattle.utf8.specs.Utf8.{Chars}
-use Rattle.rdb_text.proofs.ByteLaws.{runs-in, runs-stop, runs-more}
+use Rattle.rdb_text.proofs.CharLaws.{runs-in, runs-stop, runs-more}
 use Rattle.rdb_text.proofs.utf8_only.Statement.{statement}
 use Rattle.rdb_text.proofs.utf8_only.Tie as tie
 
