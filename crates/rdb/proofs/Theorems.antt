@@ -8,9 +8,8 @@ use mathlib.Core.Option.{some}
 use Prim.Native.Nat.{ℕ, zero, suc, _+_, _*_, _≤_, _<_}
 use native.Mathlib.Omega.{arith}
 use lib.ListN.{length, getD}
-use Rattle.number.specs.Bits.{bit}
 use Rattle.number.specs.Choice.{if_then_else_, _<?_, _≤?_, _=?_}
-use Rattle.number.proofs.Choice.{both, is-eq, no-eq, from-yes-eq, from-not-eq}
+use Rattle.number.proofs.Choice.{both, is-eq, from-yes-eq, from-not-eq}
 use Rattle.number.proofs.Scans.{clash}
 use Rattle.reading.specs.Got.{Got, got, bad, next, Accepted}
 use Rattle.reading.proofs.Steps.{parts}
@@ -26,7 +25,8 @@ use Rattle.rdb_record.specs.Notes.{readNotes}
 use Rattle.rdb_record.specs.Enum.{readEnum}
 use Rattle.rdb_interface.specs.declared.SetCount.{SetCount}
 use Rattle.rdb_interface.specs.declared.SetCount.the-variants.{Always, UnlessReadOnly}
-use Rattle.rdb_interface.specs.Interface.{attribute, readSets, readAttribute, readInterface}
+use Rattle.rdb_interface.specs.Interface.{attribute, hasSets, readSets, readAttribute, readInterface}
+use Rattle.rdb_interface.proofs.SetLaws.{where-sets}
 use Rattle.rdb_file.specs.Visit.{Sound, moduleLimit, alone, visitRecord, visitWith, visitEntity}
 use Rattle.rdb_file.specs.Kind.{moduleKind, enumKind, interfaceKind, isAnnotated, kindOf, isReserved}
 use Rattle.rdb_file.specs.File.{rootAt, rootCount, readRoot, readFile}
@@ -68,9 +68,9 @@ module _ (s : List ℕ) (hold v n at : ℕ) {es : List Entry} {e : ℕ} (h : rea
 
 -- ---- the two readings are the same where no attribute is read-only
 
-pub same-sets : (k : ℕ) (s : List ℕ) (p : ℕ) → (bit 0x02 k ≡ 1 → ⊥) → readSets Always k s p ≡ readSets UnlessReadOnly k s p
+pub same-sets : (k : ℕ) (s : List ℕ) (p : ℕ) → hasSets UnlessReadOnly k ≡ true → readSets Always k s p ≡ readSets UnlessReadOnly k s p
 unfolding readSets
-same-sets k s p f = no-eq _ _ _ _ f refl
+same-sets k s p f = where-sets k _ _ UnlessReadOnly f refl
 
 stop-same : {X Y : Type 0} (f g : X → ℕ → Got Y) (n q : ℕ) → next (bad n q) f ≡ next (bad n q) g
 unfolding next
@@ -92,7 +92,7 @@ next-byte {Y} s p f g h =
     gone : next (got (getD s p 0) (p + 1)) f ≡ next (got (getD s p 0) (p + 1)) g
     gone = go-same f g (getD s p 0) (p + 1) h
 
-pub same-attribute : (a : Bool) (s : List ℕ) (p : ℕ) → (bit 0x02 (getD s p 0) ≡ 1 → ⊥) → readAttribute Always a s p ≡ readAttribute UnlessReadOnly a s p
+pub same-attribute : (a : Bool) (s : List ℕ) (p : ℕ) → hasSets UnlessReadOnly (getD s p 0) ≡ true → readAttribute Always a s p ≡ readAttribute UnlessReadOnly a s p
 unfolding readAttribute
 same-attribute a s p f =
     next-byte s p _ _ (λ i.

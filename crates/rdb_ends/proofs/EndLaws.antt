@@ -2,14 +2,13 @@
 -- Assumes nothing.
 use mathlib.Core.Path.{_≡_, refl, sym, ap, _∙_, subst}
 use mathlib.Core.Bool.{Bool, true, false}
-use mathlib.Core.List.{List}
+use mathlib.Core.List.{List, []}
 use Prim.Native.Nat.{ℕ, zero, suc, _+_, _-_, _≤_, _<_}
 use native.Mathlib.Omega.{arith}
 use lib.ListN.{length, getD}
-use Rattle.number.specs.Choice.{if_then_else_, _=?_}
-use Rattle.number.specs.Bits.{bit}
+use Rattle.number.specs.Choice.{if_then_else_}
 use Rattle.number.specs.Number.{le}
-use Rattle.number.proofs.Choice.{is-lt, no-lt, is-eq, no-eq, from-yes-lt, from-not-lt, from-yes-eq, from-not-eq, both}
+use Rattle.number.proofs.Choice.{is-lt, no-lt, from-yes-lt, from-not-lt}
 use Rattle.reading.specs.Got.{Got, got, next, many, Accepted}
 use Rattle.reading.proofs.Steps.{parts, passed, many-open}
 use Rattle.reading.proofs.Facts.{Facts, fact, f-if, f-unless, f-bad, f-got, f-next, f-self, f-read}
@@ -23,8 +22,8 @@ use Rattle.rdb_text.proofs.FieldLaws.{f-byte, f-named, f-uint}
 use Rattle.rdb_record.specs.Notes.{readNotes}
 use Rattle.rdb_record.specs.Enum.{Member, member, readMember}
 use Rattle.rdb_interface.specs.declared.SetCount.{SetCount}
-use Rattle.rdb_interface.specs.declared.SetCount.the-variants.{Always, UnlessReadOnly}
-use Rattle.rdb_interface.specs.Interface.{Base, base, Attribute, attribute, Parameter, parameter, Method, method, readBase, readSets, readAttribute, readParameter, readMethod}
+use Rattle.rdb_interface.specs.Interface.{Base, base, Attribute, attribute, Parameter, parameter, Method, method, whereSets, hasSets, readBase, readSets, readAttribute, readParameter, readMethod}
+use Rattle.rdb_interface.proofs.SetLaws.{where-sets, where-none}
 use Rattle.rdb_ends.specs.declared.Item.{Item}
 use Rattle.rdb_ends.specs.declared.Item.the-variants as item
 use Rattle.rdb_ends.specs.Ends.{after, countedEnd, textOf, textEnd, textsEnd, notesEnd, memberNotes, memberEnd, baseEnd, attributeGets, attributeSets, setsEnd, attributeNotes, attributeEnd, parameterEnd, methodParameters, methodExceptions, methodNotes, methodEnd, itemEnd}
@@ -255,28 +254,17 @@ module _ (a : Bool) (s : List ℕ) (p : ℕ) where
 -- ---- an attribute
 
 module _ (s : List ℕ) where
-  pub sets-list : (m : SetCount) (k p : ℕ) → m ≡ Always → Accepted (readSets m k s p) → ListHere s p
+  pub sets-list : (m : SetCount) (k p : ℕ) → hasSets m k ≡ true → Accepted (readSets m k s p) → ListHere s p
   unfolding readSets
-  sets-list Always k p e h = record { class = Ascii; read = h }
-  sets-list UnlessReadOnly k p e h = absurd (let z : _≡_ {A = ℕ} 0 1 = cc in omega arith)
-
-  pub sets-listed : (m : SetCount) (k p : ℕ) → m ≡ UnlessReadOnly → (bit 0x02 k ≡ 1 → ⊥) → Accepted (readSets m k s p) → ListHere s p
-  unfolding readSets
-  sets-listed Always k p e f h = record { class = Ascii; read = h }
-  sets-listed UnlessReadOnly k p e f h = let q : readSets UnlessReadOnly k s p ≡ readTexts Ascii s p = sym (no-eq _ _ _ _ f refl) in record { class = Ascii; read = (h .0, h .1, sym q ∙ h .2) }
+  sets-list m k p t h = record { class = Ascii; read = (h .0, h .1, where-sets k (readTexts Ascii s p) _ m t refl ∙ h .2) }
 
   pub sets-ends : (m : SetCount) (k p : ℕ) (ts : List Text) (e : ℕ) → readSets m k s p ≡ got ts e → e ≡ setsEnd m k s p
   unfolding readSets setsEnd
-  sets-ends Always k p ts e h = texts-ends Ascii s p ts e h
-  sets-ends UnlessReadOnly k p ts e h =
-      both
-      (λ (r : Got (List Text)). r ≡ got ts e → e ≡ setsEnd UnlessReadOnly k s p)
-      (bit 0x02 k =? 1)
-      _
-      _
-      (λ t g. is-eq _ _ _ _ (from-yes-eq _ _ t) (cc))
-      (λ t g. no-eq _ _ _ _ (from-not-eq _ _ t) (texts-ends Ascii s p ts e g))
-      h
+  sets-ends m k p ts e h = go (hasSets m k) refl
+    where
+      go : (t : Bool) → hasSets m k ≡ t → e ≡ whereSets m k (textsEnd s p) p
+      go true t = where-sets k _ _ m t (texts-ends Ascii s p ts e (where-sets k (readTexts Ascii s p) _ m t refl ∙ h))
+      go false t = let q : got [] p ≡ got ts e = where-none k (readTexts Ascii s p) (got [] p) m t refl ∙ h in where-none k _ _ m t (cc)
 
 module _ (m : SetCount) (a : Bool) (s : List ℕ) (p : ℕ) where
   pub record AttributeIs (x : Attribute) (e : ℕ) : Type 0 where

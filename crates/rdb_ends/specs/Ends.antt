@@ -4,12 +4,11 @@ use mathlib.Core.Bool.{Bool}
 use mathlib.Core.List.{List}
 use Prim.Native.Nat.{ℕ, zero, suc, _+_, _-_}
 use lib.ListN.{getD}
-use Rattle.number.specs.Bits.{bit}
-use Rattle.number.specs.Choice.{if_then_else_, _<?_, _=?_}
+use Rattle.number.specs.Choice.{if_then_else_, _<?_}
 use Rattle.number.specs.Number.{le}
 use Rattle.rdb_text.specs.declared.Text.{Text}
 use Rattle.rdb_interface.specs.declared.SetCount.{SetCount}
-use Rattle.rdb_interface.specs.declared.SetCount.the-variants.{Always, UnlessReadOnly}
+use Rattle.rdb_interface.specs.Interface.{whereSets}
 use Rattle.rdb_ends.specs.declared.Item.{Item}
 use Rattle.rdb_ends.specs.declared.Item.the-variants.{Member, Base, Attribute, Method}
 
@@ -59,8 +58,7 @@ unfoldable pub attributeSets : List ℕ → ℕ → ℕ
 attributeSets s p = textsEnd s (attributeGets s p)
 
 unfoldable pub setsEnd : SetCount → ℕ → List ℕ → ℕ → ℕ
-setsEnd Always k s p = textsEnd s p
-setsEnd UnlessReadOnly k s p = if bit 0x02 k =? 1 then p else textsEnd s p
+setsEnd m k s p = whereSets m k (textsEnd s p) p
 
 unfoldable pub attributeNotes : SetCount → List ℕ → ℕ → ℕ
 attributeNotes m s p = setsEnd m (getD s p 0) s (attributeSets s p)

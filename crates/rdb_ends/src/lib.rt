@@ -8,7 +8,7 @@ ghost use Rattle.reading.specs.Got.{many, Accepted};
 ghost use Rattle.rdb_text.specs.Field.{counted};
 ghost use Rattle.rdb_record.specs.Notes.{readNotes};
 ghost use Rattle.rdb_record.specs.Enum.{readMember};
-ghost use Rattle.rdb_interface.specs.Interface.{readBase, readSets, readAttribute, readParameter, readMethod};
+ghost use Rattle.rdb_interface.specs.Interface.{hasSets, readBase, readSets, readAttribute, readParameter, readMethod};
 ghost use Rattle.rdb_ends.specs.Ends.{after, textOf, textEnd, textsEnd, notesEnd, memberNotes, memberEnd, baseEnd, attributeGets, attributeSets, setsEnd, attributeNotes, attributeEnd, parameterEnd, methodParameters, methodExceptions, methodNotes, methodEnd, itemEnd, itemsEnd};
 ghost use Rattle.rdb_ends.specs.Here.{TextHere, RunHere, ListHere, MemberHere, AttributeHere, MethodHere, readItem};
 use rdb_interface::SetCount;
@@ -132,18 +132,28 @@ pub fn attribute_sets(file: &[u8], at: usize) -> usize
     texts_end(file, p)
 }
 
+// Whether an attribute with that kind byte has a number of set exceptions.
+pub fn has_sets(m: SetCount, kind: u8) -> bool
+    ensures { λ r. ⌜ r ≡ hasSets m kind ⌝ }
+{
+    let SetCount::UnlessReadOnly = m else {
+        return true;
+    };
+    if kind / 2 % 2 == 1 {
+        return false;
+    }
+    true
+}
+
 // Where the set exceptions of an attribute with that kind byte end.
 fn sets_end(file: &[u8], m: SetCount, kind: u8, at: usize) -> usize
     requires { ⌜ (length (now file) ≤ fileLimit) × Accepted (readSets m kind (now file) at) ⌝ }
     ensures { λ r. ⌜ r ≡ setsEnd m kind (now (file .entry)) at ⌝ }
 {
-    let SetCount::UnlessReadOnly = m else {
+    if has_sets(m, kind) {
         return texts_end(file, at);
-    };
-    if kind / 2 % 2 == 1 {
-        return at;
     }
-    texts_end(file, at)
+    at
 }
 
 // Its annotations.

@@ -6,10 +6,9 @@ use mathlib.Core.List.{List, []}
 use Prim.Native.Nat.{ℕ, _+_, _%_, _≤_, _<_}
 use native.Mathlib.Omega.{arith}
 use lib.ListN.{length, getD}
-use Rattle.number.specs.Bits.{bit}
-use Rattle.number.specs.Choice.{if_then_else_, _≤?_, _=?_}
+use Rattle.number.specs.Choice.{if_then_else_, _≤?_}
 use Rattle.number.specs.Number.{le}
-use Rattle.number.proofs.Choice.{is-lt, no-lt, is-eq, no-eq, from-yes-eq, from-not-eq, yes-le, not-le, both}
+use Rattle.number.proofs.Choice.{is-lt, no-lt, yes-le, not-le}
 use Rattle.reading.specs.Got.{Got, got, Accepted}
 use Rattle.reading.proofs.Facts.{Facts, fact, f-unless, f-got, f-next, f-read}
 use Rattle.rdb_text.specs.declared.Class.the-variants.{Ascii, Utf8}
@@ -22,8 +21,8 @@ use Rattle.rdb_record.specs.Notes.{readNotes}
 use Rattle.rdb_record.specs.Enum.{Member, readMember}
 use Rattle.rdb_record.specs.Constant.{Constant, valueSize, readStored, readConstant}
 use Rattle.rdb_interface.specs.declared.SetCount.{SetCount}
-use Rattle.rdb_interface.specs.declared.SetCount.the-variants.{Always, UnlessReadOnly}
-use Rattle.rdb_interface.specs.Interface.{Base, Attribute, Parameter, Method, readBase, readSets, readAttribute, readParameter, readMethod}
+use Rattle.rdb_interface.specs.Interface.{Base, Attribute, Parameter, Method, whereSets, hasSets, readBase, readSets, readAttribute, readParameter, readMethod}
+use Rattle.rdb_interface.proofs.SetLaws.{where-sets, where-none}
 use Rattle.rdb_file.specs.Visit.{mapPlace}
 use Rattle.rdb_path.specs.declared.Place.{Place}
 use Rattle.rdb_path.specs.declared.Place.the-variants.{At, Nowhere}
@@ -56,16 +55,11 @@ module _ (s : List ℕ) (at j : ℕ) where
 
   pub set-text : (m : SetCount) (k : ℕ) {ts : List Text} {e : ℕ} → readSets m k s at ≡ got ts e → setText m k s at j ≡ textAt j ts
   unfolding readSets setText
-  set-text Always k h = list-text s Ascii at j h
-  set-text UnlessReadOnly k {ts} {e} h =
-      both
-      (λ (r : Got (List Text)). r ≡ got ts e → setText UnlessReadOnly k s at j ≡ textAt j ts)
-      (bit 0x02 k =? 1)
-      _
-      _
-      (λ t g. sym (is-eq _ _ _ _ (from-yes-eq _ _ t) (sym (none-said (cc)))))
-      (λ t g. sym (no-eq _ _ _ _ (from-not-eq _ _ t) (sym (list-text s Ascii at j g))))
-      h
+  set-text m k {ts} {e} h = go (hasSets m k) refl
+    where
+      go : (t : Bool) → hasSets m k ≡ t → whereSets m k (listText s at j) answer.None ≡ textAt j ts
+      go true t = sym (where-sets k _ _ m t (sym (list-text s Ascii at j (where-sets k (readTexts Ascii s at) _ m t refl ∙ h))))
+      go false t = let q : got [] at ≡ got ts e = where-none k (readTexts Ascii s at) (got [] at) m t refl ∙ h in sym (where-none k _ _ m t (sym (none-said (cc))))
 
 -- ---- parameters
 

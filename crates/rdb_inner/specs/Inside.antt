@@ -3,10 +3,9 @@
 use mathlib.Core.Bool.{Bool}
 use mathlib.Core.List.{List}
 use Prim.Native.Nat.{ℕ}
-use Rattle.number.specs.Bits.{bit}
-use Rattle.number.specs.Choice.{if_then_else_, _=?_}
+use Rattle.number.specs.Choice.{if_then_else_}
 use Rattle.rdb_interface.specs.declared.SetCount.{SetCount}
-use Rattle.rdb_interface.specs.declared.SetCount.the-variants.{Always, UnlessReadOnly}
+use Rattle.rdb_interface.specs.Interface.{whereSets}
 use Rattle.rdb_path.specs.declared.Place.{Place}
 use Rattle.rdb_path.specs.declared.Place.the-variants.{At, Nowhere}
 use Rattle.rdb_ends.specs.Ends.{parameterEnd}
@@ -21,8 +20,7 @@ noteText a s at j = if a then listText s at j else answer.None
 
 -- set exception j of an attribute with the kind byte k
 unfoldable pub setText : SetCount → ℕ → List ℕ → ℕ → ℕ → PartAnswer
-setText Always k s at j = listText s at j
-setText UnlessReadOnly k s at j = if bit 0x02 k =? 1 then answer.None else listText s at j
+setText m k s at j = whereSets m k (listText s at j) answer.None
 
 unfoldable pub typedIn : List ℕ → Place → PartAnswer
 typedIn s (At p) = typedAt s p

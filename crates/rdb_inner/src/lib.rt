@@ -38,13 +38,10 @@ fn set_part(file: &[u8], m: SetCount, kind: u8, at: usize, j: usize) -> PartAnsw
     requires { ⌜ (length (now file) ≤ fileLimit) × Accepted (readSets m kind (now file) at) ⌝ }
     ensures { λ r. ⌜ r ≡ setText m kind (now (file .entry)) at j ⌝ }
 {
-    let SetCount::UnlessReadOnly = m else {
+    if rdb_ends::has_sets(m, kind) {
         return rdb_parts::list_part(file, at, j);
-    };
-    if kind / 2 % 2 == 1 {
-        return PartAnswer::None;
     }
-    rdb_parts::list_part(file, at, j)
+    PartAnswer::None
 }
 
 // Parameter j of those counted at `at`.

@@ -1,6 +1,6 @@
 -- Document 001, kind 5: interface type.
 -- Assumes nothing.
-use mathlib.Core.Bool.{Bool}
+use mathlib.Core.Bool.{Bool, true, false}
 use mathlib.Core.List.{List, []}
 use Prim.Native.Nat.{ℕ}
 use Rattle.number.specs.Bits.{bit}
@@ -29,9 +29,16 @@ pub data Attribute : Type 0 where
   attribute : ℕ → Text → Text → List Text → List Text → List Text → Attribute
 
 -- Document 001 gives every attribute a number of set exceptions; the files that office suites write leave it out where bit 0x02, read-only, is set.
+-- x where an attribute with the kind byte k has that number, y where it is left out
+abbrev pub whereSets : {X : Type 0} → SetCount → ℕ → X → X → X
+whereSets Always k x y = x
+whereSets UnlessReadOnly k x y = if bit 0x02 k =? 1 then y else x
+
+unfoldable pub hasSets : SetCount → ℕ → Bool
+hasSets m k = whereSets m k true false
+
 unfoldable pub readSets : SetCount → ℕ → List ℕ → ℕ → Got (List Text)
-readSets Always k s p = readTexts Ascii s p
-readSets UnlessReadOnly k s p = if bit 0x02 k =? 1 then got [] p else readTexts Ascii s p
+readSets m k s p = whereSets m k (readTexts Ascii s p) (got [] p)
 
 -- kind byte: 0x02 read-only, 0x01 bound; other bits are reserved
 unfoldable pub readAttribute : SetCount → Bool → List ℕ → ℕ → Got Attribute

@@ -116,6 +116,10 @@ module _ (s : List ℕ) (at hold v p : ℕ) where
 pub named-none : (s : List ℕ) (at : ℕ) → Named s at 0
 named-none s at = record { field = λ j l. absurd (omega arith); ended = λ j l. absurd (omega arith); plain = λ j l. absurd (omega arith) }
 
+-- fewer of them
+pub named-less : (s : List ℕ) (at n k : ℕ) → k ≤ n → Named s at n → Named s at k
+named-less s at n k h m = record { field = λ j l. m .field j (omega arith); ended = λ j l. m .ended j (omega arith); plain = λ j l. m .plain j (omega arith) }
+
 -- with the name of one more
 pub named-key : (s : List ℕ) (at k : ℕ) {r : Step} {e : ℕ} → Named s at k → r ≡ End e → r ≡ stepOf (readKey s (entryPlace at k)) → Named s at (k + 1)
 named-key s at k m q h =

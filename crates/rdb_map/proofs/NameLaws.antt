@@ -49,7 +49,7 @@ module _ (s : List ℕ) (at : ℕ) where
   unfolding nameIn nameKey keyAt
   same-name i j e = (λ k. key (length (e k) ∷ []) (e k))
 
-  name-same : (i j : ℕ) → nameIn s at i ≡ nameIn s at j → keyAt s (entryPlace at i) ≡ keyAt s (entryPlace at j)
+  pub name-same : (i j : ℕ) → nameIn s at i ≡ nameIn s at j → keyAt s (entryPlace at i) ≡ keyAt s (entryPlace at j)
   unfolding nameIn nameKey keyAt keyName
   name-same i j e = ap keyName e
 
@@ -58,7 +58,7 @@ module _ (s : List ℕ) (at : ℕ) where
     unfolding hasKeyOf
     is-key e = same-word _ _ e
 
-    no-key : (keyAt s (entryPlace at j) ≡ keyAt s (entryPlace at k) → ⊥) → hasKeyOf s at (entryPlace at k) j ≡ false
+    pub no-key : (keyAt s (entryPlace at j) ≡ keyAt s (entryPlace at k) → ⊥) → hasKeyOf s at (entryPlace at k) j ≡ false
     unfolding hasKeyOf
     no-key f = other-word _ _ f
 

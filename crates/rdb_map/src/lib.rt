@@ -1,16 +1,18 @@
 // Maps of a types.rdb: entries, each with the offset of its key and that of its payload.
 ghost use mathlib.Core.Path.{_≡_};
-ghost use Prim.Native.Nat.{_+_, _*_, _≤_, _<_};
+ghost use Prim.Native.Nat.{_+_, _-_, _*_, _≤_, _<_};
 ghost use lib.ListN.{length};
 ghost use Rattle.number.specs.Limits.{fileLimit};
 ghost use Rattle.number.specs.Number.{le};
-ghost use Rattle.reading.specs.Got.{stepOf};
-ghost use Rattle.key.specs.Word.{wordEnd};
+ghost use Rattle.reading.specs.Got.{stepOf, many};
+ghost use mathlib.Core.Bool.{true};
+ghost use Rattle.key.specs.Word.{wordEnd, wordAt, compareWords};
+ghost use Rattle.key.specs.declared.Order.the-variants.{Before};
 ghost use Rattle.key.specs.Key.{compareKeys};
 ghost use Rattle.sorting.specs.Table.{Sorted, Slot, heldAt};
 ghost use Rattle.rdb_stops.specs.Stops.{stopCount, nameEnd, Stopped};
-ghost use Rattle.rdb_map.specs.Map.{visitLimit, entryPlace, readKey, readPayload, readMap};
-ghost use Rattle.rdb_map.specs.Named.{Named, EntryChecked};
+ghost use Rattle.rdb_map.specs.Map.{visitLimit, entryPlace, readKey, readPayload, readEntry, readMap};
+ghost use Rattle.rdb_map.specs.Named.{Named, Rising, EntryChecked, RiseChecked};
 ghost use Rattle.rdb_map.specs.Table.{nameKey, nameIn};
 use key::Order;
 use reading::Refusal;
@@ -85,14 +87,20 @@ fn compare_names(file: &[u8], stops: &[u32], a: usize, b: usize) -> Order
     key::compare_words(file, a, file, b)
 }
 
+// Where the name of entry i of the map at `at` stands.
+fn name_of(file: &[u8], at: usize, i: usize) -> usize
+    requires { ⌜ (length (now file) ≤ fileLimit) × (entryPlace at i + 4 ≤ length (now file)) ⌝ }
+    ensures { λ r. ⌜ r ≡ le 4 (now (file .entry)) (entryPlace at i) ⌝ }
+{
+    pointer(number::le32_at(file, at + ENTRY_BYTES * i))
+}
+
 // The same of entries i and j of the map at `at`.
 fn compare_entries(file: &[u8], stops: &[u32], at: usize, i: usize, j: usize) -> Order
     requires { ⌜ (length (now file) ≤ fileLimit) × Named (now file) at (j + 1) × (i < j) × (stopCount ≤ length (now stops)) × Stopped (now file) (now stops) 0 ⌝ }
     ensures { λ r. ⌜ r ≡ compareKeys (nameIn (now (file .entry)) at i) (nameIn (now (file .entry)) at j) ⌝ }
 {
-    let a = pointer(number::le32_at(file, at + ENTRY_BYTES * i));
-    let b = pointer(number::le32_at(file, at + ENTRY_BYTES * j));
-    compare_names(file, stops, a, b)
+    compare_names(file, stops, name_of(file, at, i), name_of(file, at, j))
 }
 
 fn index(x: u16) -> usize
@@ -155,6 +163,68 @@ fn read_payload(file: &[u8], hold: usize, at: usize) -> Step
     Step::End(end)
 }
 
+// Bytes of a name that are compared with its neighbour's, at most.
+const NEIGHBOUR_BYTES: usize = 64;
+
+// Whether the name at a is seen to come before that at b by their first bytes.
+fn comes_before(file: &[u8], a: usize, b: usize) -> bool
+    requires { ⌜ (length (now file) ≤ fileLimit) × (wordEnd (now file) a < length (now file)) × (wordEnd (now file) b < length (now file)) ⌝ }
+    ensures { λ r. ⌜ (r ≡ true → compareWords (wordAt (now (file .entry)) a) (wordAt (now (file .entry)) b) ≡ Before) ⌝ }
+{
+    let mut i = a;
+    let mut j = b;
+    while i < a + NEIGHBOUR_BYTES {
+        if file[i] < file[j] {
+            return true;
+        }
+        if file[j] < file[i] {
+            return false;
+        }
+        if file[i] == 0 {
+            return false;
+        }
+        i += 1;
+        j += 1;
+    }
+    false
+}
+
+// Whether the names of the first k + 1 entries of the map at `at` are seen to rise, where those of the first k do.
+fn rises(file: &[u8], at: usize, k: usize) -> bool
+    requires { ⌜ (length (now file) ≤ fileLimit) × Named (now file) at (k + 1) × Rising (now file) at k ⌝ }
+    ensures { λ r. ⌜ (r ≡ true → Rising (now (file .entry)) at (k + 1)) ⌝ }
+{
+    if k == 0 {
+        return true;
+    }
+    comes_before(file, name_of(file, at, k - 1), name_of(file, at, k))
+}
+
+// What is said of an entry after names that rise: how it is read, or that its name is not seen to rise.
+enum Rise {
+    Read(Step),
+    Falls,
+}
+
+// Entry k of the map at `at`, where v entries were visited before this map, and the names of the k before it rise.
+fn check_rising(file: &[u8], stops: &[u32], at: usize, hold: usize, v: usize, k: usize) -> Rise
+    requires { ⌜ (length (now file) ≤ fileLimit) × (v ≤ visitLimit) × (entryPlace at k ≤ length (now file)) × Named (now file) at k × Rising (now file) at k × (stopCount ≤ length (now stops)) × Stopped (now file) (now stops) 0 ⌝ }
+    ensures { λ r. ⌜ RiseChecked (now (file .entry)) at hold v k r ⌝ }
+{
+    let p = at + ENTRY_BYTES * k;
+    if VISIT_LIMIT <= v + k {
+        return Rise::Read(Step::Refused(Refusal { no: 37, place: p }));
+    }
+    let name = read_key(file, stops, p);
+    let Step::End(e) = name else {
+        return Rise::Read(name);
+    };
+    if rises(file, at, k) {
+        return Rise::Read(read_payload(file, hold, e));
+    }
+    Rise::Falls
+}
+
 // Entry k of the map at `at`, where v entries were visited before this map, and t has the k entries before it in order.
 fn check_entry(
     file: &[u8],
@@ -184,6 +254,45 @@ fn check_entry(
     read_payload(file, hold, e)
 }
 
+// The first k entries of the map at `at`, whose names rise, into the table t.
+fn enter_all(file: &[u8], stops: &[u32], t: &mut [u16], at: usize, k: usize)
+    requires { ⌜ (length (now file) ≤ fileLimit) × (k ≤ visitLimit) × (visitLimit ≤ length (now t)) × Named (now file) at k × Rising (now file) at k × (stopCount ≤ length (now stops)) × Stopped (now file) (now stops) 0 ⌝ }
+    ensures { λ _. ⌜ Sorted (nameIn (now (file .entry)) at) (now (t .exit)) k k ⌝ }
+{
+    let mut i: usize = 0;
+    while i < k {
+        let slot = slot_of(file, stops, at, t, i);
+        sorting::insert_at(t, i, slot, i as u16);
+        i += 1;
+    }
+}
+
+// The entries from `from` on of the n of the map at `at`, by the table t; the names of those before rise.
+fn check_rest(
+    file: &[u8],
+    stops: &[u32],
+    t: &mut [u16],
+    hold: usize,
+    v: usize,
+    n: usize,
+    at: usize,
+    from: usize,
+) -> Step
+    requires { ⌜ (length (now file) ≤ fileLimit) × (v ≤ visitLimit) × (from ≤ visitLimit) × (entryPlace at from ≤ length (now file)) × (visitLimit ≤ length (now t)) × Named (now file) at from × Rising (now file) at from × (stopCount ≤ length (now stops)) × Stopped (now file) (now stops) 0 ⌝ }
+    ensures { λ r. ⌜ r ≡ stepOf (many (readEntry (now (file .entry)) at hold v) (n - from) (entryPlace at from)) ⌝ }
+{
+    enter_all(file, stops, t, at, from);
+    let mut k = from;
+    while k < n {
+        let r = check_entry(file, stops, t, at, hold, v, k);
+        let Step::End(e) = r else {
+            return r;
+        };
+        k += 1;
+    }
+    Step::End(at + ENTRY_BYTES * k)
+}
+
 // The n entries of the map at `at`, which is held by what stands at `hold`. What t holds before does not matter, and afterwards it may hold anything.
 pub fn check_map(
     file: &[u8],
@@ -199,7 +308,10 @@ pub fn check_map(
 {
     let mut k: usize = 0;
     while k < n {
-        let r = check_entry(file, stops, t, at, hold, v, k);
+        let w = check_rising(file, stops, at, hold, v, k);
+        let Rise::Read(r) = w else {
+            return check_rest(file, stops, t, hold, v, n, at, k);
+        };
         let Step::End(e) = r else {
             return r;
         };

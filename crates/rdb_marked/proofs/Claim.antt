@@ -28,9 +28,9 @@ use Rattle.rdb_path.specs.Path.{onto, cut, front, last, isCalled, payloadAt, pa
 use Rattle.rdb.specs.Questions.{entityFound, constantSaid, constantFound, askEntity, askConstant}
 use Rattle.rdb_places.specs.Lists.{enumMembers, enumNotes, interfaceBases, interfaceOptionals, interfaceAttributes, interfaceMethods, interfaceNotes, listed, enumAt, interfaceAt, groupNotesAt, membersOf, interfaceList, notesOf, constantCount, entryCount}
 use Rattle.rdb_parts.specs.Parts.{nth, textAt, memberSaid, memberNote, baseSaid, baseNote, attributeSaid, attributeGet, attributeSet, attributeNote, parameterSaid, methodSaid, methodParameter, methodException, methodNote, constantNotes, entrySaid, entryPart, constantNote, entryNote, partAt, innerAt, partFound, saidOf, askPart, askInner}
-use Rattle.rdb_marked.specs.Files.{office, empty, short, wrong, newer, past, typedef, above, reserved, accent, twice, sixteen, seventeen, readonly, nan}
-use Rattle.rdb_marked.specs.Marked.{resultOf, Case, at, checks, leads, kindAt, says, has, holds, text, table}
+use Rattle.rdb_marked.specs.Files.{office, empty, short, wrong, newer, past, typedef, above, reserved, accent, twice, sixteen, seventeen, readonly, annotated, nan}
+use Rattle.rdb_marked.specs.Marked.{resultOf, Case, at, checks, leads, kindAt, says, has, holds, partOf, innerOf, text, table}
 
 pub claim : map (λ (c : Case). resultOf (c .reading) (c .file) (c .task)) table ≡ map (λ (c : Case). c .result) table
-unfolding has holds text enumMembers enumNotes interfaceBases interfaceOptionals interfaceAttributes interfaceMethods interfaceNotes listed enumAt interfaceAt groupNotesAt membersOf interfaceList notesOf constantCount entryCount nth textAt memberSaid memberNote baseSaid baseNote attributeSaid attributeGet attributeSet attributeNote parameterSaid methodSaid methodParameter methodException methodNote constantNotes entrySaid entryPart constantNote entryNote partAt innerAt partFound saidOf askPart askInner office empty short wrong newer past typedef above reserved accent twice sixteen seventeen readonly nan resultOf at checks leads kindAt says table if_then_else_ _<?_ _≤?_ _=?_ _≠?_ le scan some part lowest highest outside offSecond offTail sizeAfter sizeOf charSize next many signed nanBits zeroByte wordEnd wordAt compareWords isSame sameWord byteAt uintOf uint counted isAscii charsEnd isUtf8 suits readLen readText readTexts entryAt entryPayload readKey keyAt hasKeyOf entriesBefore stoodEarlier readPayload readEntry readMap readNotes readMember readEnum valueSize noBoolean readStored readConstant readBase readSets readAttribute readParameter readMethod readInterface float32 float64 valueOf isAnnotated mayFlag isReserved each alone visitConstant visitGroup visitModule visitRecord visitWith visitEntity magic offMagic rootAt rootCount readRoot readFile verdictOf onto cut front last isCalled payloadAt payloadOf andThen entityIn entityAt constantIn constantAt entityFound constantSaid constantFound askEntity askConstant
+unfolding has holds partOf innerOf text enumMembers enumNotes interfaceBases interfaceOptionals interfaceAttributes interfaceMethods interfaceNotes listed enumAt interfaceAt groupNotesAt membersOf interfaceList notesOf constantCount entryCount nth textAt memberSaid memberNote baseSaid baseNote attributeSaid attributeGet attributeSet attributeNote parameterSaid methodSaid methodParameter methodException methodNote constantNotes entrySaid entryPart constantNote entryNote partAt innerAt partFound saidOf askPart askInner office empty short wrong newer past typedef above reserved accent twice sixteen seventeen readonly annotated nan resultOf at checks leads kindAt says table if_then_else_ _<?_ _≤?_ _=?_ _≠?_ le scan some part lowest highest outside offSecond offTail sizeAfter sizeOf charSize next many signed nanBits zeroByte wordEnd wordAt compareWords isSame sameWord byteAt uintOf uint counted isAscii charsEnd isUtf8 suits readLen readText readTexts entryAt entryPayload readKey keyAt hasKeyOf entriesBefore stoodEarlier readPayload readEntry readMap readNotes readMember readEnum valueSize noBoolean readStored readConstant readBase readSets readAttribute readParameter readMethod readInterface float32 float64 valueOf isAnnotated mayFlag isReserved each alone visitConstant visitGroup visitModule visitRecord visitWith visitEntity magic offMagic rootAt rootCount readRoot readFile verdictOf onto cut front last isCalled payloadAt payloadOf andThen entityIn entityAt constantIn constantAt entityFound constantSaid constantFound askEntity askConstant
 claim = refl

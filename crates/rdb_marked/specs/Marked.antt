@@ -24,7 +24,7 @@ use Rattle.rdb_parts.specs.declared.Inner.the-variants as inners
 use Rattle.rdb_parts.specs.declared.PartAnswer.{PartAnswer}
 use Rattle.rdb_parts.specs.declared.PartAnswer.the-variants as answers
 use Rattle.rdb_parts.specs.Parts.{askPart, askInner}
-use Rattle.rdb_marked.specs.Files.{office, empty, short, wrong, newer, past, typedef, above, reserved, accent, twice, sixteen, seventeen, readonly, nan}
+use Rattle.rdb_marked.specs.Files.{office, empty, short, wrong, newer, past, typedef, above, reserved, accent, twice, sixteen, seventeen, readonly, annotated, nan}
 
 -- what is asked of a file
 pub data Task : Type 0 where
@@ -79,6 +79,13 @@ has x w i a = record { reading = UnlessReadOnly; file = office; task = part (0x7
 unfoldable pub holds : ℕ → Inner → ℕ → ℕ → PartAnswer → Case
 holds x w i j a = record { reading = UnlessReadOnly; file = office; task = inner (0x74 ∷ 0x2e ∷ x ∷ []) w i j; result = told a }
 
+-- the first part of a list of the entity x, or of a list of that one
+unfoldable pub partOf : SetCount → List ℕ → ℕ → Part → PartAnswer → Case
+partOf m s x w a = record { reading = m; file = s; task = part (x ∷ []) w 0; result = told a }
+
+unfoldable pub innerOf : SetCount → List ℕ → ℕ → Inner → PartAnswer → Case
+innerOf m s x w a = record { reading = m; file = s; task = inner (x ∷ []) w 0 0; result = told a }
+
 unfoldable pub text : ℕ → ℕ → Text
 text a n = record { at = a; len = n }
 
@@ -99,6 +106,12 @@ table =
     -- both readings accept this one; the number of set exceptions of the one is the number of methods of the other
     ∷ checks readonly (checked (Accepted 1))
     ∷ record { reading = UnlessReadOnly; file = readonly; task = check; result = checked (Accepted 1) }
+    ∷ partOf Always readonly 0x61 parts.Attribute (answers.Typed (record { kind = 2; name = text 36 1; of = text 41 1 }))
+    ∷ partOf UnlessReadOnly readonly 0x61 parts.Attribute (answers.Typed (record { kind = 2; name = text 36 1; of = text 41 1 }))
+    ∷ innerOf Always readonly 0x61 inners.SetException (answers.Text (text 54 1))
+    ∷ innerOf UnlessReadOnly readonly 0x61 inners.SetException answers.None
+    ∷ partOf Always readonly 0x61 parts.Method answers.None
+    ∷ partOf UnlessReadOnly readonly 0x61 parts.Method (answers.Method (record { name = text 54 1; result = text 59 0 }))
     ∷ checks office (at 32 370)
     ∷ record { reading = UnlessReadOnly; file = office; task = check; result = checked (Accepted 14) }
     -- t, t.C, t.E, t.I; a constant is no entity; t.X is none, and so is the empty path, since no key is empty here
@@ -146,6 +159,19 @@ table =
     ∷ has 0x58 parts.Member 0 answers.None
     -- the check comes first
     ∷ record { reading = Always; file = office; task = part (0x74 ∷ []) parts.Entry 0; result = told (answers.Refused (record { no = 32; place = 370 })) }
+    -- the parts that `office` has none of
+    ∷ checks annotated (checked (Accepted 2))
+    ∷ partOf Always annotated 0x65 parts.Note (answers.Text (text 51 1))
+    ∷ innerOf Always annotated 0x65 inners.MemberNote (answers.Text (text 42 1))
+    ∷ partOf Always annotated 0x69 parts.Note (answers.Text (text 175 1))
+    ∷ partOf Always annotated 0x69 parts.Optional (answers.Text (text 79 1))
+    ∷ innerOf Always annotated 0x69 inners.BaseNote (answers.Text (text 70 1))
+    ∷ innerOf Always annotated 0x69 inners.OptionalNote (answers.Text (text 88 1))
+    ∷ innerOf Always annotated 0x69 inners.GetException (answers.Text (text 112 1))
+    ∷ innerOf Always annotated 0x69 inners.SetException (answers.Text (text 121 1))
+    ∷ innerOf Always annotated 0x69 inners.AttributeNote (answers.Text (text 130 1))
+    ∷ innerOf Always annotated 0x69 inners.Exception (answers.Text (text 157 1))
+    ∷ innerOf Always annotated 0x69 inners.MethodNote (answers.Text (text 166 1))
     -- a.n is a NaN, with the bits as stored
     ∷ record { reading = Always; file = nan; task = constant (0x61 ∷ 0x2e ∷ 0x6e ∷ []); result = valued (constants.Found (FloatNan 0x7fa00001)) }
     ∷ []

@@ -14,15 +14,15 @@ use Rattle.number.proofs.Choice.{both, is-eq, no-eq, from-yes-eq, from-not-eq}
 use Rattle.rdb_path.specs.Path.{dotAt, onto, cut, front, last, joined}
 use Rattle.rdb_path.specs.Reached.{LastWord}
 
-cut-none : cut [] ≡ [] ∷ []
+pub cut-none : cut [] ≡ [] ∷ []
 unfolding cut
 cut-none = refl
 
-cut-dot : (b : ℕ) (path : List ℕ) → b ≡ 0x2e → cut (b ∷ path) ≡ [] ∷ cut path
+pub cut-dot : (b : ℕ) (path : List ℕ) → b ≡ 0x2e → cut (b ∷ path) ≡ [] ∷ cut path
 unfolding cut
 cut-dot b path e = sym (is-eq _ _ _ _ e refl)
 
-cut-byte : (b : ℕ) (path : List ℕ) → (b ≡ 0x2e → ⊥) → cut (b ∷ path) ≡ onto b (cut path)
+pub cut-byte : (b : ℕ) (path : List ℕ) → (b ≡ 0x2e → ⊥) → cut (b ∷ path) ≡ onto b (cut path)
 unfolding cut
 cut-byte b path f = sym (no-eq _ _ _ _ f refl)
 

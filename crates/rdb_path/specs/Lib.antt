@@ -1,3 +1,4 @@
 pub mod Path
 pub mod Reached
 pub mod Place
+pub mod Claim

@@ -70,11 +70,6 @@ goes g k {x} {e} h t = go g h t
     go : (r : Got _) → r ≡ got x e → goesOn r k ≡ true → k x e ≡ true
     go r q u = subst (λ r. goesOn r k ≡ true) q u
 
-unless-true : (t : Bool) (y : Bool) → (if t then false else y) ≡ true → (t ≡ false) × (y ≡ true)
-unfolding if_then_else_
-unless-true true y h = absurd (let z : _≡_ {A = ℕ} 0 1 = cc in omega arith)
-unless-true false y h = (refl, h)
-
 when-true : (t : Bool) (x : Bool) → (if t then x else false) ≡ true → (t ≡ true) × (x ≡ true)
 unfolding if_then_else_
 when-true true x h = (refl, h)
@@ -87,8 +82,8 @@ module _ (a : Bool) (s : List ℕ) where
   unfolding many plainRun
   run-same zero p h = refl
   run-same (suc n) p h =
-      let w = unless-true _ _ h in
-      let q = same-attribute a s p (from-not-eq _ _ (w .0)) in
+      let w = when-true _ _ h in
+      let q = same-attribute a s p (w .0) in
       next-same (readAttribute Always a s p) _ _ (λ x e g. ap (λ (r : Got (List Attribute)). next r (λ xs e. got (x ∷ xs) e)) (run-same n e (goes _ _ g (w .1))))
       ∙ ap (λ (r : Got Attribute). next r (λ x e. next (many (readAttribute UnlessReadOnly a s) n e) (λ xs e. got (x ∷ xs) e))) q
 

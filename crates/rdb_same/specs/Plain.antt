@@ -4,13 +4,12 @@ use mathlib.Core.Bool.{Bool, true, false}
 use mathlib.Core.List.{List}
 use Prim.Native.Nat.{ℕ, zero, suc, _+_}
 use lib.ListN.{getD}
-use Rattle.number.specs.Bits.{bit}
 use Rattle.number.specs.Choice.{if_then_else_, _=?_}
 use Rattle.number.specs.Number.{le}
 use Rattle.reading.specs.Got.{Got, got, bad}
 use Rattle.rdb_text.specs.Field.{uint, counted}
-use Rattle.rdb_interface.specs.declared.SetCount.the-variants.{Always}
-use Rattle.rdb_interface.specs.Interface.{readBase, readAttribute}
+use Rattle.rdb_interface.specs.declared.SetCount.the-variants.{Always, UnlessReadOnly}
+use Rattle.rdb_interface.specs.Interface.{hasSets, readBase, readAttribute}
 use Rattle.rdb_file.specs.Kind.{isAnnotated, kindOf, moduleKind, interfaceKind}
 use Rattle.rdb_file.specs.Visit.{moduleLimit, countPlace, mapPlace}
 use Rattle.rdb_file.specs.File.{rootAt, rootCount}
@@ -25,9 +24,7 @@ goesOn (bad n q) k = true
 unfoldable pub plainRun : Bool → List ℕ → ℕ → ℕ → Bool
 plainRun a s zero p = true
 plainRun a s (suc n) p =
-    if bit 0x02 (getD s p 0) =? 1 then false else
-    goesOn (readAttribute Always a s p) λ _ e.
-    plainRun a s n e
+    if hasSets UnlessReadOnly (getD s p 0) then goesOn (readAttribute Always a s p) (λ _ e. plainRun a s n e) else false
 
 -- none of the interface at p, after its kind byte
 unfoldable pub plainInterface : Bool → List ℕ → ℕ → Bool

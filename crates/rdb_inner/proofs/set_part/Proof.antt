@@ -1,7 +1,8 @@
 -- `rdb_inner::set_part` meets its contract.
 -- Assumes nothing.
-use Rattle.number.proofs.Tools.{needs, arith, refl, is-eq, no-eq}
-use Rattle.rdb_ends.proofs.EndLaws.{sets-list, sets-listed}
+use Rattle.number.proofs.Tools.{needs, arith, refl, sym, _∙_}
+use Rattle.rdb_interface.proofs.SetLaws.{where-sets, where-none}
+use Rattle.rdb_ends.proofs.EndLaws.{sets-list}
 use Rattle.rdb_inner.specs.Inside.{setText}
 use Rattle.rdb_inner.proofs.set_part.Statement.{statement}
 use Rattle.rdb_inner.proofs.set_part.Tie as tie
@@ -11,10 +12,7 @@ unfolding setText
 set-part-spec =
     tie.close
     (tie.spec
-    (λ c. search needs)
-    (λ c. search needs)
-    (λ c κs. (omega arith, sets-list _ _ _ _ (c .enum-told2 .given .1) (c .before .before .before .pre .1)))
-    (λ c. rw (c .before .enum-told2 .given .1) (c .list-part .ensures))
-    (λ c. rw (c .before .enum-told .given .1) (is-eq _ _ _ _ (omega arith) refl))
-    (λ c κs. (omega arith, sets-listed _ _ _ _ (c .before .enum-told .given .1) (λ e. omega arith) (c .before .before .before .before .pre .1)))
-    (λ c. rw (c .before .before .enum-told .given .1) (no-eq _ _ _ _ (λ e. omega arith) (c .list-part2 .ensures))))
+    (λ c κs. search needs)
+    (λ c κs. (omega arith, sets-list _ _ _ _ (sym (c .before .has-sets .ensures) ∙ c .if1 .taken) (c .before .before .before .pre .1)))
+    (λ c. where-sets _ _ _ _ (sym (c .before .before .has-sets .ensures) ∙ c .before .if1 .taken) (c .list-part .ensures))
+    (λ c. where-none _ _ _ _ (sym (c .before .has-sets .ensures) ∙ c .if1 .left) refl))
