@@ -1,0 +1,4 @@
+pub mod WalkLaws
+pub mod MapLaws
+pub mod FillLaws
+pub mod CountLaws
