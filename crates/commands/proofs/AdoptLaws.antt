@@ -18,12 +18,12 @@ use Rattle.joining.specs.declared.Normalised.the-variants.{Written, Refused}
 use Rattle.link.specs.declared.Which.the-variants.{First}
 use Rattle.adopt.specs.Adopt.{adoptAnswer, adoptBuffer}
 use Rattle.outcomes.specs.Lines.{adoptedText, normalisedText, normalisedWhy, sayNormalised, sayAdopted}
-use Rattle.listed.specs.declared.Rest.{Rest}
-use Rattle.listed.specs.Rest.{noRest}
+use Rattle.streamed.specs.declared.Stream.{Stream}
+use Rattle.streamed.specs.Stream.{noRest}
 use Rattle.commands.specs.declared.Reply.{Reply}
 use Rattle.commands.specs.declared.Save.the-variants.{Nothing, FirstBytes}
 use Rattle.commands.specs.Answer.{Answer, answered, oneLine, normalisedSave, writtenIn, verbAnswer, Replies}
-use Rattle.listed.proofs.OpenLaws.{says-opens}
+use Rattle.streamed.proofs.StreamLaws.{says-opens}
 use Rattle.commands.proofs.ReplyLaws.{says-replies}
 use Rattle.commands.proofs.SaveLaws.{adopt-saves}
 
@@ -43,7 +43,7 @@ module _ (b : Bool) (ws : List (List ℕ)) (s second out : List ℕ) where
   refused-answer x e = rw (← e) refl
 
   module _ (left before after : List ℕ) (f : left ≡ adoptBuffer s out) (said : Said) where
-    pub written-replies : (n : ℕ) → Written n ≡ adoptAnswer s out → (v : Verdict) → v ≡ checkOf (take (n - 0) left) → Says (saying (adoptedText n v) why.Answered) before said after → (rest : Rest) → rest ≡ noRest
+    pub written-replies : (n : ℕ) → Written n ≡ adoptAnswer s out → (v : Verdict) → v ≡ checkOf (take (n - 0) left) → Says (saying (adoptedText n v) why.Answered) before said after → (rest : Stream) → rest ≡ noRest
         → Replies b (verbAnswer b verb.Adopt ws s second out) s before (record { said = said; rest = rest; whose = First; save = FirstBytes n }) left after
     written-replies n e v g h rest k =
         let z : n - 0 ≡ n = omega arith in

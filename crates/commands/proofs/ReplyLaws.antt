@@ -8,9 +8,9 @@ use native.Mathlib.Omega.{arith}
 use Rattle.sayings.specs.declared.Said.{Said}
 use Rattle.sayings.specs.declared.Why.the-variants.{Answered}
 use Rattle.sayings.specs.Sayings.{Saying, Says, saying}
-use Rattle.listed.specs.declared.Opened.{Opened}
-use Rattle.listed.specs.Rest.{noRest, Opens}
-use Rattle.listed.proofs.OpenLaws.{says-opens}
+use Rattle.streamed.specs.declared.Begun.{Begun}
+use Rattle.streamed.specs.Stream.{noRest, Opens}
+use Rattle.streamed.proofs.StreamLaws.{says-opens}
 use Rattle.commands.specs.declared.Reply.{Reply}
 use Rattle.commands.specs.Answer.{silence, answered, oneLine, openedReply, Replies}
 
@@ -22,5 +22,5 @@ pub silent-says : (said : Said) (text : List ℕ) → said ≡ silence → Says 
 silent-says said text e = rw e (record { long = refl; why = refl; stored = refl; fits = omega arith })
 
 -- what was opened is the answer's beginning
-pub opens-replies : (b : Bool) (x : Saying) (s before : List ℕ) (begun : Opened) (r : Reply) (out after : List ℕ) → Opens b x s before begun after → r ≡ openedReply begun → Replies b (answered x out) s before r out after
+pub opens-replies : (b : Bool) (x : Saying) (s before : List ℕ) (begun : Begun) (r : Reply) (out after : List ℕ) → Opens b x s before begun after → r ≡ openedReply begun → Replies b (answered x out) s before r out after
 opens-replies b x s before begun r out after h e = rw e (record { opens = h; whose = refl; save = refl; output = refl })

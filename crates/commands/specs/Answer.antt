@@ -24,9 +24,9 @@ use Rattle.reader.specs.Reader.{checkOf}
 use Rattle.adopt.specs.Adopt.{adoptAnswer, adoptBuffer}
 use Rattle.outcomes.specs.Lines.{sayNormalised, sayAdopted, sayLinked}
 use Rattle.salvaging.specs.Text.{salvageSaying, salvageAnswer, salvageBuffer}
-use Rattle.listed.specs.declared.Opened.{Opened}
 use Rattle.listed.specs.Text.{listSaying}
-use Rattle.listed.specs.Rest.{noRest, Opens}
+use Rattle.streamed.specs.declared.Begun.{Begun}
+use Rattle.streamed.specs.Stream.{noRest, Opens}
 use Rattle.tabled.specs.Text.{tableSaying}
 use Rattle.tasks.specs.declared.Mistake.the-variants.{Words}
 use Rattle.tasks.specs.declared.Task.{Task}
@@ -90,7 +90,7 @@ unfoldable pub taskAnswer : Bool → Task → List (List ℕ) → List ℕ → L
 taskAnswer b (Mistaken m) ws first second out = answered (mistaken (mistakeText m)) out
 taskAnswer b (Run v) ws first second out = verbAnswer b v ws first second out
 taskAnswer b (Pile n) ws first second out = answered (saying [] Answered) out
-taskAnswer b (Types m q) ws first second out = answered (typesSaying m q first ws) out
+taskAnswer b (Types m q) ws first second out = answered (typesSaying b m q first ws) out
 
 -- the line, about the bytes of the file or files that it names
 unfoldable pub answerOf : ℕ → List ℕ → List ℕ → List ℕ → List ℕ → Answer
@@ -109,10 +109,10 @@ abbrev pub oneLine : Said → Reply
 oneLine said = record { said = said; rest = noRest; whose = First; save = Nothing }
 
 -- the reply that begins with what was opened
-abbrev pub openedReply : Opened → Reply
+abbrev pub openedReply : Begun → Reply
 openedReply x = record { said = x .said; rest = x .rest; whose = First; save = Nothing }
 
--- the answer's text begins at the front of the text buffer, where nothing else was changed, and the rest is what is left of a listing, or of a table, of the file s; the output buffer is as the answer says
+-- the answer's text begins at the front of the text buffer, where nothing else was changed, and the rest is what is left of it, from the file s; the output buffer is as the answer says
 pub record Replies (b : Bool) (x : Answer) (s before : List ℕ) (r : Reply) (out after : List ℕ) : Type 0 where
   pub opens : Opens b (x .saying) s before (record { said = r .said; rest = r .rest }) after
   pub whose : r .whose ≡ x .whose

@@ -2,12 +2,12 @@
 use joining::Normalised;
 use link::Linked;
 use link::Which;
-use listed::Opened;
-use listed::Rest;
 use number::FILE_LIMIT;
 use sayings::ANSWER_ROOM;
 use sayings::Said;
 use sayings::Why;
+use streamed::Begun;
+use streamed::Stream;
 use tasks::Mistake;
 use tasks::Task;
 use verbs::Verb;
@@ -26,10 +26,10 @@ pub enum Save {
     FirstBytes(usize),
 }
 
-// What was put at the front of the text and why, what is left of a listing or a table after it, of which file a refusal is, and what is to be saved.
+// What was put at the front of the text and why, what is left of the answer after it, of which file a refusal is, and what is to be saved.
 pub struct Reply {
     pub said: Said,
-    pub rest: Rest,
+    pub rest: Stream,
     pub whose: Which,
     pub save: Save,
 }
@@ -50,14 +50,14 @@ fn answered(said: Said) -> Reply
 {
     Reply {
         said,
-        rest: listed::no_rest(),
+        rest: streamed::no_rest(),
         whose: Which::First,
         save: Save::Nothing,
     }
 }
 
-// What a listing or a table of the first file begins with.
-fn opened(begun: Opened) -> Reply
+// What an answer from the first file begins with.
+fn opened(begun: Begun) -> Reply
     ensures { λ r. ⌜ r ≡ openedReply begun ⌝ }
 {
     let said = begun.said;
@@ -104,7 +104,7 @@ fn normal(first: &[u8], out: &mut [u8], text: &mut [u8; ANSWER_ROOM]) -> Reply
     let done = link::normalise(first, out);
     Reply {
         said: outcomes::normalised(done, text),
-        rest: listed::no_rest(),
+        rest: streamed::no_rest(),
         whose: Which::First,
         save: normalised_save(done),
     }
@@ -119,7 +119,7 @@ fn adopt(first: &[u8], out: &mut [u8], text: &mut [u8; ANSWER_ROOM]) -> Reply
             let verdict = reader::check(&out[0..n]);
             Reply {
                 said: outcomes::adopted(n, verdict, text),
-                rest: listed::no_rest(),
+                rest: streamed::no_rest(),
                 whose: Which::First,
                 save: Save::FirstBytes(n),
             }
@@ -135,7 +135,7 @@ fn link(first: &[u8], second: &[u8], out: &mut [u8], text: &mut [u8; ANSWER_ROOM
     let done = link::link(first, second, out);
     Reply {
         said: outcomes::linked(done, text),
-        rest: listed::no_rest(),
+        rest: streamed::no_rest(),
         whose: linked_whose(done),
         save: linked_save(done),
     }
@@ -156,7 +156,7 @@ fn salvage(
     let done = told.done;
     Reply {
         said,
-        rest: listed::no_rest(),
+        rest: streamed::no_rest(),
         whose: Which::First,
         save: normalised_save(done),
     }
@@ -166,7 +166,7 @@ fn salvage(
 fn list(file: &[u8], in_batch: bool, text: &mut [u8; ANSWER_ROOM]) -> Reply
     ensures { λ r. ⌜ ((ws : List (List ℕ)) (second out : List ℕ) → Replies «in_batch» (verbAnswer «in_batch» verb.List ws (now (file .entry)) second out) (now (file .entry)) (now (text .entry)) r out (now (text .exit))) ⌝ }
 {
-    opened(listed::open(file, in_batch, text))
+    opened(streamed::listing(listed::open(file, in_batch, text)))
 }
 
 // The command `table`.
@@ -185,7 +185,7 @@ fn table(
     let b = space.end;
     let c = name.from;
     let d = name.end;
-    opened(tabled::open(file, &line[a..b], &line[c..d], in_batch, text))
+    opened(streamed::listing(tabled::open(file, &line[a..b], &line[c..d], in_batch, text)))
 }
 
 // The command of a line with as many words as it takes.
@@ -229,12 +229,13 @@ pub fn answer(
         Task::Mistaken(what) => answered(tasks::tell(what, text)),
         Task::Run(verb) => run(verb, line, separator, first, second, out, work, text),
         Task::Pile(_) => answered(silent()),
-        Task::Types(m, asked) => answered(rdb_questions::ask(
+        Task::Types(m, asked) => opened(rdb_questions::open(
             m,
             asked,
             line,
             separator,
             first,
+            tasks::in_batch(separator),
             text,
         )),
     }

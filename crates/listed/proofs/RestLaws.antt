@@ -99,7 +99,7 @@ filled-shown b s l c text before mid f r after g h e k = record { each = each; f
     inside : f .length ≤ length after
     inside = rw (e, length-kept b mid (f .length)) (h .inside)
 
-    each : (text : List ℕ) → rest.Going b s l c text → rest.Gives b s text before (record { length = f .length; rest = r }) after
+    each : (text : List ℕ) → rest.Going b s l c text → rest.Gives (λ z. rest.LeftIn b s r z) text before (f .length) after
     each text g =
         let p = h .each (g .lines) (g .left) in
         let n : f .length ≡ length (p .bytes) = omega (arith, p .wrote .next) in

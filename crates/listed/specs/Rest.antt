@@ -10,6 +10,7 @@ use lib.Seq.{sets}
 use Rattle.number.specs.Choice.{if_then_else_}
 use Rattle.reader.specs.declared.Layout.{Layout}
 use Rattle.text.specs.Line.{newline}
+use Rattle.sayings.specs.declared.Said.{Said}
 use Rattle.sayings.specs.Sayings.{answerRoom, Saying}
 use Rattle.lines.specs.declared.Cursor.{Cursor}
 use Rattle.lines.specs.Cursor.{Left, isDone, turns}
@@ -67,28 +68,32 @@ buffersAt n (At c) = 2 + turns n c
 abbrev pub buffers : Rest → ℕ
 buffers r = buffersAt (r .layout .count) (r .next)
 
--- the answer x begins at the front of the buffer, nothing else was changed, and the rest is left
-pub record Opens (inBatch : Bool) (x : Saying) (s before : List ℕ) (r : Opened) (after : List ℕ) : Type 0 where
+-- the answer x begins at the front of the buffer, nothing else was changed, and of its text what Left says is left
+pub record Begins (Left : List ℕ → Type 0) (x : Saying) (before : List ℕ) (r : Said) (after : List ℕ) : Type 0 where
   pub bytes : List ℕ
   pub rest : List ℕ
   pub split : x .text ≡ bytes ++ rest
-  pub long : r .said .length ≡ length bytes
-  pub fits : r .said .length ≤ answerRoom
-  pub why : r .said .why ≡ x .why
+  pub long : r .length ≡ length bytes
+  pub fits : r .length ≤ answerRoom
+  pub why : r .why ≡ x .why
   pub stored : after ≡ sets before 0 bytes
-  pub left : LeftIn inBatch s (r .rest) rest
+  pub left : Left rest
 
--- of a text that is left, the first part is at the front of the buffer, nothing else was changed, and the rest is left
-pub record Gives (inBatch : Bool) (s text before : List ℕ) (r : More) (after : List ℕ) : Type 0 where
+-- of a text, the first n bytes are at the front of the buffer, nothing else was changed, and what Left says is left
+pub record Gives (Left : List ℕ → Type 0) (text before : List ℕ) (n : ℕ) (after : List ℕ) : Type 0 where
   pub bytes : List ℕ
   pub rest : List ℕ
   pub split : text ≡ bytes ++ rest
-  pub long : r .length ≡ length bytes
+  pub long : n ≡ length bytes
   pub stored : after ≡ sets before 0 bytes
-  pub left : LeftIn inBatch s (r .rest) rest
+  pub left : Left rest
+
+-- the answer x begins with the first line, and the rest is left
+abbrev pub Opens : Bool → Saying → List ℕ → List ℕ → Opened → List ℕ → Type 0
+Opens inBatch x s before r after = Begins (λ rest. LeftIn inBatch s (r .rest) rest) x before (r .said) after
 
 -- a buffer was filled: so it is of any text that is left, and fewer are left where one was
 pub record Filled (inBatch : Bool) (s : List ℕ) (x : Rest) (before : List ℕ) (r : More) (after : List ℕ) : Type 0 where
-  pub each : (text : List ℕ) → LeftIn inBatch s x text → Gives inBatch s text before r after
+  pub each : (text : List ℕ) → LeftIn inBatch s x text → Gives (λ rest. LeftIn inBatch s (r .rest) rest) text before (r .length) after
   pub fewer : (isOver x ≡ true) ⊎ (buffers (r .rest) < buffers x)
   pub inside : r .length ≤ length after

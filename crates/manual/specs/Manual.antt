@@ -54,17 +54,23 @@ memberText = (entryText (verb.Ask Method) ++ entryText (verb.Ask Slot)) ++ entry
 abbrev pub rdbCheckHelp : List ℕ
 rdbCheckHelp = ascii "xpt rdb check FILE" ++ (newline ++ (ascii "    accepted and the number of entries visited, or refused with a number and a place; FILE is a types.rdb" ++ newline))
 
+abbrev pub rdbListHelp : List ℕ
+rdbListHelp = ascii "xpt rdb list FILE" ++ (newline ++ (ascii "    every path, with E, the kind byte and the offset of an entity, or C, the type and the value of a constant" ++ newline))
+
 abbrev pub rdbEntityHelp : List ℕ
 rdbEntityHelp = ascii "xpt rdb entity FILE PATH" ++ (newline ++ (ascii "    found, the kind byte and the offset of what the dotted path leads to, or none" ++ newline))
 
 abbrev pub rdbConstHelp : List ℕ
 rdbConstHelp = ascii "xpt rdb const FILE PATH" ++ (newline ++ (ascii "    found, the type of the constant and its value, the bits of a float or double in hexadecimal, or none" ++ newline))
 
+abbrev pub rdbPartHelp : List ℕ
+rdbPartHelp = ascii "xpt rdb part FILE PATH WHICH I [J]" ++ (newline ++ (ascii "    found and part I of what the path leads to, or none: WHICH is entry, member, base, optional, attribute, method or note" ++ (newline ++ (ascii "    with J what that part has at J: entry-note, member-note, base-note, optional-note, get-exception, set-exception, attribute-note, parameter, exception or method-note" ++ newline))))
+
 abbrev pub officeHelp : List ℕ
-officeHelp = ascii "xpt office check|entity|const .." ++ (newline ++ (ascii "    the same where read-only attributes have no set exceptions, as office suites write them" ++ newline))
+officeHelp = ascii "xpt office check|list|entity|const|part .." ++ (newline ++ (ascii "    the same where read-only attributes have no set exceptions, as office suites write them" ++ newline))
 
 unfoldable pub typesText : List ℕ
-typesText = ((rdbCheckHelp ++ rdbEntityHelp) ++ rdbConstHelp) ++ officeHelp
+typesText = ((((rdbCheckHelp ++ rdbListHelp) ++ rdbEntityHelp) ++ rdbConstHelp) ++ rdbPartHelp) ++ officeHelp
 
 -- `batch`
 abbrev pub batchText : List ℕ

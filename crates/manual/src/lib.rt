@@ -118,28 +118,38 @@ fn put_members(text: &mut [u8; ROOM], at: usize) -> usize
 }
 
 fn put_types(text: &mut [u8; ROOM], at: usize) -> usize
-    requires { ⌜ at + 1024 ≤ room ⌝ }
-    ensures { λ r. ⌜ Wrote (now (text .entry)) at typesText r (now (text .exit)) × (r ≤ at + 1024) ⌝ }
+    requires { ⌜ at + 2048 ≤ room ⌝ }
+    ensures { λ r. ⌜ Wrote (now (text .entry)) at typesText r (now (text .exit)) × (r ≤ at + 2048) ⌝ }
 {
-    let entity = text::put_bytes(
+    let list = text::put_bytes(
         text,
         at,
         b"xpt rdb check FILE\n    accepted and the number of entries visited, or refused with a number and a place; FILE is a types.rdb\n",
+    );
+    let entity = text::put_bytes(
+        text,
+        list,
+        b"xpt rdb list FILE\n    every path, with E, the kind byte and the offset of an entity, or C, the type and the value of a constant\n",
     );
     let constant = text::put_bytes(
         text,
         entity,
         b"xpt rdb entity FILE PATH\n    found, the kind byte and the offset of what the dotted path leads to, or none\n",
     );
-    let office = text::put_bytes(
+    let part = text::put_bytes(
         text,
         constant,
         b"xpt rdb const FILE PATH\n    found, the type of the constant and its value, the bits of a float or double in hexadecimal, or none\n",
     );
+    let office = text::put_bytes(
+        text,
+        part,
+        b"xpt rdb part FILE PATH WHICH I [J]\n    found and part I of what the path leads to, or none: WHICH is entry, member, base, optional, attribute, method or note\n    with J what that part has at J: entry-note, member-note, base-note, optional-note, get-exception, set-exception, attribute-note, parameter, exception or method-note\n",
+    );
     text::put_bytes(
         text,
         office,
-        b"xpt office check|entity|const ..\n    the same where read-only attributes have no set exceptions, as office suites write them\n",
+        b"xpt office check|list|entity|const|part ..\n    the same where read-only attributes have no set exceptions, as office suites write them\n",
     )
 }
 

@@ -1,14 +1,15 @@
--- Buffers that are left of a listing.
+-- Buffers that are left of an answer.
 -- Assumes nothing.
 use mathlib.Core.Path.{_≡_}
 use mathlib.Core.Bool.{true, false}
 use mathlib.Core.Logic.{_⊎_, inl, inr}
+use mathlib.Core.List.{List}
 use Prim.Native.Nat.{ℕ, _<_}
 use Rattle.number.proofs.Scans.{clash}
-use Rattle.listed.specs.declared.Rest.{Rest}
-use Rattle.listed.specs.Rest.{isOver, buffers}
+use Rattle.streamed.specs.declared.Stream.{Stream}
+use Rattle.streamed.specs.Stream.{isOver, buffers}
 
 -- where one was left, fewer are
-pub fewer : (x y : Rest) → isOver x ≡ false → (isOver x ≡ true) ⊎ (buffers y < buffers x) → buffers y < buffers x
-fewer x y e (inl t) = clash (isOver x) t e
-fewer x y e (inr h) = h
+pub fewer : (s : List ℕ) (x y : Stream) → isOver x ≡ false → (isOver x ≡ true) ⊎ (buffers s y < buffers s x) → buffers s y < buffers s x
+fewer s x y e (inl t) = clash (isOver x) t e
+fewer s x y e (inr h) = h

@@ -7,7 +7,6 @@ use commands::Save;
 use failures::ROOM;
 use held::Wanting;
 use kept::Kept;
-use listed::Rest;
 use number::FILE_LIMIT;
 use pile::Added;
 use pile::PileRefusal;
@@ -18,6 +17,7 @@ use saving::Saved;
 use sayings::ANSWER_ROOM;
 use sayings::Why;
 use store::Loaded;
+use streamed::Stream;
 use tasks::Task;
 ghost use mathlib.Core.List.{List};
 ghost use Prim.Native.Nat.{ℕ, _≤_};
@@ -30,7 +30,7 @@ ghost use Rattle.sayings.specs.Sayings.{answerRoom};
 ghost use Rattle.pile.specs.Pile.{pileLimit};
 ghost use Rattle.kept.specs.Table.{Tidy};
 ghost use Rattle.kept.specs.Files.{keptFile};
-ghost use Rattle.listed.specs.Rest.{LeftIn};
+ghost use Rattle.streamed.specs.Stream.{LeftOf};
 ghost use Rattle.held.specs.Held.{Held, WhereHad};
 ghost use Rattle.piling.specs.Answers.{SavesIn};
 ghost use Rattle.runs.specs.Settled.{Settled};
@@ -83,16 +83,16 @@ fn say_wanting(line: &[u8], separator: u8, k: usize, file: Loaded, text: &mut [u
     }
 }
 
-// What is left of the listing of the first file.
+// What is left of the answer from the first file.
 fn put_rest(
     line: &[u8],
     separator: u8,
-    rest: Rest,
+    rest: Stream,
     kept: Kept,
     rows: &[usize; 256],
     store: &[u8; 4210688],
 ) -> bool
-    requires { ⌜ Tidy (now rows) kept × ((text : List ℕ) × LeftIn (inBatch separator) (keptFile (argument 1 (wordsOf separator (now line))) kept (now rows) (now store)) rest text) ⌝ }
+    requires { ⌜ Tidy (now rows) kept × ((text : List ℕ) × LeftOf (inBatch separator) (keptFile (argument 1 (wordsOf separator (now line))) kept (now rows) (now store)) rest text) ⌝ }
 {
     let file = named::file_at(line, separator, 1, kept, rows, store);
     let from = file.from;
@@ -161,7 +161,7 @@ fn say_reply(
     store: &[u8; 4210688],
     text: &mut [u8; ROOM],
 ) -> Told
-    requires { ⌜ ((length (now line) ≤ wordLimit) × (reply .said .length ≤ answerRoom)) × (Tidy (now rows) kept × ((rest : List ℕ) × LeftIn (inBatch separator) (keptFile (argument 1 (wordsOf separator (now line))) kept (now rows) (now store)) (reply .rest) rest)) ⌝ }
+    requires { ⌜ ((length (now line) ≤ wordLimit) × (reply .said .length ≤ answerRoom)) × (Tidy (now rows) kept × ((rest : List ℕ) × LeftOf (inBatch separator) (keptFile (argument 1 (wordsOf separator (now line))) kept (now rows) (now store)) (reply .rest) rest)) ⌝ }
 {
     let said = reply.said;
     let rest = reply.rest;

@@ -1,12 +1,12 @@
 // What standard output gets, each line in one write.
 use failures::ROOM;
-use listed::Rest;
 use sayings::ANSWER_ROOM;
+use streamed::Stream;
 ghost use mathlib.Core.List.{List};
 ghost use Prim.Native.Nat.{ℕ, _≤_};
 ghost use Rattle.failures.specs.Room.{room};
 ghost use Rattle.sayings.specs.Sayings.{answerRoom};
-ghost use Rattle.listed.specs.Rest.{LeftIn};
+ghost use Rattle.streamed.specs.Stream.{LeftOf};
 
 // The first bytes on standard output.
 pub fn put(head: &[u8; ANSWER_ROOM], n: usize) -> bool
@@ -16,16 +16,16 @@ pub fn put(head: &[u8; ANSWER_ROOM], n: usize) -> bool
     io::write_all(1, &all[..n])
 }
 
-// What is left of a listing, buffer by buffer; whether all of it could be written.
-fn put_each(file: &[u8], first: Rest, in_batch: bool, out: &mut [u8; 65536]) -> bool
-    requires { ⌜ ((text : List ℕ) × LeftIn «in_batch» (now file) first text) ⌝ }
+// What is left of an answer, buffer by buffer; whether all of it could be written.
+fn put_each(file: &[u8], first: Stream, in_batch: bool, out: &mut [u8; 65536]) -> bool
+    requires { ⌜ ((text : List ℕ) × LeftOf «in_batch» (now file) first text) ⌝ }
 {
     let mut rest = first;
     loop {
-        if listed::is_over(rest) {
+        if streamed::is_over(rest) {
             return true;
         }
-        let more = listed::go_on(file, rest, in_batch, out);
+        let more = streamed::go_on(file, rest, in_batch, out);
         let n = more.length;
         let all: &[u8] = out;
         if !io::write_all(1, &all[..n]) {
@@ -35,8 +35,8 @@ fn put_each(file: &[u8], first: Rest, in_batch: bool, out: &mut [u8; 65536]) -> 
     }
 }
 
-pub fn put_rest(file: &[u8], rest: Rest, in_batch: bool) -> bool
-    requires { ⌜ ((text : List ℕ) × LeftIn «in_batch» (now file) rest text) ⌝ }
+pub fn put_rest(file: &[u8], rest: Stream, in_batch: bool) -> bool
+    requires { ⌜ ((text : List ℕ) × LeftOf «in_batch» (now file) rest text) ⌝ }
 {
     let mut out = io::large_buffer();
     put_each(file, rest, in_batch, &mut out)

@@ -15,12 +15,12 @@ use Rattle.verbs.specs.Verbs.{verbOf, wordsIn}
 use Rattle.verbs.specs.Empty.{hasEmpty}
 use Rattle.rdb_interface.specs.declared.SetCount.{SetCount}
 use Rattle.rdb_tasks.specs.declared.Asked.{Asked}
-use Rattle.rdb_tasks.specs.Asked.{isTypes, readingOf, askedOf, hasWords}
+use Rattle.rdb_tasks.specs.Asked.{isTypes, readingOf, hasWords}
 use Rattle.tasks.specs.declared.Mistake.{Mistake}
 use Rattle.tasks.specs.declared.Mistake.the-variants.{Blank, CarriageReturn, Spaces, Words, Files, TypesWords}
 use Rattle.tasks.specs.declared.Task.{Task}
 use Rattle.tasks.specs.declared.Task.the-variants.{Mistaken, Run, Pile, Types}
-use Rattle.tasks.specs.Tasks.{inBatch, shift, pileTask, otherTask, verbTask, typesTask, wordsTask, lineTask, taskOf, filesRead, filesOf}
+use Rattle.tasks.specs.Tasks.{inBatch, shift, pileTask, otherTask, verbTask, askedIn, typesTask, wordsTask, lineTask, taskOf, filesRead, filesOf}
 
 pub words-few : (v : Verb) → wordsIn v ≤ 5
 unfolding wordsIn
@@ -88,7 +88,7 @@ types-task-few : (ws : List (List ℕ)) → Few (typesTask ws)
 unfolding typesTask
 types-task-few ws =
     let m : SetCount = readingOf (wordIn 0 ws) in
-    let q : Asked = askedOf (wordIn 1 ws) in
+    let q : Asked = askedIn ws in
     both Few (hasWords q (length ws)) (Types m q) (Mistaken (TypesWords m q)) (λ _. one-few m q) (λ _. wrong-few (TypesWords m q))
 
 words-task-few : (ws : List (List ℕ)) → Few (wordsTask ws)

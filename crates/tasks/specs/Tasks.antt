@@ -73,11 +73,15 @@ verbTask ws =
     let v : Verb = verbOf (wordIn 0 ws) in
     if length ws =? wordsIn v + shift ws then Run v else otherTask v (length ws) (shift ws)
 
+-- what the second word asks, and the fifth where it asks for a part
+unfoldable pub askedIn : List (List ℕ) → Asked
+askedIn ws = askedOf (wordIn 1 ws) (wordIn 4 ws)
+
 -- a question about a types.rdb, with as many words as it takes
 unfoldable pub typesTask : List (List ℕ) → Task
 typesTask ws =
     let m : SetCount = readingOf (wordIn 0 ws) in
-    let q : Asked = askedOf (wordIn 1 ws) in
+    let q : Asked = askedIn ws in
     if hasWords q (length ws) then Types m q else Mistaken (TypesWords m q)
 
 unfoldable pub wordsTask : List (List ℕ) → Task

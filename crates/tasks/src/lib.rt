@@ -15,7 +15,7 @@ ghost use Rattle.verbs.specs.Verbs.{verbOf};
 ghost use Rattle.verbs.specs.declared.Verb.the-variants.{Ask};
 ghost use Rattle.sayings.specs.Sayings.{Says, mistaken};
 ghost use Rattle.rdb_tasks.specs.Asked.{isTypes};
-ghost use Rattle.tasks.specs.Tasks.{inBatch, writesFile, isForced, shift, pileTask, otherTask, verbTask, typesTask, wordsTask, lineTask, taskOf, filesRead, filesOf, isWriting};
+ghost use Rattle.tasks.specs.Tasks.{inBatch, writesFile, isForced, shift, pileTask, otherTask, verbTask, askedIn, typesTask, wordsTask, lineTask, taskOf, filesRead, filesOf, isWriting};
 ghost use Rattle.tasks.specs.Mistakes.{usageText, mistakeText};
 
 // What is wrong with a line; `Words` has the command whose words are not as many as it takes, or none that there is, and `TypesWords` a question about a
@@ -157,18 +157,28 @@ fn verb_task(line: &[u8], separator: u8) -> Task
     other_task(verb, count, more)
 }
 
+// What it asks.
+fn asked_in(line: &[u8], separator: u8) -> Asked
+    ensures { λ r. ⌜ r ≡ askedIn (wordsOf separator (now (line .entry))) ⌝ }
+{
+    let second = words::word(line, separator, 1);
+    let which = words::word(line, separator, 4);
+    let a = second.from;
+    let b = second.end;
+    let c = which.from;
+    let d = which.end;
+    rdb_tasks::asked_of(&line[a..b], &line[c..d])
+}
+
 // A question about a types.rdb.
 fn types_task(line: &[u8], separator: u8) -> Task
     ensures { λ r. ⌜ r ≡ typesTask (wordsOf separator (now (line .entry))) ⌝ }
 {
     let first = words::word(line, separator, 0);
-    let second = words::word(line, separator, 1);
-    let a = first.from;
-    let b = first.end;
-    let c = second.from;
-    let d = second.end;
-    let m = rdb_tasks::reading_of(&line[a..b]);
-    let asked = rdb_tasks::asked_of(&line[c..d]);
+    let from = first.from;
+    let end = first.end;
+    let m = rdb_tasks::reading_of(&line[from..end]);
+    let asked = asked_in(line, separator);
     if rdb_tasks::has_words(asked, words::word_count(line, separator)) {
         return Task::Types(m, asked);
     }

@@ -2,7 +2,7 @@
 -- Assumes nothing.
 use Rattle.number.proofs.Tools.{needs}
 use Rattle.commands.specs.Answer.{taskAnswer, answerOf}
-use Rattle.commands.proofs.ReplyLaws.{says-replies, silent-says}
+use Rattle.commands.proofs.ReplyLaws.{says-replies, opens-replies, silent-says}
 use Rattle.commands.proofs.answer.Statement.{statement}
 use Rattle.commands.proofs.answer.Tie as tie
 
@@ -22,7 +22,7 @@ returns-3 c =
 
 returns-4 : tie.Need-returns-4
 unfolding answerOf taskAnswer
-returns-4 c = rw (← c .before .before .before .before .before .before .task-of .ensures, c .before .before .before .before .m .given .1) (says-replies _ _ _ _ _ _ _ _ (c .before .ask .ensures) (c .answered3 .ensures))
+returns-4 c = rw (← c .before .before .before .before .before .before .before .task-of .ensures, c .before .before .before .before .before .m .given .1, ← c .before .before .before .in-batch .ensures) (opens-replies _ _ _ _ _ _ _ _ (c .before .open .ensures) (c .opened .ensures))
 
 pub answer-spec : {M : Type 1} → statement M
 answer-spec =
@@ -38,6 +38,7 @@ answer-spec =
     (λ c κs. search needs)
     (λ c κs. search needs)
     (λ c. search needs)
+    (λ c κs. search needs)
     (λ c κs. search needs)
     (λ c κs. search needs)
     returns

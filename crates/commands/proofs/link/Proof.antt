@@ -2,7 +2,7 @@
 -- Assumes nothing.
 use Rattle.number.proofs.Tools.{ap, _∙_, needs}
 use Rattle.commands.specs.Answer.{linkedSave, linkedWhose, verbAnswer}
-use Rattle.listed.proofs.OpenLaws.{says-opens}
+use Rattle.streamed.proofs.StreamLaws.{says-opens}
 use Rattle.commands.proofs.link.Statement.{statement}
 use Rattle.commands.proofs.link.Tie as tie
 

@@ -2,26 +2,25 @@
 -- Assumes nothing.
 use lib.Seq.{length-take-le}
 use mathlib.Core.List.{List}
-use mathlib.Core.Logic.{_⊎_, inl, inr}
 use Rattle.number.proofs.Tools.{sym, _∙_, ℕ, needs}
-use Rattle.listed.specs.Rest.{buffers, LeftIn}
+use Rattle.streamed.specs.Stream.{buffers, LeftOf}
 use Rattle.runs.proofs.RestLaws.{fewer}
 use Rattle.runs.proofs.streams.put_each.Statement.{statement}
 use Rattle.runs.proofs.streams.put_each.Tie as tie
 
 abbrev Inv-loop : tie.InvT-loop
-Inv-loop file in-batch out₀ rest₀ out rest = (text : List ℕ) × LeftIn in-batch file rest text
+Inv-loop file in-batch out₀ rest₀ out rest = (text : List ℕ) × LeftOf in-batch file rest text
 
 abbrev μ-loop : tie.MeasureT-loop
-μ-loop file in-batch out₀ rest₀ out rest = buffers rest
+μ-loop file in-batch out₀ rest₀ out rest = buffers file rest
 
 loop-less : tie.Need-loop-less Inv-loop μ-loop
-loop-less c = fewer (c .before .before .before .before .before .before .before .before .before .before .loop .rest) (c .before .before .before .before .before .before .go-on .result .rest) (sym (c .before .before .before .before .before .before .before .before .before .is-over .ensures) ∙ c .before .before .before .before .before .before .before .before .if1 .left) (c .before .before .before .before .before .before .go-on .ensures .fewer)
+loop-less c = fewer _ (c .before .before .before .before .before .before .before .before .before .loop .rest) (c .before .before .before .before .before .go-on .result .rest) (sym (c .before .before .before .before .before .before .before .before .is-over .ensures) ∙ c .before .before .before .before .before .before .before .if1 .left) (c .before .before .before .before .before .go-on .ensures .fewer)
 
 loop-again : tie.Need-loop-again Inv-loop μ-loop
 loop-again c =
-    let i = c .before .before .before .before .before .before .before .before .before .before .loop .inv in
-    let g = c .before .before .before .before .before .before .go-on .ensures .each (i .0) (i .1) in
+    let i = c .before .before .before .before .before .before .before .before .before .loop .inv in
+    let g = c .before .before .before .before .before .go-on .ensures .each (i .0) (i .1) in
     (g .rest, g .left)
 
 pub put-each-spec : {M : Type 1} → statement M
