@@ -1,9 +1,12 @@
 //! Prints how long this program and the linked library take for the same calls, timed in turns on
 //! the same inputs, as the tables of docs/BENCHMARKS.md. Fails where the two differ, in an answer or
 //! in a byte that they write; no time makes it fail.
-//! usage: bench [XPT]
+//! usage: bench [XPT [typelibs|rdb]]
 //!
-//! XPT is the program whose `list FILE` is timed, target/bin/xpt if not given.
+//! XPT is the program whose `list FILE` is timed, target/bin/xpt if not given; then one of the two parts,
+//! both if not given.
+
+mod rdb;
 
 use linked::LIBRARY;
 use second::library::cases::Asked;
@@ -17,6 +20,7 @@ use second::program::check::accept;
 use second::program::format::MAX_FILE;
 use second::program::link::LinkRefusal;
 use second::program::questions::{Kind, Lookup};
+use second::program::rdb::questions::{Constant, Entity};
 use second::program::Answer;
 use std::error::Error;
 use std::fmt;
@@ -241,6 +245,8 @@ fn absent(lib: &Accepted, index: u64, (kind, name): (Kind, &[u8])) -> Vec<u8> {
 enum Answered {
     Check(Answer),
     Question(Reply),
+    Entity(Lookup<Entity>),
+    Value(Lookup<Constant>),
     Written(Result<usize, LinkRefusal>),
     Salvaged(Salvaged),
     /// So many bytes came through the pipe.
@@ -261,11 +267,19 @@ impl fmt::Display for Answered {
             Answered::Salvaged(Err(refusal)) => {
                 write!(f, "refused {} {}", refusal.number, refusal.place)
             }
-            Answered::Question(Lookup::Found(_)) => f.write_str("found"),
-            Answered::Question(Lookup::None) => f.write_str("none"),
-            Answered::Question(Lookup::Undetermined(_)) => f.write_str("undetermined"),
-            Answered::Question(Lookup::Refused(_)) => f.write_str("refused"),
+            Answered::Question(reply) => f.write_str(looked_up(reply)),
+            Answered::Entity(reply) => f.write_str(looked_up(reply)),
+            Answered::Value(reply) => f.write_str(looked_up(reply)),
         }
+    }
+}
+
+fn looked_up<T>(reply: &Lookup<T>) -> &'static str {
+    match reply {
+        Lookup::Found(_) => "found",
+        Lookup::None => "none",
+        Lookup::Undetermined(_) => "undetermined",
+        Lookup::Refused(_) => "refused",
     }
 }
 
@@ -563,14 +577,23 @@ fn processor() -> Outcome<String> {
     Ok(name.map_or("unknown", str::trim).to_string())
 }
 
-fn run(listing: &Listing) -> Outcome<()> {
+fn run(listing: &Listing, part: Option<&str>) -> Outcome<()> {
     let (date, kit) = (said("date", &["-u", "+%F"])?, said("rt", &["--version"])?);
     println!("{date}; {kit}; {}; {}.\n", said("rustc", &["--version"])?, processor()?);
     println!("{CLEARED}");
-    println!("Ordinary files:\n");
-    ordinary(listing)?;
-    println!("\nThe legal worst cases:\n");
-    worst(listing)
+    if part != Some("rdb") {
+        println!("Ordinary files:\n");
+        ordinary(listing)?;
+        println!("\nThe legal worst cases:\n");
+        worst(listing)?;
+    }
+    if part != Some("typelibs") {
+        println!("\nOrdinary files of types.rdb, as office suites write them:\n");
+        rdb::ordinary()?;
+        println!("\nThe legal worst cases of types.rdb, as the document says:\n");
+        rdb::worst()?;
+    }
+    Ok(())
 }
 
 fn main() -> ExitCode {
@@ -582,7 +605,9 @@ fn main() -> ExitCode {
         return ExitCode::FAILURE;
     }
     let listing = Listing { rust, xpt, file: folder.join("file.xpt") };
-    let done = fs::create_dir(&folder).map_err(Into::into).and_then(|()| run(&listing));
+    let part = std::env::args().nth(2);
+    let made = fs::create_dir(&folder).map_err(Into::into);
+    let done = made.and_then(|()| run(&listing, part.as_deref()));
     _ = fs::remove_dir_all(&folder);
     match done {
         Ok(()) => ExitCode::SUCCESS,

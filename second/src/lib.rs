@@ -20,8 +20,9 @@
 //!   `library/cases.rs`, its numbers in `library/lists.rs`, and a driver beside
 //!   `library/questions.rs`;
 //! - for types.rdb: a rule in `program/rdb`, a field or a record in `making/rdb.rs` with its faults in
-//!   `making/rdb_damage.rs`, a file that is hard on a check in `making/rdb_hostile.rs`, a call in
-//!   `library::rdb::Program` and `linked/src/saniotka/rdb.rs`, a command in `line/rdb.rs`;
+//!   `making/rdb_damage.rs`, a file that is hard on a check in `making/rdb_hostile.rs`, an ordinary one for
+//!   the benchmark in `making/rdb_ordinary.rs`, a call in `library::rdb::Program` and
+//!   `linked/src/saniotka`, a command in `line/rdb.rs`;
 //! - a command of `xpt`: its answer in `line/answers.rs`, its words in `line/malformed.rs`, a method
 //!   of `Script`, and a story.
 
@@ -31,7 +32,7 @@ pub mod making;
 pub mod program;
 pub mod tally;
 
-use std::{collections::BTreeMap, process::ExitCode, sync::Mutex};
+use std::{collections::BTreeMap, process::ExitCode, sync::Mutex, thread::Builder};
 
 /// Tells how a comparison ended.
 pub fn ended(good: std::io::Result<bool>) -> ExitCode {
@@ -50,7 +51,9 @@ pub fn in_parallel<T: Send, R: Send>(items: Vec<T>, task: impl Fn(T) -> R + Sync
     let next = || waiting.lock().unwrap().next();
     let work = || std::iter::from_fn(next).map(|(i, item)| (i, task(item))).collect::<Vec<_>>();
     std::thread::scope(|scope| {
-        let workers: Vec<_> = (0..cores).map(|_| scope.spawn(work)).collect();
+        // As much stack as a program's first thread has: a call about a types.rdb may need two of these MiB.
+        let worker = || Builder::new().stack_size(8 << 20).spawn_scoped(scope, work);
+        let workers: Vec<_> = (0..cores).map(|_| worker().expect("a thread")).collect();
         let done = workers.into_iter().flat_map(|worker| worker.join().expect("it ends well"));
         let in_order: BTreeMap<usize, R> = done.collect();
         in_order.into_values().collect()

@@ -476,5 +476,5 @@ fn what_is_told_and_counted() {
         "rdb-batches",
         "rdb-alone",
     ];
-    assert_eq!(parts.map(|part| floors(part).len()).iter().sum::<usize>(), 1342);
+    assert_eq!(parts.map(|part| floors(part).len()).iter().sum::<usize>(), 1428);
 }

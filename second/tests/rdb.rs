@@ -3,8 +3,8 @@
 use second::library::cases::bytes;
 use second::library::rdb::{hostile, run, Case, Program, OWN};
 use second::line::rdb::{answered, Question};
-use second::making::{rdb, rdb_damage, rdb_hostile};
-use second::program::rdb::{check, Reading, MAX_ENTRIES};
+use second::making::{rdb, rdb_damage, rdb_hostile, rdb_ordinary};
+use second::program::rdb::{accept_by, check, Memory, Reading, MAX_ENTRIES};
 use second::program::{Refusal, MAX_FILE};
 use std::panic::catch_unwind;
 
@@ -79,6 +79,10 @@ fn made_files() {
     let mut wrong = Vec::new();
     rdb_damage::everything(7, 60, &mut |made| {
         let answer = check(made.bytes, made.reading);
+        // As with all remembered from the start.
+        let memory = Memory { stretch: 2, often: 0 };
+        let remembered = accept_by(made.bytes, made.reading, memory).map(|lib| lib.visited);
+        assert_eq!(remembered, answer, "{}", made.how);
         seen[answer.map_or_else(|why| why.number as usize, |_| 0)] += 1;
         if made.known.is_some_and(|known| known != answer) && wrong.len() < 5 {
             wrong.push((made.how, made.reading, made.known, answer, made.bytes.len()));
@@ -128,4 +132,15 @@ fn planted_differences() {
 #[ignore = "it takes a while; `compare_rdb` holds its own run against the floors"]
 fn floors() {
     assert!(run(3, 400, OWN) && hostile(OWN));
+}
+
+#[test]
+fn ordinary_files() {
+    let sizes = rdb_ordinary::SHAPES.each_ref().map(|shape| {
+        let file = rdb_ordinary::ordinary(shape);
+        // Read-only attributes have no set exceptions.
+        assert!(check(&file, Reading::Literal).is_err());
+        (file.len(), check(&file, Reading::Office))
+    });
+    assert_eq!(sizes, [(58_560, Ok(491)), (332_436, Ok(9_527)), (674_149, Ok(7_523))]);
 }

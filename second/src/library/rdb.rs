@@ -1,6 +1,7 @@
 //! types.rdb through the library: checks of all that is made by both readings, entities and constants by path.
 
 use super::cases::{shown, shrink};
+use crate::in_parallel;
 use crate::making::{rdb_damage::everything, rdb_damage::Made, rdb_hostile, rng::Rng};
 use crate::program::questions::Lookup;
 use crate::program::rdb::questions::{Constant, Entity};
@@ -130,7 +131,7 @@ fn compare(made: &Made, other: &Program, rng: &mut Rng, tally: &mut Tally) {
             found(made.how, Asked::Check, reading, made.bytes, other);
         }
     }
-    let about = ["literal", "office"][usize::from(made.reading == Reading::Office)];
+    let about = made.reading.word();
     count_answer(tally, about, own);
     if let Some(Err(why)) = made.known {
         let came =
@@ -171,23 +172,23 @@ pub fn run(seed: u64, rounds: usize, other: Program) -> bool {
     tally.is_enough()
 }
 
-/// So long may a check of a hostile file take.
-const PATIENCE: Duration = Duration::from_secs(15);
-
-/// Times both programs on files that are hard on them. Whether they answer alike, the other one soon enough.
+/// Times both programs on files that are hard on them, by both readings. Whether they accept them alike.
 pub fn hostile(other: Program) -> bool {
-    let mut all_good = true;
-    for case in rdb_hostile::cases() {
-        println!("{} ({} bytes)", case.name, case.bytes.len());
-        for (who, program) in [("this", OWN), ("linked", other)] {
+    let cases = rdb_hostile::cases();
+    let checks = cases.iter().flat_map(|case| Reading::BOTH.map(|reading| (case, reading)));
+    let done = in_parallel(checks.collect(), |(case, reading)| {
+        let [this, linked] = [OWN, other].map(|program| {
             let start = Instant::now();
-            let answer = (program.check)(&case.bytes, Reading::Literal);
-            let time = start.elapsed();
-            let good = answer == Ok(case.visited) && (who == "this" || time < PATIENCE);
-            let told = if good { "" } else { "  WRONG" };
-            println!("  {who:<8}{:>10.2} ms  {}{told}", time.as_secs_f64() * 1e3, shown(answer));
-            all_good &= good;
-        }
+            ((program.check)(&case.bytes, reading), start.elapsed().as_secs_f64() * 1e3)
+        });
+        let good = [this.0, linked.0] == [Ok(case.visited); 2];
+        let times = format!("this {:>8.1} ms  linked {:>8.1} ms", this.1, linked.1);
+        let wrong = if good { "" } else { "  WRONG" };
+        (good, format!("{times}  {}, {}{wrong}", reading.word(), shown(linked.0)))
+    });
+    for (case, pair) in cases.iter().zip(done.chunks(2)) {
+        println!("{} ({} bytes)", case.name, case.bytes.len());
+        pair.iter().for_each(|(_, text)| println!("  {text}"));
     }
-    all_good
+    done.iter().all(|(good, _)| *good)
 }

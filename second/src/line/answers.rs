@@ -257,7 +257,7 @@ fn hex(bytes: &[u8], rng: &mut Rng) -> Vec<u8> {
 }
 
 /// Decimal digits, now and then with zeros before them.
-fn decimal(number: u64, rng: &mut Rng) -> Vec<u8> {
+pub fn decimal(number: u64, rng: &mut Rng) -> Vec<u8> {
     let zeros = match rng.below(20) {
         0 => 1,
         1 => rng.below(30),

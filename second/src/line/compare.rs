@@ -84,9 +84,7 @@ pub fn tells(line: &[u8], (refusal, files, [held, end]): &Told) -> bool {
     let is_of = |refusal: &Refusal| {
         has(refusal.number as usize) && (!is_of_file(refusal.number) || has(refusal.place))
     };
-    refusal.as_ref().is_none_or(is_of)
-        && bare.contains(held)
-        && bare.ends_with(end)
+    refusal.as_ref().is_none_or(is_of) && bare.contains(held) && bare.ends_with(end)
 }
 
 /// How the errors begin that are about a command's words as a whole.

@@ -44,7 +44,8 @@ const USAGES: [&str; 13] = [
     "salvage [-f] FILE OUT",
 ];
 
-const COMMANDS: &str = "check list table iid looks key method slot const normal adopt link salvage rdb office";
+const COMMANDS: &str =
+    "check list table iid looks key method slot const normal adopt link salvage rdb office";
 
 /// What the error says, of the kinds where that is fixed.
 fn told(kind: &str, words: &[Vec<u8>]) -> Option<String> {
@@ -187,14 +188,14 @@ fn with_index(rng: &mut Rng, index: fn(&mut Rng) -> String) -> Vec<u8> {
     .into()
 }
 
-fn not_decimal(rng: &mut Rng) -> String {
+pub fn not_decimal(rng: &mut Rng) -> String {
     const WORDS: [&str; 12] =
         ["+1", "-1", "0x1", "1.0", "1e0", "one", "1,0", "1a", "a1", "-", "\u{661}", "1_0"];
     rng.pick(&WORDS).to_string()
 }
 
 /// Numbers of which a part that fits would be good.
-fn too_large(rng: &mut Rng) -> String {
+pub fn too_large(rng: &mut Rng) -> String {
     const NUMBERS: [&str; 7] = [
         // 2 to the 64th, and 1 more.
         "18446744073709551616",

@@ -1,16 +1,13 @@
 //! The commands on types.rdb: what they must answer, and stories of them.
 
-use super::answers::{Bytes, Outcome, Words};
-use super::script::{Name, Script, INPUT};
+use super::answers::{decimal, Bytes, Outcome, Words};
+use super::malformed::{not_decimal, too_large};
+use super::script::{Count, Name, Script, INPUT, SUBFOLDER};
 use crate::library::{cases::shown, rdb::paths};
-use crate::making::{rdb_damage::everything, rng::Rng};
+use crate::making::{rdb::Writer, rdb_damage::everything, rng::Rng};
 use crate::program::rdb::questions::Constant;
 use crate::program::rdb::{accept, Accepted, Reading, Which};
 use std::{collections::BTreeMap, io, path::Path};
-
-/// Whether the program has `part` and `list`, whose answers may be as long as a file: their floors are noted
-/// beside those that are held.
-const HAS_LONG: bool = false;
 
 /// What is asked of a file, paths as their bytes.
 #[derive(Clone, Debug)]
@@ -23,19 +20,28 @@ pub enum Question {
 }
 
 impl Question {
-    /// The command's word, and the words after the file's.
-    pub fn words(&self) -> (&'static str, Words) {
+    fn command(&self) -> &'static str {
         match self {
-            Question::Check => ("check", Vec::new()),
-            Question::List => ("list", Vec::new()),
-            Question::Entity(path) => ("entity", vec![path.clone()]),
-            Question::Const(path) => ("const", vec![path.clone()]),
-            Question::Part(path, which, i, j) => {
-                let indexes = [i, j].into_iter().take(which.indexes());
-                let start = [path.clone(), which.word().into()].into_iter();
-                ("part", start.chain(indexes.map(|i| i.to_string().into())).collect())
-            }
+            Question::Check => "check",
+            Question::List => "list",
+            Question::Entity(_) => "entity",
+            Question::Const(_) => "const",
+            Question::Part(..) => "part",
         }
+    }
+
+    /// The command's word, and the words after the file's.
+    pub fn words(&self, rng: &mut Rng) -> (&'static str, Words) {
+        let words = match self {
+            Question::Check | Question::List => Vec::new(),
+            Question::Entity(path) | Question::Const(path) => vec![path.clone()],
+            Question::Part(path, which, i, j) => {
+                let positions = [i, j].into_iter().take(which.indexes());
+                let start = [path.clone(), which.word().into()].into_iter();
+                start.chain(positions.map(|i| decimal(*i, rng))).collect()
+            }
+        };
+        (self.command(), words)
     }
 
     /// A question from its words.
@@ -58,8 +64,33 @@ impl Question {
     pub fn row(&self) -> &'static str {
         match self {
             Question::Part(_, which, ..) => which.word(),
-            other => other.words().0,
+            other => other.command(),
         }
+    }
+
+    /// What a long answer counts as; listings also by what they have so many lines of.
+    pub fn sizes(&self, outcome: &Outcome) -> Vec<Count> {
+        let (Question::List | Question::Part(..), None) = (self, outcome.refusal) else {
+            return Vec::new();
+        };
+        let text = outcome.text.as_deref().unwrap_or_default();
+        let mut rows = vec![
+            ("over 64 KiB", text.len() > 1 << 16, None),
+            ("over 128 KiB", text.len() > 1 << 17, None),
+        ];
+        if let Question::List = self {
+            let lines = || text.split(|byte| *byte == b'\n').filter(|line| !line.is_empty());
+            let longest = lines().map(<[u8]>::len).max().unwrap_or(0);
+            rows.push(("over 512 KiB", text.len() > 1 << 19, None));
+            rows.push(("a line over 64 KiB", longest > 1 << 16, None));
+            rows.push(("of no line", text.is_empty(), None));
+            for (what, of) in [("with entities", b'E'), ("with constants", b'C')] {
+                let count = lines().filter(|line| line[0] == of).count();
+                rows.push((what, count > 0, Some(count as u64)));
+            }
+        }
+        let counted = rows.into_iter().filter(|(_, is, _)| *is);
+        counted.map(|(what, _, place)| (self.command(), what, place)).collect()
     }
 }
 
@@ -94,55 +125,142 @@ pub fn answered(file: &[u8], reading: Reading, question: &Question) -> Outcome {
     }
 }
 
-/// Parts that are there and others, so many; and some constants.
+/// A position, or one behind it: the next, or with the same bits at its end.
+fn position(rng: &mut Rng, i: usize) -> u64 {
+    match rng.below(16) {
+        0 | 1 => i as u64 + 1,
+        2 => i as u64 | 1 << 32,
+        3 => i as u64 | *rng.pick(&[1 << 8, 1 << 16, 1 << 31, 1 << 63]),
+        4 => *rng.pick(&[u64::MAX, u64::MAX - 1, 1 << 20]),
+        _ => i as u64,
+    }
+}
+
+/// Parts that are there and others, so many, and all that are long; and some constants.
 fn parts(lib: &Accepted, rng: &mut Rng, count: usize) -> Vec<Question> {
     let paths = lib.paths(300);
     let constants = paths.iter().filter(|path| lib.constant(path).is_some()).cloned();
     let mut some: Vec<_> = constants.take(count / 3).map(Question::Const).collect();
-    let mut all = Vec::new();
-    for path in paths {
-        lib.each_part(&path, &mut |which, i, j, _| all.push((path.clone(), which, i, j)));
-        if all.is_empty() {
-            all.push((path, Which::Note, 0, 0));
+    let mut all = vec![Vec::new(); Which::ALL.len()];
+    for path in &paths {
+        let mut is_empty = true;
+        lib.each_part(path, &mut |which, i, j, part| {
+            is_empty = false;
+            all[which as usize].push((path, which, i, j));
+            if part.length() > 10_000 {
+                some.push(Question::Part(path.clone(), which, i as u64, j as u64));
+            }
+        });
+        if is_empty {
+            all[Which::Note as usize].push((path, Which::Note, 0, 0));
         }
     }
+    all.retain(|parts| !parts.is_empty());
     for _ in 0..if all.is_empty() { 0 } else { count } {
-        let (path, mut which, i, j) = rng.pick(&all).clone();
-        let (mut i, mut j) = (i as u64, j as u64);
-        match rng.below(8) {
-            0 => which = *rng.pick(Which::ALL),
-            1 => i += 1,
-            2 if which.indexes() == 2 => j += 1,
-            3 => i = *rng.pick(&[0, 1, 1 << 32, u64::MAX]),
-            _ => {}
-        }
-        some.push(Question::Part(path, which, i, j * u64::from(which.indexes() == 2)));
+        let of = rng.pick(&all);
+        let &(path, which, i, j) = rng.pick(of);
+        let which = if rng.percent(15) { *rng.pick(Which::ALL) } else { which };
+        let path = if rng.percent(5) { rng.pick(&paths) } else { path };
+        let j = if which.indexes() == 2 { position(rng, j) } else { 0 };
+        some.push(Question::Part(path.clone(), which, position(rng, i), j));
     }
     some
 }
 
-/// Questions of a file by one reading, and its check by both.
+/// Questions of a file by one reading, and its check and its listing by both.
 fn story(script: &mut Script, file: &Name, reading: Reading, count: usize) {
     let Some(bytes) = script.content(file).cloned() else { return };
     script.story();
-    Reading::BOTH.into_iter().for_each(|reading| script.rdb(file, reading, &Question::Check));
-    let lib = accept(&bytes, reading);
-    if HAS_LONG && lib.as_ref().map_or(true, |lib| lib.visited < 3_000) {
+    for reading in Reading::BOTH {
+        script.rdb(file, reading, &Question::Check);
         script.rdb(file, reading, &Question::List);
     }
+    let lib = accept(&bytes, reading);
     let count = if lib.is_ok() { count } else { 1 };
     for path in paths(&bytes, reading, &mut script.rng, count) {
         script.rdb(file, reading, &Question::Entity(path.clone()));
-        script.rdb(file, reading, &Question::Const(path));
-    }
-    for question in lib.map_or_else(|_| Vec::new(), |lib| parts(&lib, &mut script.rng, 3 * count)) {
-        if HAS_LONG || !matches!(question, Question::Part(..)) {
-            script.rdb(file, reading, &question);
+        script.rdb(file, reading, &Question::Const(path.clone()));
+        if lib.is_err() {
+            let which = *script.rng.pick(Which::ALL);
+            script.rdb(file, reading, &Question::Part(path, which, 0, 0));
         }
+    }
+    let parts = lib.map_or_else(|_| Vec::new(), |lib| parts(&lib, &mut script.rng, 3 * count));
+    parts.iter().for_each(|question| script.rdb(file, reading, question));
+}
+
+/// Lines that can be asked; `F` stands for the file.
+const GOOD: [&str; 6] = [
+    "check F",
+    "list F",
+    "entity F a",
+    "const F a.b",
+    "part F a entry 0",
+    "part F a parameter 0 0",
+];
+
+/// The kinds of lines that can't, made from a good one, and how.
+type Line = fn(&mut Rng, &str) -> String;
+const MISTAKES: [(&str, Line); 11] = [
+    ("no question", |_, _| String::new()),
+    ("unknown question", |rng, some| {
+        let (_, rest) = some.split_once(' ').unwrap_or_default();
+        format!("{} {rest}", rng.pick(&["chekc", "List", "lists", "parts", "slot", "0", "F"]))
+    }),
+    ("too few words", |rng, some| {
+        let words: Vec<&str> = some.split(' ').collect();
+        words[..rng.range(1, words.len() - 1)].join(" ")
+    }),
+    ("too many words", |rng, some| format!("{some} {}", rng.pick(&["more", "0", "-", "F"]))),
+    ("unknown part", |rng, _| {
+        const WORDS: [&str; 9] =
+            ["Entry", "entrys", "entr", "ENTRY", "0", "-", "methods", "note-note", "base_note"];
+        format!("part F a {} 0{}", rng.pick(&WORDS), rng.pick(&["", " 0"]))
+    }),
+    ("a position too few", |rng, _| format!("part F a {} 0", of_positions(rng, 2))),
+    ("a position too many", |rng, _| format!("part F a {} 0 0", of_positions(rng, 1))),
+    ("position not decimal", |rng, _| with_position(rng, not_decimal)),
+    ("position over 64 bits", |rng, _| with_position(rng, too_large)),
+    ("an empty word", |rng, _| {
+        let lines =
+            ["part F a  0", "part F a entry ", "part F a base-note  0", "part F a base-note 0 "];
+        rng.pick(&lines).to_string()
+    }),
+    ("file absent or a folder", |rng, some| {
+        some.replacen('F', if rng.percent(50) { "absent" } else { SUBFOLDER }, 1)
+    }),
+];
+
+/// A part that is asked by so many positions.
+fn of_positions(rng: &mut Rng, count: usize) -> &'static str {
+    let all: Vec<_> = Which::ALL.iter().filter(|which| which.indexes() == count).collect();
+    rng.pick(&all).word()
+}
+
+/// A part with one of its positions so.
+fn with_position(rng: &mut Rng, position: fn(&mut Rng) -> String) -> String {
+    let position = position(rng);
+    match rng.below(3) {
+        0 => format!("part F a {} {position}", of_positions(rng, 1)),
+        1 => format!("part F a {} {position} 0", of_positions(rng, 2)),
+        _ => format!("part F a {} 0 {position}", of_positions(rng, 2)),
     }
 }
 
-/// Up to so many refused files of each kind and more good ones, few of them long.
+/// A line of each kind that can't be asked, of a good file or a refused one.
+fn mistakes(script: &mut Script, file: &Name) {
+    for (kind, line) in MISTAKES {
+        let (some, reading) = (*script.rng.pick(&GOOD), *script.rng.pick(&["rdb", "office"]));
+        let line = line(&mut script.rng, some);
+        let word = |word: &str| if word == "F" { file.word.clone() } else { word.to_string() };
+        let words = line.split(' ').filter(|_| kind != "no question").map(word);
+        let words = [reading.to_string()].into_iter().chain(words).map(String::into_bytes);
+        script.story();
+        script.error(words.collect(), kind, None);
+    }
+}
+
+/// Up to so many refused files of each kind and more good ones, few of them long; and some with long names and texts.
 fn sampled(seed: u64, most: usize) -> Vec<(Reading, Bytes)> {
     let rng = &mut Rng::new(seed);
     let mut kinds: BTreeMap<(&str, bool), usize> = BTreeMap::new();
@@ -160,6 +278,9 @@ fn sampled(seed: u64, most: usize) -> Vec<(Reading, Bytes)> {
             kept.push((made.reading, made.bytes.into()));
         }
     });
+    for reading in Reading::BOTH.repeat(most.clamp(3, 8)) {
+        kept.push((reading, Writer::new(rng, reading, false).long().built(12).bytes.into()));
+    }
     rng.shuffle(&mut kept);
     kept
 }
@@ -177,6 +298,9 @@ pub fn run(program: &Path, seed: u64, rounds: u64) -> io::Result<bool> {
                         file.word = INPUT.to_string();
                     }
                     story(script, &file, *reading, if script.alone { 5 } else { 25 });
+                    if i % 6 == 0 {
+                        mistakes(script, &file);
+                    }
                 }
             };
             good &= super::scripts(program, &fill, (name, scripts, 0), seed)?.is_enough();

@@ -22,7 +22,7 @@ type What = &'static str;
 pub type Files = BTreeMap<String, Bytes>;
 
 /// A row of the table, and a place where it has places.
-type Count = (What, What, Option<u64>);
+pub type Count = (What, What, Option<u64>);
 
 /// What the files that a command reads must be answered.
 type To<'a> = &'a dyn Fn(&[&[u8]]) -> Outcome;
@@ -322,7 +322,7 @@ impl Script {
 
     /// A question of a types.rdb, if it can be put so.
     pub fn rdb(&mut self, file: &Name, reading: Reading, question: &rdb::Question) {
-        let (command, words) = question.words();
+        let (command, words) = question.words(&mut self.rng);
         let Some(is_long) = self.is_long(&words) else { return };
         let is_empty = words.iter().any(Vec::is_empty);
         let first = if reading == Reading::Literal { "rdb" } else { "office" };
@@ -331,6 +331,7 @@ impl Script {
         let office = self.content(file).is_some_and(|bytes| accept(bytes, Reading::Office).is_ok());
         let step = self.command(&[first, command], &[file], words, &answer);
         step.counts.push((question.row(), step.outcome.what, None));
+        step.counts.extend(question.sizes(&step.outcome));
         if reading == Reading::Literal && office && !step.told.is_empty() {
             let names = ["xpt office".to_string(), String::new()];
             step.told.push((None, vec![file.word.clone()], names));

@@ -12,5 +12,6 @@ pub mod pairs;
 pub mod rdb;
 pub mod rdb_damage;
 pub mod rdb_hostile;
+pub mod rdb_ordinary;
 pub mod rng;
 pub mod shape;

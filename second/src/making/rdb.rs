@@ -52,6 +52,9 @@ pub const BAD: [&[u8]; 13] = [
     b"\xed\xbf\xbf", b"\xf0\x8f\xbf\xbf", b"\xf1\x80\x80", b"\xf4\x90\x80\x80", b"\xf5\x80\x80\x80", b"\xff",
 ];
 
+/// US-ASCII that is not printed as it is, and may stand in names.
+const ODD: [&[u8]; 6] = [b"\x01", b"\t", b"\n", b" ", b"\\", b"\x7f"];
+
 /// Floating-point values that are easily changed: NaNs of both kinds, infinities, zeros, the least.
 const FLOATS: [u64; 7] =
     [0x7fc0_0000, 0x7f80_0001, 0xffc1_2345, 0x7f80_0000, 0xff80_0000, 0x8000_0000, 1];
@@ -120,6 +123,8 @@ pub struct Writer<'r> {
     /// The next text has so many zero bytes (see `straddling`), and where it came in its record.
     cover: Option<usize>,
     covered: usize,
+    /// So many names and texts may still be long (see `long`).
+    long: usize,
 }
 
 impl<'r> Writer<'r> {
@@ -136,7 +141,32 @@ impl<'r> Writer<'r> {
             constants: Vec::new(),
             cover: None,
             covered: 0,
+            long: 0,
         }
+    }
+
+    /// With some names and texts that are long where they are printed: about one, two or three times 65,536 bytes.
+    pub fn long(mut self) -> Writer<'r> {
+        self.long = 5;
+        self
+    }
+
+    /// The bytes of one, so often as long as there may be some: letters, others, or both.
+    fn long_bytes(&mut self, percent: usize, others: &[&[u8]]) -> Option<Vec<u8>> {
+        if self.long == 0 || !self.rng.percent(percent) {
+            return None;
+        }
+        self.long -= 1;
+        let (printed, letters) = (65_536 * self.rng.range(1, 3), *self.rng.pick(&[0, 50, 95, 100]));
+        let mut left = printed - self.rng.below(60);
+        let mut bytes = Vec::new();
+        while left > 0 {
+            let is_letter = left < 16 || self.rng.percent(letters);
+            let more = if is_letter { b"x" } else { *self.rng.pick(others) };
+            bytes.extend(more);
+            left -= if is_letter { 1 } else { 4 * more.len() };
+        }
+        Some(bytes)
     }
 
     fn place(&mut self, record: Record) -> usize {
@@ -163,7 +193,9 @@ impl<'r> Writer<'r> {
             return at + self.rng.below(length + 1);
         }
         let at = self.bytes.len();
-        for _ in 0..self.rng.below(6) {
+        let long = self.long_bytes(70, &ODD);
+        self.bytes.extend(long.iter().flatten());
+        for _ in 0..if long.is_some() { 0 } else { self.rng.below(6) } {
             let odd = self.rng.percent(5);
             let byte =
                 if odd { self.rng.range(1, 127) as u8 } else { *self.rng.pick(b"abcdeXY_09") };
@@ -180,9 +212,13 @@ impl<'r> Writer<'r> {
             return record
                 .put(what, &[&(length as u32).to_le_bytes()[..], &vec![0; length]].concat());
         }
+        let long = self.long_bytes(15, if what == What::Utf8 { &GOOD[4..] } else { &ODD });
         let rng = &mut *self.rng;
-        let content: Vec<u8> = match what {
-            What::Utf8 => (0..rng.below(4)).flat_map(|_| rng.pick(&GOOD).to_vec()).collect(),
+        let content: Vec<u8> = match (long, what) {
+            (Some(long), _) => long,
+            (None, What::Utf8) => {
+                (0..rng.below(4)).flat_map(|_| rng.pick(&GOOD).to_vec()).collect()
+            }
             _ if rng.percent(15) => (0..rng.below(90)).map(|_| rng.byte() & 0x7f).collect(),
             _ => rng.pick(&ASCII).as_bytes().to_vec(),
         };

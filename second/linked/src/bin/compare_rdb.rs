@@ -1,5 +1,5 @@
 //! Runs this program and the linked library over generated files of types.rdb, and times both on files that are
-//! hard on them: fails on any difference, where too little was covered, and where the library takes too long.
+//! hard on them: fails on any difference and where too little was covered; no time makes it fail.
 //! usage: compare_rdb [files] [hostile] [long] [SEED]
 //!
 //! Without names of parts both are run. `long` runs with twenty seeds.

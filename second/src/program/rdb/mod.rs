@@ -3,10 +3,12 @@
 
 pub mod questions;
 mod record;
+mod stops;
 
 use super::format::{refusal, refuse_if, refused, Refusal, MAX_FILE};
-use record::Reader;
-pub use record::{Part, Text, Which};
+pub use record::{Memory, Part, Text, Which};
+use record::{Reader, MEMORY};
+use std::hash::{Hash, Hasher};
 use std::{collections::HashSet, ffi::CStr};
 
 /// Whether read-only attributes have a count of set exceptions: as document 001 says, or as office suites write.
@@ -18,6 +20,10 @@ pub enum Reading {
 
 impl Reading {
     pub const BOTH: [Reading; 2] = [Reading::Literal, Reading::Office];
+
+    pub fn word(self) -> &'static str {
+        ["literal", "office"][self as usize]
+    }
 }
 
 pub const MAGIC: [u8; 7] = *b"UNOIDL\xff";
@@ -81,11 +87,16 @@ pub fn check(file: &[u8], reading: Reading) -> Result<usize, Refusal> {
 }
 
 pub fn accept(file: &[u8], reading: Reading) -> Result<Accepted<'_>, Refusal> {
+    accept_by(file, reading, MEMORY)
+}
+
+/// Likewise; what is remembered changes no answer.
+pub fn accept_by(file: &[u8], reading: Reading, memory: Memory) -> Result<Accepted<'_>, Refusal> {
     refuse_if(file.len() > MAX_FILE, refusal::TOO_LONG, MAX_FILE)?;
     refuse_if(file.len() < HEADER || file[..7] != MAGIC, refusal::RDB_HEADER, 0)?;
     refuse_if(file[7] != 0, refusal::RDB_HEADER, 7)?;
     let mut walk = Walk {
-        reader: Reader::new(file, reading),
+        reader: Reader::new(file, reading, memory),
         visited: 0,
         good: [Places::of(file.len()), Places::of(file.len())],
     };
@@ -123,6 +134,20 @@ impl Places {
     }
 }
 
+/// A key in a set: of a long one only its length and its ends are hashed.
+#[derive(PartialEq, Eq)]
+struct Key<'a>(&'a [u8]);
+
+impl Hash for Key<'_> {
+    fn hash<H: Hasher>(&self, state: &mut H) {
+        let length = self.0.len();
+        let (first, rest) = self.0.split_at(length.min(32));
+        state.write_usize(length);
+        state.write(first);
+        state.write(&rest[rest.len().saturating_sub(32)..]);
+    }
+}
+
 impl Walk<'_> {
     /// A map's entries, whose payloads start below its holder.
     fn entries(&mut self, map: Map, holder: usize, known: bool) -> Result<(), Refusal> {
@@ -131,12 +156,21 @@ impl Walk<'_> {
             self.visited += map.count;
             return refuse_if(map.count > left, refusal::RDB_TOO_MANY, map.at + ENTRY * left);
         }
-        let mut keys = HashSet::with_capacity(map.count.min(1_024));
-        for entry in map.entries() {
+        let (mut keys, mut last) = (HashSet::new(), None);
+        for (i, entry) in map.entries().enumerate() {
             refuse_if(self.visited == MAX_ENTRIES, refusal::RDB_TOO_MANY, entry)?;
             self.visited += 1;
             let key = self.reader.key(entry)?;
-            refuse_if(!keys.insert(key), refusal::RDB_KEY_TWICE, entry)?;
+            // As long as they rise none of them is there twice.
+            if i == 0 || last.is_some_and(|last| last < key) {
+                last = Some(key);
+            } else {
+                for entry in map.entries().take(if last.is_some() { i } else { 0 }) {
+                    keys.insert(Key(self.reader.key(entry)?));
+                }
+                last = None;
+                refuse_if(!keys.insert(Key(key)), refusal::RDB_KEY_TWICE, entry)?;
+            }
             let payload = self.reader.pointer(entry + 4)?;
             refuse_if(payload >= holder, refusal::RDB_NOT_BELOW, entry + 4)?;
         }

@@ -1,5 +1,6 @@
 //! Answers about an accepted types.rdb: entities and constants by path, counted parts, and the listing.
 
+use super::record::number;
 use super::*;
 use std::io::{self, Write};
 
@@ -41,12 +42,14 @@ impl Constant {
 
 /// The bytes of a text or a path as they are printed.
 pub fn escaped(bytes: &[u8]) -> String {
-    let shown = |byte: &u8| match byte {
-        b'\\' => r"\x5c".to_string(),
-        0x21..=0x7e => char::from(*byte).to_string(),
-        _ => format!(r"\x{byte:02x}"),
-    };
-    bytes.iter().map(shown).collect()
+    let mut shown = String::with_capacity(bytes.len());
+    for byte in bytes {
+        match byte {
+            0x21..=0x7e if *byte != b'\\' => shown.push(char::from(*byte)),
+            _ => shown += &format!(r"\x{byte:02x}"),
+        }
+    }
+    shown
 }
 
 // Nothing of an accepted file is refused when it is read again.
@@ -54,7 +57,7 @@ const GOOD: &str = "the file is accepted";
 
 impl<'a> Accepted<'a> {
     fn reader(&self) -> Reader<'a> {
-        Reader::new(self.file, self.reading)
+        Reader::new(self.file, self.reading, MEMORY)
     }
 
     fn key(&self, entry: usize) -> &'a [u8] {
@@ -62,13 +65,20 @@ impl<'a> Accepted<'a> {
     }
 
     fn word(&self, at: usize) -> usize {
-        self.reader().word_at(at).expect(GOOD)
+        number(self.file, at).expect(GOOD)
     }
 
     /// Where the entry of this key leads.
     fn find(&self, map: Map, key: &[u8]) -> Option<usize> {
-        let mut entries = map.entries();
-        entries.find(|entry| self.key(*entry) == key).map(|entry| self.word(entry + 4))
+        // No name has a zero byte.
+        if key.contains(&0) {
+            return None;
+        }
+        let is_key = |entry: &usize| {
+            let name = &self.file[self.word(*entry)..];
+            name.strip_prefix(key).is_some_and(|rest| rest[0] == 0)
+        };
+        map.entries().find(is_key).map(|entry| self.word(entry + 4))
     }
 
     /// The map of a module or a constant group.
@@ -143,13 +153,14 @@ impl<'a> Accepted<'a> {
 
     /// A part as it is printed.
     pub fn shown(&self, part: Part) -> String {
-        let text = |Text { at, length }: Text| {
-            format!("{at} {length} {}", escaped(&self.file[at..at + length]))
+        let text = |Text { at, length }: Text| match length {
+            0 => format!("{at} 0"),
+            _ => format!("{at} {length} {}", escaped(&self.file[at..at + length])),
         };
         match part {
             Part::Text(of) => text(of),
-            Part::Entry(key, kind, at) => format!("{} {kind} {at}", text(key)),
-            Part::Member(name, value) => format!("{} {value}", text(name)),
+            Part::Entry(key, kind, at) => format!("{kind} {at} {}", text(key)),
+            Part::Member(name, value) => format!("{value} {}", text(name)),
             Part::Typed(kind, name, of) => format!("{kind} {} {}", text(name), text(of)),
             Part::Method(name, of) => format!("{} {}", text(name), text(of)),
         }

@@ -1,13 +1,26 @@
 //! Reads the records of a types.rdb from left to right, and tells their counted parts.
 
+use super::stops::Stops;
 use super::*;
 use std::collections::HashMap;
 
 /// What the bytes of a text may be.
-#[derive(Clone, Copy, PartialEq, Eq, Hash)]
+#[derive(Clone, Copy)]
 pub enum Rule {
     Ascii,
     Utf8,
+}
+
+/// What a record has runs of.
+#[derive(Clone, Copy, PartialEq, Eq, Hash)]
+enum Item {
+    Name,
+    Note,
+    Member,
+    Base,
+    Attribute,
+    Method,
+    Parameter,
 }
 
 /// Where the bytes of a text or a name stand.
@@ -29,6 +42,16 @@ pub enum Part {
     Typed(u8, Text, Text),
     /// A method: name and return type.
     Method(Text, Text),
+}
+
+impl Part {
+    /// The bytes of its texts.
+    pub fn length(self) -> usize {
+        match self {
+            Part::Text(text) | Part::Entry(text, ..) | Part::Member(text, _) => text.length,
+            Part::Typed(_, name, of) | Part::Method(name, of) => name.length + of.length,
+        }
+    }
 }
 
 macro_rules! parts {
@@ -72,35 +95,43 @@ parts! {
     Exception "exception" 2;
 }
 
-/// Texts that are longer are remembered where they are pointed to.
-const LONG: usize = 64;
+/// When a reader starts to remember.
+#[derive(Clone, Copy)]
+pub struct Memory {
+    /// Stretches of runs end where a place passes a multiple of 2 to this.
+    pub stretch: u32,
+    /// Many names and texts overlap where their bytes are more than so many times those of the file.
+    pub often: usize,
+}
 
-/// So many texts are remembered as a run.
-const MANY: usize = 1_024;
+/// So late that an ordinary file costs no more for it.
+pub(super) const MEMORY: Memory = Memory { stretch: 12, often: 8 };
 
 pub(super) struct Reader<'a> {
     file: &'a [u8],
     reading: Reading,
+    memory: Memory,
     pub at: usize,
-    /// Long texts that are good.
-    good: HashSet<(usize, Rule)>,
-    /// Where a run of texts that are good ends: one that starts here, of so many.
-    ends: HashMap<(usize, usize, Rule), usize>,
+    /// The good items from a place on, annotated or not: how many, and where the next stretch starts.
+    stretches: HashMap<(usize, Item, bool), (usize, usize)>,
+    /// The bytes of names and texts so far; and what is known of all places once they are many.
+    read: usize,
+    stops: Option<Stops>,
+}
+
+/// The 4-byte number at `at`, if it fits.
+pub(super) fn number(file: &[u8], at: usize) -> Option<usize> {
+    let bytes = file.get(at..)?.first_chunk()?;
+    Some(u32::from_le_bytes(*bytes) as usize)
 }
 
 impl<'a> Reader<'a> {
-    pub fn new(file: &'a [u8], reading: Reading) -> Reader<'a> {
-        Reader { file, reading, at: 0, good: HashSet::new(), ends: HashMap::new() }
-    }
-
-    /// The 4-byte number at `at`, if it fits.
-    fn number(&self, at: usize) -> Option<usize> {
-        let bytes = self.file.get(at..)?.first_chunk()?;
-        Some(u32::from_le_bytes(*bytes) as usize)
+    pub fn new(file: &'a [u8], reading: Reading, memory: Memory) -> Reader<'a> {
+        Reader { file, reading, memory, at: 0, stretches: HashMap::new(), read: 0, stops: None }
     }
 
     pub fn word_at(&self, at: usize) -> Result<usize, Refusal> {
-        self.number(at).map_or_else(|| refused(refusal::RDB_OUTSIDE, at), Ok)
+        number(self.file, at).map_or_else(|| refused(refusal::RDB_OUTSIDE, at), Ok)
     }
 
     /// An Offset that does not lead past the file's end.
@@ -111,11 +142,31 @@ impl<'a> Reader<'a> {
     }
 
     /// The NUL-Name that an entry names.
-    pub fn key(&self, entry: usize) -> Result<&'a [u8], Refusal> {
-        let name = CStr::from_bytes_until_nul(&self.file[self.pointer(entry)?..]);
-        let Ok(name) = name else { return refused(refusal::RDB_OUTSIDE, entry) };
-        refuse_if(!name.to_bytes().is_ascii(), refusal::RDB_VALUE, entry)?;
-        Ok(name.to_bytes())
+    pub fn key(&mut self, entry: usize) -> Result<&'a [u8], Refusal> {
+        let at = self.pointer(entry)?;
+        let length = match &self.stops {
+            Some(stops) => stops.name(at),
+            None => CStr::from_bytes_until_nul(&self.file[at..]).ok().map(CStr::count_bytes),
+        };
+        let Some(length) = length else { return refused(refusal::RDB_OUTSIDE, entry) };
+        let name = Text { at, length };
+        refuse_if(!self.is_good(name, Rule::Ascii), refusal::RDB_VALUE, entry)?;
+        Ok(&self.file[at..at + length])
+    }
+
+    /// Whether the bytes of a name or a text are as they must be.
+    #[inline]
+    fn is_good(&mut self, Text { at, length }: Text, rule: Rule) -> bool {
+        self.read += length;
+        if self.read > self.memory.often * self.file.len() {
+            let stops = self.stops.get_or_insert_with(|| Stops::of(self.file));
+            return stops.is_good(self.file, at..at + length, rule);
+        }
+        let bytes = &self.file[at..at + length];
+        match rule {
+            Rule::Ascii => bytes.is_ascii(),
+            Rule::Utf8 => bytes.is_empty() || std::str::from_utf8(bytes).is_ok(),
+        }
     }
 
     /// Goes to a record's kind byte and past it.
@@ -146,54 +197,69 @@ impl<'a> Reader<'a> {
         let first = self.word()?;
         let is_pointed = first >> 31 == 1;
         let from = if is_pointed { first & 0x7fff_ffff } else { place };
-        let length = self.number(from).filter(|length| length >> 31 == 0);
-        let bytes = length.and_then(|length| self.file[from + 4..].get(..length));
-        let Some(bytes) = bytes else { return refused(refusal::RDB_OUTSIDE, place) };
-        let is_long = is_pointed && bytes.len() > LONG;
-        if !(is_long && self.good.contains(&(from, rule))) {
-            let is_good = match rule {
-                Rule::Ascii => bytes.is_ascii(),
-                Rule::Utf8 => bytes.is_empty() || std::str::from_utf8(bytes).is_ok(),
-            };
-            refuse_if(!is_good, refusal::RDB_VALUE, place)?;
-            if is_long {
-                self.good.insert((from, rule));
-            }
-        }
+        let length = number(self.file, from).filter(|length| length >> 31 == 0);
+        let fits = |length: &usize| *length <= self.file.len() - from - 4;
+        let Some(length) = length.filter(fits) else {
+            return refused(refusal::RDB_OUTSIDE, place);
+        };
+        let text = Text { at: from + 4, length };
+        refuse_if(!self.is_good(text, rule), refusal::RDB_VALUE, place)?;
         if !is_pointed {
-            self.at += bytes.len();
+            self.at += length;
         }
-        Ok(Text { at: from + 4, length: bytes.len() })
+        Ok(text)
     }
 
     fn name(&mut self) -> Result<Text, Refusal> {
         self.text(Rule::Ascii)
     }
 
-    /// A count and that many texts. Of long runs it is remembered where they end.
-    fn texts(&mut self, rule: Rule, mut take: impl FnMut(usize, Part)) -> Result<(), Refusal> {
+    /// A count and that many items. Where records overlap, stretches of them that were passed before are leapt over:
+    /// none of the first record that a reader reads.
+    fn run(
+        &mut self,
+        item: Item,
+        annotated: bool,
+        mut each: impl FnMut(&mut Self, usize) -> Result<(), Refusal>,
+    ) -> Result<(), Refusal> {
         let count = self.word()?;
-        let mut passed = Vec::new();
-        for i in 0..count {
-            if (count - i).is_multiple_of(MANY) {
-                let run = (self.at, count - i, rule);
-                passed.push(run);
-                if let Some(end) = self.ends.get(&run) {
-                    self.at = *end;
-                    break;
+        let block_of = |reader: &Self| reader.at >> reader.memory.stretch;
+        let (mut i, mut block, mut before) = (0, block_of(self), None);
+        while i < count {
+            if block_of(self) != block {
+                block = block_of(self);
+                let start = (self.at, item, annotated);
+                if let Some((before, passed)) = before.replace((start, i)) {
+                    self.stretches.insert(before, (i - passed, self.at));
+                }
+                if let Some(&(items, next)) = self.stretches.get(&start) {
+                    if items <= count - i {
+                        (i, self.at) = (i + items, next);
+                        continue;
+                    }
                 }
             }
-            take(i, Part::Text(self.text(rule)?));
+            each(self, i)?;
+            i += 1;
         }
-        self.ends.extend(passed.into_iter().map(|run| (run, self.at)));
         Ok(())
     }
 
-    fn notes(&mut self, there: bool, take: impl FnMut(usize, Part)) -> Result<(), Refusal> {
-        if there {
-            self.texts(Rule::Utf8, take)?;
+    fn names(&mut self, mut take: impl FnMut(usize, Part)) -> Result<(), Refusal> {
+        self.run(Item::Name, false, |reader, i| {
+            take(i, Part::Text(reader.name()?));
+            Ok(())
+        })
+    }
+
+    fn notes(&mut self, there: bool, mut take: impl FnMut(usize, Part)) -> Result<(), Refusal> {
+        if !there {
+            return Ok(());
         }
-        Ok(())
+        self.run(Item::Note, false, |reader, i| {
+            take(i, Part::Text(reader.text(Rule::Utf8)?));
+            Ok(())
+        })
     }
 
     /// What follows the kind byte of an entity, or a group's map: the parts of those that are opened.
@@ -217,12 +283,11 @@ impl<'a> Reader<'a> {
         annotated: bool,
         take: &mut impl FnMut(Which, usize, usize, Part),
     ) -> Result<(), Refusal> {
-        for i in 0..self.word()? {
-            let (name, value) = (self.name()?, self.word()?);
+        self.run(Item::Member, annotated, |reader, i| {
+            let (name, value) = (reader.name()?, reader.word()?);
             take(Which::Member, i, 0, Part::Member(name, value as u32));
-            self.notes(annotated, |j, note| take(Which::MemberNote, i, j, note))?;
-        }
-        Ok(())
+            reader.notes(annotated, |j, note| take(Which::MemberNote, i, j, note))
+        })
     }
 
     fn interface(
@@ -232,30 +297,30 @@ impl<'a> Reader<'a> {
     ) -> Result<(), Refusal> {
         use Which::*;
         for (base, note_of) in [(Base, BaseNote), (Optional, OptionalNote)] {
-            for i in 0..self.word()? {
-                take(base, i, 0, Part::Text(self.name()?));
-                self.notes(annotated, |j, note| take(note_of, i, j, note))?;
-            }
+            self.run(Item::Base, annotated, |reader, i| {
+                take(base, i, 0, Part::Text(reader.name()?));
+                reader.notes(annotated, |j, note| take(note_of, i, j, note))
+            })?;
         }
-        for i in 0..self.word()? {
-            let kind = self.byte(3)?;
-            take(Attribute, i, 0, Part::Typed(kind, self.name()?, self.name()?));
-            self.texts(Rule::Ascii, |j, text| take(GetException, i, j, text))?;
-            if self.reading == Reading::Literal || kind & 2 == 0 {
-                self.texts(Rule::Ascii, |j, text| take(SetException, i, j, text))?;
+        self.run(Item::Attribute, annotated, |reader, i| {
+            let kind = reader.byte(3)?;
+            take(Attribute, i, 0, Part::Typed(kind, reader.name()?, reader.name()?));
+            reader.names(|j, text| take(GetException, i, j, text))?;
+            if reader.reading == Reading::Literal || kind & 2 == 0 {
+                reader.names(|j, text| take(SetException, i, j, text))?;
             }
-            self.notes(annotated, |j, note| take(AttributeNote, i, j, note))?;
-        }
-        for i in 0..self.word()? {
-            take(Method, i, 0, Part::Method(self.name()?, self.name()?));
-            for j in 0..self.word()? {
-                let direction = self.byte(2)?;
-                take(Parameter, i, j, Part::Typed(direction, self.name()?, self.name()?));
-            }
-            self.texts(Rule::Ascii, |j, text| take(Exception, i, j, text))?;
-            self.notes(annotated, |j, note| take(MethodNote, i, j, note))?;
-        }
-        Ok(())
+            reader.notes(annotated, |j, note| take(AttributeNote, i, j, note))
+        })?;
+        self.run(Item::Method, annotated, |reader, i| {
+            take(Method, i, 0, Part::Method(reader.name()?, reader.name()?));
+            reader.run(Item::Parameter, false, |reader, j| {
+                let direction = reader.byte(2)?;
+                take(Parameter, i, j, Part::Typed(direction, reader.name()?, reader.name()?));
+                Ok(())
+            })?;
+            reader.names(|j, text| take(Exception, i, j, text))?;
+            reader.notes(annotated, |j, note| take(MethodNote, i, j, note))
+        })
     }
 
     /// A constant: its kind and the bits of its value.
