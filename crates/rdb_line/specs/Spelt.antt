@@ -24,7 +24,7 @@ wordRoom = 4194305
 abbrev pub lineRoom : ℕ
 lineRoom = 75497600
 
--- a line begins at or below this
+-- counted from the first line that a buffer shows, a line begins at or below this
 abbrev pub placeLimit : ℕ
 placeLimit = 4294967296
 

@@ -1,5 +1,5 @@
--- The listing of `xpt rdb list`, which the issue of request #105 asks for: every path of an accepted file, depth first in map order, with what it leads to. An entity stands before what it holds.
--- A key may have a dot: its path, joined, may be that of another entry, and no question leads to it.
+-- The listing of `xpt rdb list`: every path of an accepted file, depth first in map order, with what it leads to. An entity stands before what it holds.
+-- A key may have a dot: its path, joined, may be that of another entry, and no path leads to it, nor to what it holds.
 -- Assumes nothing.
 use mathlib.Core.List.{List, [], _∷_, _++_}
 use Prim.Native.Nat.{ℕ, zero, suc, _+_, _%_}

@@ -23,7 +23,10 @@ use Rattle.rdb_file.specs.Visit.{moduleLimit, countPlace, mapPlace, visitEntity
 use Rattle.rdb_file.specs.File.{rootAt, rootCount, readRoot, readFile}
 use Rattle.rdb_path.specs.Path.{front, last, isCalled, payloadAt, payloadOf, entityIn, entityAt, constantIn, constantAt}
 use Rattle.rdb_path.specs.Reached.{Holds, Checked}
-use Rattle.rdb_path.proofs.Reaching.{map-holds, then-some, only-if}
+use Rattle.rdb_path.proofs.Reaching.{map-holds, then-some, only-if, found-read}
+use Rattle.rdb.specs.Questions.{constantFound}
+use Rattle.rdb.specs.declared.ConstantAnswer.the-variants as constants
+use Rattle.rdb.proofs.AnswerLaws.{value-said}
 use Rattle.rdb_same.proofs.SameLaws.{too-deep, entered}
 use Rattle.rdb_list.specs.Listed.{Line, entityLine, constantLine, pathTo, valueIn, constantLines, entityLines, groupLines, heldLines, listOf}
 use Rattle.rdb_listed.specs.Told.{In, Listed}
@@ -187,6 +190,10 @@ module _ (s : List ℕ) (c : Checked s) where
       let p : pathTo s (front (w ∷ ws)) (mapPlace (g .0)) (n .place) ≡ w ∷ ws = path-of (c .reading) s (front (w ∷ ws)) (mapPlace (g .0)) (le 4 s (countPlace (g .0))) q (last (w ∷ ws)) n ∙ front-last w ws in
       f .held _ (subst (In (constantLine (w ∷ ws) (valueIn s q))) (sym (group-lines (c .reading) s (f .level) (g .0) (front (w ∷ ws)) k)) (constant-at s (front (w ∷ ws)) (w ∷ ws) (mapPlace (g .0)) (le 4 s (countPlace (g .0))) (n .place) q p (n .payload) (n .below)))
 
+  value-answered : (ws : List (List ℕ)) (q : ℕ) → constantAt s ws ≡ some q → constantFound s (constantAt s ws) ≡ constants.Found (valueIn s q)
+  unfolding constantFound valueIn
+  value-answered ws q h = ap (constantFound s) h ∙ sym (value-said s q (found-read s c ws q h) refl)
+
 -- theorem: every path that leads somewhere is listed
 pub all-listed : (s : List ℕ) → Checked s → Listed s
-all-listed s c = record { entity = λ ws o h. at-path s c ws o h .line; constant = constant-listed s c }
+all-listed s c = record { entity = λ ws o h. at-path s c ws o h .line; constant = constant-listed s c; answered = value-answered s c }

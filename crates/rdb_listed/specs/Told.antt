@@ -1,4 +1,4 @@
--- What a line of the listing says is so: its path leads there. And a line stands in it.
+-- What a line of the listing says is so: its path leads there. And every path that leads somewhere has its line.
 -- Assumes nothing.
 use mathlib.Core.Path.{_≡_}
 use mathlib.Core.List.{List, [], _∷_}
@@ -7,6 +7,8 @@ use mathlib.Core.Option.{some}
 use Prim.Native.Nat.{ℕ}
 use lib.ListN.{getD}
 use Rattle.rdb_path.specs.Path.{entityAt, constantAt}
+use Rattle.rdb.specs.Questions.{constantFound}
+use Rattle.rdb.specs.declared.ConstantAnswer.the-variants as constants
 use Rattle.rdb_list.specs.Listed.{Line, entityLine, constantLine, valueIn, listOf}
 
 unfoldable pub Told : List ℕ → Line → Type 0
@@ -27,3 +29,5 @@ In x (y ∷ ys) = (x ≡ y) ⊎ In x ys
 pub record Listed (s : List ℕ) : Type 0 where
   pub entity : (ws : List (List ℕ)) (o : ℕ) → entityAt s ws ≡ some o → In (entityLine ws (getD s o 0) o) (listOf s)
   pub constant : (ws : List (List ℕ)) (q : ℕ) → constantAt s ws ≡ some q → In (constantLine ws (valueIn s q)) (listOf s)
+  -- with the value that the question for it is answered with
+  pub answered : (ws : List (List ℕ)) (q : ℕ) → constantAt s ws ≡ some q → constantFound s (constantAt s ws) ≡ constants.Found (valueIn s q)

@@ -17,7 +17,7 @@ unfoldable pub dotless : List (List ℕ) → Bool
 dotless [] = true
 dotless (w ∷ ws) = if hasDot w then false else dotless ws
 
--- so the words of a path are the one list of words without a dot that, joined by dots, is the path
+-- so the words of a path are the one list of words without a dot, one or more, that, joined by dots, is the path
 pub record CutClaim : Type 0 where
   -- a path cut at every dot joins again
   pub back : (path : List ℕ) → joined (cut path) ≡ path

@@ -24,5 +24,6 @@ pub record Fills (text : List ℕ) (place : ℕ) (before : List ℕ) (r : Filled
   pub last : r .ends ≡ (length text ≤? place + bufferRoom)
   pub inside : r .length ≤ length after
 
+-- the lesser of two
 unfoldable pub least : ℕ → ℕ → ℕ
 least a b = if a <? b then a else b

@@ -52,7 +52,7 @@ partWhy (answer.Refused why) = Refused why
 unfoldable pub sayPart : List ℕ → PartAnswer → Saying
 sayPart s a = saying (partText s a) (partWhy a)
 
--- a part was found in a file that is no longer than it may be
+-- where a part was found, the file is no longer than it may be
 abbrev pub Small : List ℕ → PartAnswer → Type 0
 Small s (answer.Text t) = length s ≤ fileLimit
 Small s (answer.Entry x) = length s ≤ fileLimit

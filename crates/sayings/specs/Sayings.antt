@@ -21,7 +21,7 @@ use Rattle.sayings.specs.declared.Why.the-variants.{Answered, Refused, M
 use Rattle.sayings.specs.declared.Said.{Said}
 use Rattle.sayings.specs.Texts.{interfaceText, countedText, methodText, constantText}
 
--- room that any answer but a listing or a table fits in: a line, and up to 1,024 of three numbers
+-- room for every answer that is made whole: all but listings, tables, and the parts and paths of a types.rdb. A line, and up to 1,024 of three numbers
 abbrev pub answerRoom : ℕ
 answerRoom = 65536
 

@@ -145,11 +145,11 @@ tooLarge = 32 ∷ 100 ∷ 111 ∷ 101 ∷ 115 ∷ 32 ∷ 110 ∷ 111 ∷ 116 ∷
 abbrev pub iidMistake : List ℕ
 iidMistake = error ++ (116 ∷ 104 ∷ 101 ∷ 32 ∷ 73 ∷ 73 ∷ 68 ∷ 32 ∷ 105 ∷ 115 ∷ 32 ∷ 110 ∷ 111 ∷ 116 ∷ 32 ∷ 104 ∷ 101 ∷ 120 ∷ 97 ∷ 100 ∷ 101 ∷ 99 ∷ 105 ∷ 109 ∷ 97 ∷ 108 ∷ 32 ∷ 100 ∷ 105 ∷ 103 ∷ 105 ∷ 116 ∷ 115 ∷ 32 ∷ 105 ∷ 110 ∷ 32 ∷ 112 ∷ 97 ∷ 105 ∷ 114 ∷ 115 ∷ newline)
 
--- `error the index is not decimal`, and the same of the slot
+-- `error the index is not decimal`, and the same of a slot or a position
 abbrev pub notDecimalMistake : List ℕ → List ℕ
 notDecimalMistake what = error ++ (what ++ (notDecimal ++ newline))
 
--- `error the index does not fit 64 bits`, and the same of the slot
+-- `error the index does not fit 64 bits`, and the same of a slot or a position
 abbrev pub tooLargeMistake : List ℕ → List ℕ
 tooLargeMistake what = error ++ (what ++ (tooLarge ++ newline))
 

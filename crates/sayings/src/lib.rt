@@ -21,7 +21,7 @@ use lookup::Slot;
 use lookup::Value;
 use reading::Refusal;
 
-// Room that any answer but a listing or a table fits in: a line, and up to 1,024 of three numbers.
+// Room for every answer that is made whole: all but listings, tables, and the parts and paths of a types.rdb. A line, and up to 1,024 of three numbers.
 pub const ANSWER_ROOM: usize = 65536;
 
 // Whether a command was answered, was refused, or had a mistake in its words.
