@@ -19,7 +19,8 @@ use Rattle.meaning.specs.Refs.{OwnRefs}
 use Rattle.facts.specs.Conditions.{parentFrom, parentIn, climb, isSome, endless}
 use Rattle.rows.specs.Rows.{rowOf, keyOfRow, descriptorOfRow, referenceIn, aboveRow}
 use Rattle.iids.specs.Joined.{holder, held}
-use Rattle.tables.specs.Chains.{climbRows, endlessRow, upFirst}
+use Rattle.heights.specs.Climb.{climbRows, goesOn}
+use Rattle.tables.specs.Chains.{endlessRow, upFirst}
 use Rattle.bridge.specs.Written.{Matched, Owned, heldIn, keyMeant, meantOf}
 use Rattle.bridge.proofs.Rows.{told, told-length, row-first, row-second, reference-first, reference-second, ownLength, reference-row, row-refs}
 use Rattle.bridge.proofs.Climbs.{keyed, At, climb-keyed, parent-keyed}
@@ -157,7 +158,7 @@ module _ (es fs : List (Entry ℕ)) where
             rw e (ap parentFrom (descriptor-row es fs m x own o i (f .0) (f .1)) ∙ held-parent (H i) b ∙ t .0, t .1)
 
         pub endless-row : (i : ℕ) → i < length es → endless (told es fs) (K i) ≡ endlessRow up N i
-        unfolding endless endlessRow
+        unfolding endless endlessRow goesOn
         endless-row i l =
             let f : First i = (omega arith, first-own es fs (x .minor) (x .minor2) (x .first) (x .second) i l) in
             let s : suc i ≡ i + 1 = omega arith in

@@ -1,9 +1,10 @@
 // The descriptors of the directory's entries. One that several entries share is read once.
 ghost use mathlib.Core.Path.{_≡_};
+ghost use mathlib.Core.Bool.{true};
 ghost use Prim.Native.Nat.{_+_, _*_, _≤_, _<_};
 ghost use lib.ListN.{length};
 ghost use Rattle.number.specs.Limits.{fileLimit, entryWidth};
-ghost use Rattle.number.specs.Scan.{scan};
+ghost use Rattle.number.specs.Scan.{scan, some};
 ghost use Rattle.reading.specs.Got.{stepOf, many};
 ghost use Rattle.typelib.specs.Entry.{readOwn};
 ghost use Rattle.typelib.specs.Own.{Settled};
@@ -58,17 +59,40 @@ pub fn first_pointing(file: &[u8], n: usize, d: usize, k: usize, q: u32) -> usiz
     j
 }
 
+// Whether one of the first k entries has the pointer q, none of which points past `top`. It is sound whatever `top` is: a pointer above it is only not looked for.
+fn stood_earlier(file: &[u8], n: usize, d: usize, k: usize, q: u32, top: u32) -> bool
+    requires { ⌜ Lies (now file) n d × (k ≤ n) ⌝ }
+    ensures { λ r. ⌜ (r ≡ true → some (pointsTo (now (file .entry)) d q) k ≡ true) ⌝ }
+{
+    if top < q {
+        return false;
+    }
+    first_pointing(file, n, d, k, q) < k
+}
+
 // The verdict on the descriptor of entry k, where those before it were accepted.
-fn check_once(file: &[u8], pool: &[u8], c: Context, n: usize, d: usize, k: usize) -> Step
+fn check_once(file: &[u8], pool: &[u8], c: Context, n: usize, d: usize, k: usize, top: u32) -> Step
     requires { ⌜ Lies (now file) n d × (k < n) × (c .base + length (now pool) ≤ fileLimit) × Settled c (now file) (now pool) d k ⌝ }
     ensures { λ r. ⌜ r ≡ stepOf (readOwn c (now (file .entry)) (now (pool .entry)) (d + entryWidth * k)) ⌝ }
 {
     let p = d + ENTRY_WIDTH * k;
     let q = number::u32_at(file, p + 24);
-    if first_pointing(file, n, d, k, q) < k {
+    if stood_earlier(file, n, d, k, q, top) {
         return Step::End(p + ENTRY_WIDTH);
     }
     check_own(file, pool, c, p)
+}
+
+// The higher of `top` and the pointer of entry k.
+fn raised(file: &[u8], n: usize, d: usize, k: usize, top: u32) -> u32
+    requires { ⌜ Lies (now file) n d × (k < n) ⌝ }
+    ensures { λ r. ⌜ top ≤ r ⌝ }
+{
+    let q = number::u32_at(file, d + ENTRY_WIDTH * k + 24);
+    if top < q {
+        return q;
+    }
+    top
 }
 
 // The descriptors of n entries.
@@ -77,11 +101,13 @@ pub fn check_descriptors(file: &[u8], pool: &[u8], c: Context, n: usize, d: usiz
     ensures { λ r. ⌜ r ≡ stepOf (many (readOwn c (now (file .entry)) (now (pool .entry))) n d) ⌝ }
 {
     let mut k: usize = 0;
+    let mut top: u32 = 0;
     while k < n {
-        let r = check_once(file, pool, c, n, d, k);
+        let r = check_once(file, pool, c, n, d, k, top);
         let Step::End(e) = r else {
             return r;
         };
+        top = raised(file, n, d, k, top);
         k += 1;
     }
     Step::End(d + ENTRY_WIDTH * n)

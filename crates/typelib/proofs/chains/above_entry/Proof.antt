@@ -34,9 +34,6 @@ sub-u16-at c = search needs
 u16-at-requires : tie.Need-u16-at-requires
 u16-at-requires c κs = own-inside _ _ _ _ _ _ (c .before .u32-at .ensures) (c .before .before .before .before .pre .1) (omega arith) (λ e. omega arith)
 
-cast-result : tie.Need-cast-result
-cast-result c = search needs
-
 returns-2 : tie.Need-returns-2
 returns-2 c = above-is _ _ _ _ _ _ (c .before .before .u32-at .ensures) (c .before .before .before .before .before .pre .1) (omega arith) (λ e. omega arith) (c .u16-at .ensures)
 
@@ -52,5 +49,4 @@ above-entry-spec =
     returns
     sub-u16-at
     u16-at-requires
-    cast-result
     returns-2)

@@ -13,10 +13,10 @@ use Rattle.typelib.proofs.own.check_descriptors.Statement.{statement}
 use Rattle.typelib.proofs.own.check_descriptors.Tie as tie
 
 abbrev Inv-loop : tie.InvT-loop
-Inv-loop file pool c n d k₀ k = (k ≤ n) × Settled c file pool d k × (stepOf (many (readOwn c file pool) n d) ≡ stepOf (many (readOwn c file pool) (n - k) (d + 28 * k)))
+Inv-loop file pool c n d k₀ top₀ k top = (k ≤ n) × Settled c file pool d k × (stepOf (many (readOwn c file pool) n d) ≡ stepOf (many (readOwn c file pool) (n - k) (d + 28 * k)))
 
 abbrev μ-loop : tie.MeasureT-loop
-μ-loop file pool c n d k₀ k = n - k
+μ-loop file pool c n d k₀ top₀ k top = n - k
 
 loop-holds : tie.Need-loop-holds Inv-loop μ-loop
 loop-holds c = (omega arith, settled-none _ _ _ _, descriptors-start _ _ _ _ _)
@@ -33,6 +33,9 @@ enum-told c = search needs
 returns : tie.Need-returns Inv-loop μ-loop
 returns c = turn-refused _ _ _ _ (c .before .before .before .before .loop .inv .2) (omega arith) (c .enum-told .given .1) (c .before .before .check-once .ensures)
 
+raised-requires : tie.Need-raised-requires Inv-loop μ-loop
+raised-requires c κs = search needs
+
 add-k : tie.Need-add-k Inv-loop μ-loop
 add-k c = omega arith
 
@@ -40,13 +43,13 @@ loop-less : tie.Need-loop-less Inv-loop μ-loop
 loop-less c = omega arith
 
 loop-again : tie.Need-loop-again Inv-loop μ-loop
-loop-again c = (omega arith, settled-more _ _ _ _ _ (c .before .before .before .before .before .loop .inv .1) (c .before .r .given .1) (c .before .before .before .check-once .ensures), descriptors-next _ _ _ _ _ _ (c .before .before .before .before .before .loop .inv .2) (omega arith) (c .before .r .given .1) (c .before .before .before .check-once .ensures))
+loop-again c = (omega arith, settled-more _ _ _ _ _ (c .before .before .before .before .before .before .loop .inv .1) (c .before .before .r .given .1) (c .before .before .before .before .check-once .ensures), descriptors-next _ _ _ _ _ _ (c .before .before .before .before .before .before .loop .inv .2) (omega arith) (c .before .before .r .given .1) (c .before .before .before .before .check-once .ensures))
 
-mul-t10 : tie.Need-mul-t10 Inv-loop μ-loop
-mul-t10 c = omega arith
+mul-t11 : tie.Need-mul-t11 Inv-loop μ-loop
+mul-t11 c = omega arith
 
-add-t11 : tie.Need-add-t11 Inv-loop μ-loop
-add-t11 c = omega arith
+add-t12 : tie.Need-add-t12 Inv-loop μ-loop
+add-t12 c = omega arith
 
 returns-2 : tie.Need-returns-2 Inv-loop μ-loop
 returns-2 c = descriptors-done _ _ _ _ _ _ (c .before .loop .inv .2) (omega arith)
@@ -62,9 +65,10 @@ check-descriptors-spec =
     enum-known-r
     enum-told
     returns
+    raised-requires
     add-k
     loop-less
     loop-again
-    mul-t10
-    add-t11
+    mul-t11
+    add-t12
     returns-2)
