@@ -9,10 +9,10 @@ use native.Mathlib.Omega.{arith}
 use lib.ListN.{length, getD}
 use Rattle.key.specs.Key.{Key, key}
 use Rattle.reader.specs.Values.{Descriptor, Entry, entry, entryKey, entryIid, entryDescriptor}
-use Rattle.reader.specs.Rules.{All}
+use Rattle.reader.specs.Rules.{All, InOrder, UniqueKeys, NoCycle}
 use Rattle.meaning.specs.Refs.{AllRefs, EntryRefs}
 use Rattle.meaning.specs.Index as index
-use Rattle.meaning.specs.Index.{indexOf}
+use Rattle.meaning.specs.Index.{indexOf, renumbered}
 use Rattle.meaning.specs.Chain.{parentRef, EndsWithin}
 use Rattle.meaning.proofs.Refs.{refs-then}
 use Rattle.meaning.proofs.Indexes.{index-at, length-keys, in-order, unique-keys}
@@ -92,15 +92,16 @@ module _ (us : List (Entry Key)) (v : Valid us) where
       let c = v .chains (entryKey e) (entry-key e us (at-us i l)) in
       rw (← parent-own i l) (above-within (parentIn us) (c .0) (entryKey e) (climb-within (parentIn us) (c .0) (some (entryKey e)) (c .1)))
 
-  -- valid entries, each sound, that stand in the order of the normal form and fit
-  pub valid-readable : All Sound us → union us ≡ us → normalLength us ≤ 1048576 → Readable us
+  -- that stand in the order of the normal form: what a directory of theirs has
+  pub valid-standing : union us ≡ us → index.Closed us × InOrder (renumbered us) × UniqueKeys (renumbered us) × NoCycle (renumbered us)
   unfolding entryAt
-  valid-readable s own short = record {
-    encodable = record { few = v .few; short = short; each = s; closed = valid-closed };
-    order = in-order us blank (own-order us own v);
-    keys = unique-keys us blank (v .keys);
-    chains = chains-end us valid-closed (parentIn us) blank parent-own chain-own;
-  }
+  valid-standing own = (valid-closed, in-order us blank (own-order us own v), unique-keys us blank (v .keys), chains-end us valid-closed (parentIn us) blank parent-own chain-own)
+
+  -- each sound, that stand so and fit
+  pub valid-readable : All Sound us → union us ≡ us → normalLength us ≤ 1048576 → Readable us
+  valid-readable s own short =
+      let o = valid-standing own in
+      record { encodable = record { few = v .few; short = short; each = s; closed = o .0 }; order = o .1; keys = o .2; chains = o .3 }
 
 -- the union of sound entries of which none of the six conditions holds
 pub fine-readable : (es : List (Entry Key)) → All Sound es → Closed es → Fine normalLength es → Readable (union es)

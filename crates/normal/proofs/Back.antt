@@ -3,19 +3,19 @@
 use mathlib.Core.Path.{_≡_, refl, sym, ap, _∙_, subst}
 use mathlib.Core.Bool.{true}
 use mathlib.Core.List.{List, [], _∷_}
-use Prim.Native.Nat.{ℕ, _≤_}
+use Prim.Native.Nat.{ℕ, _+_, _*_, _≤_}
 use native.Mathlib.Omega.{arith}
 use lib.ListN.{length}
 use Rattle.key.specs.Key.{Key}
 use Rattle.reading.specs.Got.{Got, got, bad}
 use Rattle.reader.specs.Values.{Entry, Header, empty, Typelib, typelib, entriesIn}
 use Rattle.reader.specs.Records.{Bytes, ShowsTypelib, NotesRule}
-use Rattle.reader.specs.Rules.{All, InDirectory, EntryRule, PositionRule, TypelibRule}
+use Rattle.reader.specs.Rules.{All, InDirectory, EntryRule, InOrder, UniqueKeys, NoCycle, PositionRule}
 use Rattle.reader.specs.Reader.{decode}
 use Rattle.reader.specs.Reader.Laws.{shown-accepted}
 use Rattle.meaning.specs.Meaning.{mapEntry, meaning}
 use Rattle.meaning.specs.Refs.{EntryRefs}
-use Rattle.meaning.specs.Index.{keysOf, indexOf, renumbered}
+use Rattle.meaning.specs.Index.{keysOf, indexOf, renumbered, Closed}
 use Rattle.meaning.proofs.Alls.{all-both, all-map}
 use Rattle.meaning.proofs.Refs.{entry-then}
 use Rattle.meaning.proofs.Indexes.{index-range, length-renumbered, meaning-renumbered}
@@ -33,9 +33,9 @@ use Rattle.normal.proofs.Mapped.{normal-length, header-mapped, normal-f
 use Rattle.normal.proofs.Ranges.{ranged-entry}
 use Rattle.normal.proofs.Apart.{entry-apart-obeys}
 
--- ---- what is written
+-- ---- entries each sound, with no reference to a key that is not there
 
-module _ (us : List (Entry Key)) (enc : Encodable us) where
+module _ (us : List (Entry Key)) (each : All Sound us) (closed : Closed us) where
   abbrev ix : Key → ℕ
   ix = indexOf (keysOf us)
 
@@ -45,59 +45,48 @@ module _ (us : List (Entry Key)) (enc : Encodable us) where
   abbrev There : Key → Type 0
   There k = InDirectory (length us) (ix k)
 
-  pub encodable-rules : All (EntryRule (minorOf us) (length us)) (renumbered us)
+  sound-rules : All (EntryRule (minorOf us) (length us)) (renumbered us)
   unfolding renumbered
-  encodable-rules =
+  sound-rules =
       all-map (mapEntry ix) Good (EntryRule (minorOf us) (length us))
       (λ u f. entry-apart-obeys ix (minorOf us) (length us) (minor-range us .0) u (f .0 .0 .rule) (entry-then Among There (λ k l. (index-range (keysOf us) k .0, l)) u (f .0 .1)) (f .1)) us
-      (all-both Closed Served Good (λ u a b. (a, b)) us (all-both Sound (EntryRefs Among) Closed (λ u a b. (a, b)) us (enc .each) (enc .closed)) (minor-serves us))
+      (all-both Known Served Good (λ u a b. (a, b)) us (all-both Sound (EntryRefs Among) Known (λ u a b. (a, b)) us each closed) (minor-serves us))
     where
-      Closed : Entry Key → Type 0
-      Closed u = Sound u × EntryRefs Among u
+      Known : Entry Key → Type 0
+      Known u = Sound u × EntryRefs Among u
 
       Served : Entry Key → Type 0
       Served u = newEntry u ≡ true → 2 ≤ minorOf us
 
       Good : Entry Key → Type 0
-      Good u = Closed u × Served u
+      Good u = Known u × Served u
 
-  encodable-ranged : All RangedEntry (renumbered us)
+  pub ranged-renumbered : All RangedEntry (renumbered us)
   unfolding renumbered
-  encodable-ranged = all-map (mapEntry ix) Sound RangedEntry (λ u f. rw (ranged-entry ix u) (f .ranged)) us (enc .each)
+  ranged-renumbered = all-map (mapEntry ix) Sound RangedEntry (λ u f. rw (ranged-entry ix u) (f .ranged)) us each
 
-  few-renumbered : length (renumbered us) ≤ 1024
-  few-renumbered = rw (length-renumbered us) (enc .few)
+  pub rules-renumbered : All (EntryRule (minorOf us) (length (renumbered us))) (renumbered us)
+  rules-renumbered = subst (λ (n : ℕ). All (EntryRule (minorOf us) n) (renumbered us)) (sym (length-renumbered us)) sound-rules
 
-  short-renumbered : normalLength (renumbered us) ≤ 1048576
-  unfolding renumbered
-  short-renumbered = rw (normal-length ix us) (enc .short)
+-- what shows the entries numbered anew shows the typelib
+pub shows-renumbered : (us : List (Entry Key)) (s : List ℕ) → ShowsTypelib s (typelib (normalHeader (renumbered us)) (empty ∷ []) (renumbered us)) → ShowsTypelib s (normalTypelib us)
+unfolding normalTypelib renumbered
+shows-renumbered us s h = subst (λ (x : Header). ShowsTypelib s (typelib x (empty ∷ []) (renumbered us))) (header-mapped (indexOf (keysOf us)) us) h
 
-  rules-renumbered : All (EntryRule (minorOf us) (length (renumbered us))) (renumbered us)
-  rules-renumbered = subst (λ (n : ℕ). All (EntryRule (minorOf us) n) (renumbered us)) (sym (length-renumbered us)) encodable-rules
+-- ---- bytes that show them, directory and pool where the normal form has them
 
-  header-renumbered : normalHeader (renumbered us) ≡ normalHeader us
-  unfolding renumbered
-  header-renumbered = header-mapped ix us
+-- one empty annotation
+one-note : NotesRule (empty ∷ [])
+one-note = record { some = omega arith }
 
-  -- its bytes show the entries
-  pub shows-back : ShowsTypelib (normalForm us) (normalTypelib us)
-  unfolding normalTypelib
-  shows-back =
-      rw (normal-file us) (subst (λ (h : Header). ShowsTypelib (fileBytes itself (renumbered us)) (typelib h (empty ∷ []) (renumbered us))) header-renumbered
-      (file-shows (renumbered us) few-renumbered short-renumbered (minorOf us) encodable-ranged rules-renumbered))
-
-  pub bytes-back : Bytes (normalForm us)
-  bytes-back = rw (normal-file us) (file-bytes (renumbered us) (minorOf us) encodable-ranged rules-renumbered)
-
-  position-back : PositionRule (length (normalForm us)) (normalHeader us)
-  position-back =
-      let len = length-normal us in
-      let total = length-parts us in
+module _ (us : List (Entry Key)) (len : ℕ) (few : length us ≤ 1024) (short : len ≤ 1048576) (room : 36 + 28 * length us ≤ len) where
+  position-for : PositionRule len (normalHeader us)
+  position-for =
       let count = header-count us in
       let pool = header-pool us in
       record {
-        short = omega (arith, enc .short);
-        few = omega (arith, enc .few);
+        short = omega arith;
+        few = omega arith;
         known = omega (arith, header-minor us, minor-range us .1);
         low = omega arith;
         inside = omega arith;
@@ -105,23 +94,44 @@ module _ (us : List (Entry Key)) (enc : Encodable us) where
         placed = λ z. let e = directory-at us (λ q. z (omega arith)) in (rw e refl, omega arith, omega arith);
       }
 
--- one empty annotation
-one-note : NotesRule (empty ∷ [])
-one-note = record { some = omega arith }
+  -- are accepted with them, where they stand in the order of a directory, no key is there twice and every parent chain ends
+  pub shown-read : All Sound us → Closed us → InOrder (renumbered us) → UniqueKeys (renumbered us) → NoCycle (renumbered us)
+      → (s : List ℕ) → length s ≡ len → Bytes s → ShowsTypelib s (normalTypelib us) → decode s ≡ got (normalTypelib us) (length s)
+  unfolding normalTypelib
+  shown-read each closed order keys chains s long bytes shows = shown-accepted s bytes (normalTypelib us) shows (
+    rw long position-for,
+    one-note,
+    rw (header-minor us, header-count us) (record { each = sound-rules us each closed; order = order; keys = keys; chains = chains }),
+  )
+
+-- ---- what is written
+
+module _ (us : List (Entry Key)) (enc : Encodable us) where
+  pub encodable-rules : All (EntryRule (minorOf us) (length us)) (renumbered us)
+  encodable-rules = sound-rules us (enc .each) (enc .closed)
+
+  short-renumbered : normalLength (renumbered us) ≤ 1048576
+  unfolding renumbered
+  short-renumbered = rw (normal-length (indexOf (keysOf us)) us) (enc .short)
+
+  -- its bytes show the entries
+  pub shows-back : ShowsTypelib (normalForm us) (normalTypelib us)
+  shows-back =
+      let few : length (renumbered us) ≤ 1024 = rw (length-renumbered us) (enc .few) in
+      rw (normal-file us) (shows-renumbered us (fileBytes itself (renumbered us))
+      (file-shows (renumbered us) few short-renumbered (minorOf us) (ranged-renumbered us (enc .each) (enc .closed)) (rules-renumbered us (enc .each) (enc .closed))))
+
+  pub bytes-back : Bytes (normalForm us)
+  bytes-back = rw (normal-file us) (file-bytes (renumbered us) (minorOf us) (ranged-renumbered us (enc .each) (enc .closed)) (rules-renumbered us (enc .each) (enc .closed)))
 
 -- ---- and read
 
 module _ (us : List (Entry Key)) (r : Readable us) where
-  rules-back : TypelibRule (length (normalForm us)) (normalTypelib us)
-  unfolding normalTypelib
-  rules-back = (
-    position-back us (r .encodable),
-    one-note,
-    rw (header-minor us, header-count us) (record { each = encodable-rules us (r .encodable); order = r .order; keys = r .keys; chains = r .chains }),
-  )
-
   pub read-back : decode (normalForm us) ≡ got (normalTypelib us) (length (normalForm us))
-  read-back = shown-accepted (normalForm us) (bytes-back us (r .encodable)) (normalTypelib us) (shows-back us (r .encodable)) rules-back
+  read-back =
+      let enc = r .encodable in
+      shown-read us (normalLength us) (enc .few) (enc .short) (omega (arith, length-parts us)) (enc .each) (enc .closed) (r .order) (r .keys) (r .chains)
+      (normalForm us) (length-normal us) (bytes-back us enc) (shows-back us enc)
 
   -- with the meaning it was written for
   pub means-back : meaning (entriesIn (normalTypelib us)) ≡ us
@@ -137,8 +147,11 @@ meaningRead : Got Typelib → List (Entry Key)
 meaningRead (got t e) = meaning (entriesIn t)
 meaningRead (bad n q) = []
 
+-- a file has one meaning
+pub one-meaning : (a b : List ℕ) (s t : Typelib) (m n : ℕ) → decode a ≡ got s m → decode b ≡ got t n → a ≡ b → meaning (entriesIn s) ≡ meaning (entriesIn t)
+unfolding meaningRead
+one-meaning a b s t m n x y e = sym (ap meaningRead x) ∙ ap (λ (c : List ℕ). meaningRead (decode c)) e ∙ ap meaningRead y
+
 -- two meanings, each in its order, have the same normal form only where they are equal
 pub normal-injective : (us vs : List (Entry Key)) → Readable us → Readable vs → normalForm us ≡ normalForm vs → us ≡ vs
-unfolding meaningRead
-normal-injective us vs r q e =
-    sym (means-back us r) ∙ sym (ap meaningRead (read-back us r)) ∙ ap (λ (s : List ℕ). meaningRead (decode s)) e ∙ ap meaningRead (read-back vs q) ∙ means-back vs q
+normal-injective us vs r q e = sym (means-back us r) ∙ one-meaning _ _ _ _ _ _ (read-back us r) (read-back vs q) e ∙ means-back vs q

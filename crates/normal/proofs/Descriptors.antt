@@ -8,8 +8,8 @@ use Prim.Native.Nat.{ℕ, _+_, _-_, _≤_}
 use native.Mathlib.Omega.{arith}
 use lib.ListN.{length}
 use Rattle.number.specs.Choice.{if_then_else_, _=?_}
-use Rattle.reader.specs.Values.{Constant, constant, Descriptor, descriptor, parentIndex}
-use Rattle.reader.specs.Records.{Run, Stored, ShowsConstant, ShowsDescriptor}
+use Rattle.reader.specs.Values.{Method, Constant, constant, Descriptor, descriptor, parentIndex}
+use Rattle.reader.specs.Records.{Run, Stored, ShowsMethod, ShowsConstant, ShowsDescriptor}
 use Rattle.reader.specs.Rules.{All, MethodRule, ConstantRule, ParentRule, DescriptorRule}
 use Rattle.meaning.proofs.Alls.{all-both}
 use Rattle.meaning.proofs.Maps.{itself}
@@ -40,11 +40,19 @@ unfolding parentIndex
 parent-small n none r = omega arith
 parent-small n (some i) r = r .1
 
-abbrev GoodConstant : Constant → Type 0
+abbrev pub GoodConstant : Constant → Type 0
 GoodConstant c = RangedConstant c × ConstantRule c
 
+-- what the methods and constants of a descriptor obey
+pub good-methods : (minor n : ℕ) (up : Option ℕ) (ms : List (Method ℕ)) (ks : List Constant) (f : ℕ) → Ranged (descriptor up ms ks f) → DescriptorRule minor n (descriptor up ms ks f)
+    → All (GoodMethod minor n) ms × All GoodConstant ks
+good-methods minor n up ms ks f g r = (
+  all-both RangedMethod (MethodRule minor n) (GoodMethod minor n) (λ m x y. (x, y)) ms (g .0) (r .methods),
+  all-both RangedConstant ConstantRule GoodConstant (λ c x y. (x, y)) ks (g .1) (r .constants),
+)
+
 module _ (s : List ℕ) (small : length s ≤ 1048576) where
-  constant-shows : (c : Constant) (q p e : ℕ) → GoodConstant c → 1 ≤ q → e ≡ p + constantSize c
+  pub constant-shows : (c : Constant) (q p e : ℕ) → GoodConstant c → 1 ≤ q → e ≡ p + constantSize c
       → From s p (constantBytes q c) → From s (q - 1) (constantNameBytes c) → ShowsConstant s p c e
   unfolding constantBytes constantSize constantNameBytes constantName
   constant-shows (constant w k v) q p e g l d h b =
@@ -73,13 +81,15 @@ module _ (s : List ℕ) (small : length s ≤ 1048576) where
 
   -- ---- descriptors
 
-  pub descriptor-shows : (minor n : ℕ) → n ≤ 1024 → (d : Descriptor ℕ) (q p : ℕ) → Ranged d → DescriptorRule minor n d → 1 ≤ q
-      → From s p (descriptorBytes itself q d) → From s (q - 1) (namesBytes d) → ShowsDescriptor s p d (p + descriptorSize d)
-  unfolding descriptorBytes descriptorSize namesBytes constantsFrom
-  descriptor-shows minor n few (descriptor up ms ks f) q p g r l h k =
-      let methods : List ℕ = methodsBytes itself q ms in
-      let q1 = q + sum methodNameSize ms in
-      let constants : List ℕ = constantsBytes q1 ks in
+  -- one whose methods and constants are shown by the bytes written for them, whatever names these point to
+  pub parts-show : (minor n : ℕ) → n ≤ 1024 → (up : Option ℕ) (ms : List (Method ℕ)) (ks : List Constant) (f p : ℕ) (methods constants : List ℕ) → DescriptorRule minor n (descriptor up ms ks f)
+      → length methods ≡ sum methodSize ms → length constants ≡ sum constantSize ks
+      → ((p e : ℕ) → e ≡ p + sum methodSize ms → From s p methods → Run (ShowsMethod s) p ms e)
+      → ((p e : ℕ) → e ≡ p + sum constantSize ks → From s p constants → Run (ShowsConstant s) p ks e)
+      → From s p (bytesOf 2 (parentNumber itself up) ++ bytesOf 2 (length ms) ++ methods ++ bytesOf 2 (length ks) ++ constants ++ (f ∷ []))
+      → ShowsDescriptor s p (descriptor up ms ks f) (p + descriptorSize (descriptor up ms ks f))
+  unfolding descriptorSize
+  parts-show minor n few up ms ks f p methods constants r x y shown told h =
       let last : List ℕ = constants ++ (f ∷ []) in
       let tail : List ℕ = bytesOf 2 (length ks) ++ last in
       let counted : List ℕ = bytesOf 2 (length ms) ++ (methods ++ tail) in
@@ -87,24 +97,29 @@ module _ (s : List ℕ) (small : length s ≤ 1048576) where
       let whole : From s p (bytesOf 2 (parentNumber itself up) ++ counted) = simp append-assoc at h in
       let h1 = from-split s p 2 (bytesOf 2 (parentNumber itself up)) counted (length-bytes 2 (parentNumber itself up)) whole in
       let h2 = from-split s (p + 2) 2 (bytesOf 2 (length ms)) (methods ++ tail) (length-bytes 2 (length ms)) (h1 .1) in
-      let h3 = from-split s (p + 4) (sum methodSize ms) methods tail (length-methods itself q ms) (from-at s (p + 2 + 2) (p + 4) (methods ++ tail) (omega arith) (h2 .1)) in
+      let h3 = from-split s (p + 4) (sum methodSize ms) methods tail x (from-at s (p + 2 + 2) (p + 4) (methods ++ tail) (omega arith) (h2 .1)) in
       let a = p + 4 + sum methodSize ms in
       let h4 = from-split s a 2 (bytesOf 2 (length ks)) last (length-bytes 2 (length ks)) (h3 .1) in
-      let h5 = from-split s (a + 2) (sum constantSize ks) constants (f ∷ []) (length-constants q1 ks) (h4 .1) in
-      let names = from-split s (q - 1) (sum methodNameSize ms) (run methodNameBytes ms) (run constantNameBytes ks) (length-run methodNameBytes methodNameSize length-method-name ms) k in
+      let h5 = from-split s (a + 2) (sum constantSize ks) constants (f ∷ []) y (h4 .1) in
       let b = a + 2 + sum constantSize ks in (
         rw (← parent-number up) (from-field s 2 p (parentNumber itself up) (omega arith) (h1 .0)),
         from-field s 2 (p + 2) (length ms) (omega (arith, r .fewMethods)) (h2 .0),
         (
           a,
-          methods-show s minor n few small ms q (p + 4) a (all-both RangedMethod (MethodRule minor n) (GoodMethod minor n) (λ m x y. (x, y)) ms (g .0) (r .methods)) l refl (h3 .0) (names .0),
+          shown (p + 4) a refl (h3 .0),
           from-field s 2 a (length ks) (omega (arith, r .fewConstants)) (h4 .0),
-          (
-            b,
-            constants-show ks q1 (a + 2) b (all-both RangedConstant ConstantRule GoodConstant (λ c x y. (x, y)) ks (g .1) (r .constants)) (omega arith) refl (h5 .0)
-                (from-at s (q - 1 + sum methodNameSize ms) (q1 - 1) (run constantNameBytes ks) (omega arith) (names .1)),
-            from-head s b f [] (h5 .1),
-            omega arith,
-          ),
+          (b, told (a + 2) b refl (h5 .0), from-head s b f [] (h5 .1), omega arith),
         ),
       )
+
+  pub descriptor-shows : (minor n : ℕ) → n ≤ 1024 → (d : Descriptor ℕ) (q p : ℕ) → Ranged d → DescriptorRule minor n d → 1 ≤ q
+      → From s p (descriptorBytes itself q d) → From s (q - 1) (namesBytes d) → ShowsDescriptor s p d (p + descriptorSize d)
+  unfolding descriptorBytes namesBytes constantsFrom
+  descriptor-shows minor n few (descriptor up ms ks f) q p g r l h k =
+      let q1 = q + sum methodNameSize ms in
+      let good = good-methods minor n up ms ks f g r in
+      let names = from-split s (q - 1) (sum methodNameSize ms) (run methodNameBytes ms) (run constantNameBytes ks) (length-run methodNameBytes methodNameSize length-method-name ms) k in
+      parts-show minor n few up ms ks f p (methodsBytes itself q ms) (constantsBytes q1 ks) r (length-methods itself q ms) (length-constants q1 ks)
+      (λ p e z x. methods-show s minor n few small ms q p e (good .0) l z x (names .0))
+      (λ p e z x. constants-show ks q1 p e (good .1) (omega arith) z x (from-at s (q - 1 + sum methodNameSize ms) (q1 - 1) (run constantNameBytes ks) (omega arith) (names .1)))
+      h

@@ -4,13 +4,12 @@ use mathlib.Core.Path.{_≡_, refl}
 use mathlib.Core.Logic.{inl, inr}
 use mathlib.Core.List.{List, [], _∷_, _++_, append-assoc}
 use mathlib.Core.Option.{Option, none, some}
-use Prim.Native.Nat.{ℕ, zero, suc, _+_, _-_, _*_, _≤_, _<_}
+use Prim.Native.Nat.{ℕ, zero, suc, _+_, _-_, _*_, _^_, _≤_, _<_}
 use native.Mathlib.Omega.{arith}
 use lib.ListN.{length, getD}
-use Rattle.number.specs.Number.{be}
 use Rattle.key.specs.Key.{key}
 use Rattle.reader.specs.Values.{Descriptor, Entry, entry, noEntry}
-use Rattle.reader.specs.Records.{ShowsSpace, ShowsOwn, ShowsEntry}
+use Rattle.reader.specs.Records.{ShowsWord, ShowsSpace, ShowsOwn, ShowsEntry}
 use Rattle.reader.specs.Rules.{All, OwnRule, EntryRule}
 use Rattle.meaning.proofs.Maps.{itself}
 use Rattle.normal.specs.BigEndian.{bytesOf}
@@ -25,12 +24,12 @@ use Rattle.normal.proofs.Descriptors.{descriptor-shows}
 
 -- ---- pointers
 
-space-below : (q : ℕ) (v : List ℕ) → spacePointer q v ≤ q
+pub space-below : (q : ℕ) (v : List ℕ) → spacePointer q v ≤ q
 unfolding spacePointer
 space-below q [] = omega arith
 space-below q (b ∷ v) = omega arith
 
-own-below : {R : Type 0} (q : ℕ) (d : Option (Descriptor R)) → ownPointer q d ≤ q
+pub own-below : {R : Type 0} (q : ℕ) (d : Option (Descriptor R)) → ownPointer q d ≤ q
 unfolding ownPointer
 own-below q none = omega arith
 own-below q (some d) = omega arith
@@ -51,18 +50,27 @@ module _ (s pool : List ℕ) (small : length pool ≤ 1048576) (minor n : ℕ) (
 
   -- ---- entries
 
+  -- an IID, and pointers that lead to the name, the namespace and the descriptor
+  pub row-shows : (v w : List ℕ) (i : ℕ) (d : Option (Descriptor ℕ)) (q a b p : ℕ) → i < 256 ^ 16 → q < 256 ^ 4 → a < 256 ^ 4 → b < 256 ^ 4
+      → ShowsWord pool q w → ShowsSpace pool a v → ShowsOwn pool b d
+      → From s p (bytesOf 16 i ++ bytesOf 4 q ++ bytesOf 4 a ++ bytesOf 4 b) → ShowsEntry s pool p (entry (key v w) i d)
+  row-shows v w i d q a b p gi gq ga gb word space own h =
+      let whole : From s p (bytesOf 16 i ++ (bytesOf 4 q ++ (bytesOf 4 a ++ bytesOf 4 b))) = simp append-assoc at h in
+      let h1 = from-split s p 16 (bytesOf 16 i) (bytesOf 4 q ++ (bytesOf 4 a ++ bytesOf 4 b)) (length-bytes 16 i) whole in
+      let h2 = from-split s (p + 16) 4 (bytesOf 4 q) (bytesOf 4 a ++ bytesOf 4 b) (length-bytes 4 q) (h1 .1) in
+      let h3 = from-split s (p + 20) 4 (bytesOf 4 a) (bytesOf 4 b) (length-bytes 4 a) (from-at s (p + 16 + 4) (p + 20) (bytesOf 4 a ++ bytesOf 4 b) (omega arith) (h2 .1)) in
+      let h4 = from-at s (p + 20 + 4) (p + 24) (bytesOf 4 b) (omega arith) (h3 .1) in (
+        from-number s 16 p i gi (h1 .0),
+        rw (from-number s 4 (p + 16) q gq (h2 .0)) word,
+        rw (from-number s 4 (p + 20) a ga (h3 .0)) space,
+        rw (from-number s 4 (p + 24) b gb h4) own,
+      )
+
   entry-shows : (u : Entry ℕ) (q p : ℕ) → RangedEntry u → EntryRule minor n u → 1 ≤ q → From s p (entryBytes q u) → From pool (q - 1) (entryPool itself q u) → ShowsEntry s pool p u
   unfolding entryBytes entryPool spaceFrom ownFrom
   entry-shows (entry (key v w) i d) q p g r l h k =
       let q1 = nameAfter q w in
       let q2 = q1 + spaceSize v in
-      let a = spacePointer q1 v in
-      let b = ownPointer q2 d in
-      let whole : From s p (bytesOf 16 i ++ (bytesOf 4 q ++ (bytesOf 4 a ++ bytesOf 4 b))) = simp append-assoc at h in
-      let h1 = from-split s p 16 (bytesOf 16 i) (bytesOf 4 q ++ (bytesOf 4 a ++ bytesOf 4 b)) (length-bytes 16 i) whole in
-      let h2 = from-split s (p + 16) 4 (bytesOf 4 q) (bytesOf 4 a ++ bytesOf 4 b) (length-bytes 4 q) (h1 .1) in
-      let h3 = from-split s (p + 20) 4 (bytesOf 4 a) (bytesOf 4 b) (length-bytes 4 a) (from-at s (p + 16 + 4) (p + 20) (bytesOf 4 a ++ bytesOf 4 b) (omega arith) (h2 .1)) in
-      let h4 = from-at s (p + 20 + 4) (p + 24) (bytesOf 4 b) (omega arith) (h3 .1) in
       let part : From pool (q - 1) (nameBytes w ++ (spaceBytes v ++ ownBytes itself q2 d)) = simp append-assoc at k in
       let k1 = from-split pool (q - 1) (nameSize w) (nameBytes w) (spaceBytes v ++ ownBytes itself q2 d) (length-name w) part in
       let j = after-name q w l in
@@ -71,14 +79,8 @@ module _ (s pool : List ℕ) (small : length pool ≤ 1048576) (minor n : ℕ) (
       let k3 = from-at pool (q1 - 1 + spaceSize v) (q2 - 1) (ownBytes itself q2 d) (omega arith) (k2 .1) in
       let high : q2 - 1 + length (ownBytes itself q2 d) ≤ length pool = k3 .inside in
       let low : q - 1 + length (nameBytes w) ≤ length pool = k1 .0 .inside in
-      let e1 : be 4 s (p + 16) ≡ q = from-number s 4 (p + 16) q (omega arith) (h2 .0) in
-      let e2 : be 4 s (p + 20) ≡ a = from-number s 4 (p + 20) a (omega (arith, space-below q1 v)) (h3 .0) in
-      let e3 : be 4 s (p + 24) ≡ b = from-number s 4 (p + 24) b (omega (arith, own-below q2 d)) h4 in (
-        from-number s 16 p i (g .0) (h1 .0),
-        rw e1 (from-word pool q w l (k1 .0)),
-        rw e2 (space-shows pool v q1 one (k2 .0)),
-        rw e3 (own-shows i d q2 (g .1) (r .2) (omega arith) k3),
-      )
+      row-shows v w i d q (spacePointer q1 v) (ownPointer q2 d) p (g .0) (omega arith) (omega (arith, space-below q1 v)) (omega (arith, own-below q2 d))
+      (from-word pool q w l (k1 .0)) (space-shows pool v q1 one (k2 .0)) (own-shows i d q2 (g .1) (r .2) (omega arith) k3) h
 
   pub entries-show : (us : List (Entry ℕ)) (q p : ℕ) → All RangedEntry us → All (EntryRule minor n) us → 1 ≤ q
       → From s p (directoryBytes q us) → From pool (q - 1) (poolBytes itself q us) → (k : ℕ) → k < length us → ShowsEntry s pool (p + 28 * k) (getD us k noEntry)

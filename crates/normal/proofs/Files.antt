@@ -8,8 +8,8 @@ use native.Mathlib.Omega.{arith}
 use lib.ListN.{length, getD, drop, length-drop}
 use Rattle.number.specs.Choice.{if_then_else_, _=?_}
 use Rattle.number.proofs.Choice.{is-eq, no-eq}
-use Rattle.reader.specs.Values.{Entry, Header, empty, typelib}
-use Rattle.reader.specs.Records.{magic, annotationLimit, poolOf, ShowsHeader, ShowsText, ShowsNote, Marks, ShowsNotes, ShowsTypelib}
+use Rattle.reader.specs.Values.{Entry, noEntry, Header, empty, typelib}
+use Rattle.reader.specs.Records.{magic, annotationLimit, poolOf, ShowsHeader, ShowsText, ShowsNote, Marks, ShowsNotes, ShowsEntry, ShowsTypelib}
 use Rattle.reader.specs.Rules.{All, EntryRule}
 use Rattle.meaning.proofs.Maps.{itself}
 use Rattle.normal.specs.BigEndian.{bytesOf}
@@ -95,33 +95,38 @@ module _ {R : Type 0} (us : List (Entry R)) where
 
 -- ---- the file
 
-module _ (us : List (Entry ℕ)) (few : length us ≤ 1024) (short : normalLength us ≤ 1048576) (s : List ℕ) (long : length s ≡ normalLength us) where
-  parts-show : (minor : ℕ) → All RangedEntry us → All (EntryRule minor (length us)) us → From s 0 (fileBytes itself us) → ShowsTypelib s (typelib (normalHeader us) (empty ∷ []) us)
-  unfolding fileBytes poolOf
-  parts-show minor g r f =
-      let total = length-parts us in
-      let count = header-count us in
-      let pool = header-pool us in
-      let most = directory-most us in
-      let head : List ℕ = headerBytes (normalHeader us) (normalLength us) in
-      let dir : List ℕ = directoryBytes 1 us in
-      let rest : List ℕ = poolBytes itself 1 us in
-      let whole : From s 0 (head ++ (noteBytes ++ (dir ++ rest))) = simp append-assoc at f in
-      let h1 = from-split s 0 32 head (noteBytes ++ (dir ++ rest)) (length-header (normalHeader us) (normalLength us)) whole in
-      let h2 = from-split s 32 4 noteBytes (dir ++ rest) length-note (h1 .1) in
-      let h3 = from-split s 36 (28 * length us) dir rest (length-directory 1 us) (h2 .1) in
-      let inner : length (drop (normalHeader us .pool) s) ≤ 1048576 = omega (arith, length-drop (normalHeader us .pool) s) in
-      let pooled = from-drop s (normalHeader us .pool) 0 rest (from-at s (36 + 28 * length us) (normalHeader us .pool + 0) rest (omega arith) (h3 .1)) (omega arith) in (
-        header-shows s (normalHeader us) (omega arith) (omega arith) (omega arith) (omega arith) (rw long (h1 .0)),
-        (33, note-shows s (h2 .0), limit-at us),
-        record {
-          count = sym count;
-          each = λ k l.
-              let e : normalHeader us .directory ≡ 36 = directory-at us (λ z. omega arith) in
-              rw e (entries-show s (drop (normalHeader us .pool) s) inner minor (length us) few us 1 36 g r (omega arith) (h3 .0) pooled k (omega arith));
-        },
-      )
+-- header, annotation, directory and pool in turn show the entries that the directory and the pool show
+pub parts-show : (us : List (Entry ℕ)) (s dir rest : List ℕ) (len : ℕ) → length us ≤ 1024 → length s ≡ len → len ≤ 1048576 → length dir ≡ 28 * length us
+    → From s 0 (headerBytes (normalHeader us) len ++ noteBytes ++ dir ++ rest)
+    → ((pool : List ℕ) → length pool ≤ 1048576 → From s 36 dir → From pool 0 rest → (k : ℕ) → k < length us → ShowsEntry s pool (36 + 28 * k) (getD us k noEntry))
+    → ShowsTypelib s (typelib (normalHeader us) (empty ∷ []) us)
+unfolding poolOf
+parts-show us s dir rest len few size short long f each =
+    let count = header-count us in
+    let pool = header-pool us in
+    let most = directory-most us in
+    let head : List ℕ = headerBytes (normalHeader us) len in
+    let whole : From s 0 (head ++ (noteBytes ++ (dir ++ rest))) = simp append-assoc at f in
+    let h1 = from-split s 0 32 head (noteBytes ++ (dir ++ rest)) (length-header (normalHeader us) len) whole in
+    let h2 = from-split s 32 4 noteBytes (dir ++ rest) length-note (h1 .1) in
+    let h3 = from-split s 36 (28 * length us) dir rest long (h2 .1) in
+    let last : 36 + 28 * length us + length rest ≤ length s = h3 .1 .inside in
+    let inner : length (drop (normalHeader us .pool) s) ≤ 1048576 = omega (arith, length-drop (normalHeader us .pool) s) in
+    let pooled = from-drop s (normalHeader us .pool) 0 rest (from-at s (36 + 28 * length us) (normalHeader us .pool + 0) rest (omega arith) (h3 .1)) (omega arith) in (
+      header-shows s (normalHeader us) (omega arith) (omega arith) (omega arith) (omega arith) (rw size (h1 .0)),
+      (33, note-shows s (h2 .0), limit-at us),
+      record {
+        count = sym count;
+        each = λ k l.
+            let e : normalHeader us .directory ≡ 36 = directory-at us (λ z. omega arith) in
+            rw e (each (drop (normalHeader us .pool) s) inner (h3 .0) pooled k (omega arith));
+      },
+    )
 
 pub file-shows : (us : List (Entry ℕ)) → length us ≤ 1024 → normalLength us ≤ 1048576 → (minor : ℕ) → All RangedEntry us → All (EntryRule minor (length us)) us
     → ShowsTypelib (fileBytes itself us) (typelib (normalHeader us) (empty ∷ []) us)
-file-shows us few short minor g r = parts-show us few short (fileBytes itself us) (length-file itself us) minor g r (from-whole (fileBytes itself us))
+unfolding fileBytes
+file-shows us few short minor g r =
+    let s = fileBytes itself us in
+    parts-show us s (directoryBytes 1 us) (poolBytes itself 1 us) (normalLength us) few (length-file itself us) short (length-directory 1 us) (from-whole s)
+    (λ pool inner rows rest k l. entries-show s pool inner minor (length us) few us 1 36 g r (omega arith) rows rest k l)

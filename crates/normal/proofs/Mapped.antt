@@ -52,7 +52,7 @@ module _ {R S : Type 0} (g : R → S) where
   unfolding methodSize mapMethod mapSignature
   method-size (method h w (signature ps r)) = λ i. 6 + sum-mapped (mapParam g) paramSize paramSize param-size ps i + param-size r i
 
-  name-mapped : (m : Method R) → methodName (mapMethod g m) ≡ methodName m
+  pub name-mapped : (m : Method R) → methodName (mapMethod g m) ≡ methodName m
   unfolding mapMethod methodName
   name-mapped (method h w s) = refl
 
@@ -112,7 +112,7 @@ module _ {R S : Type 0} (f : S → ℕ) (g : R → S) where
       = ap (λ (w : List ℕ). methodsBytes f (nameAfter q w) (map (mapMethod g) ms)) (name-mapped g m) ∙ methods-bytes (nameAfter q (methodName m)) ms in
       λ i. method-bytes q m i ++ e i
 
-  parent-number : (up : Option R) → parentNumber f (mapParent g up) ≡ parentNumber after up
+  pub parent-number : (up : Option R) → parentNumber f (mapParent g up) ≡ parentNumber after up
   unfolding parentNumber mapParent
   parent-number none = refl
   parent-number (some r) = refl
@@ -162,7 +162,7 @@ module _ {R : Type 0} (f g : R → ℕ) where
   pool-bytes-agree q us a = sym (pool-bytes itself f q us) ∙ ap (poolBytes itself q) (entries-agree f g us a) ∙ pool-bytes itself g q us
 
 module _ {R S : Type 0} (g : R → S) where
-  own-pointer : (q : ℕ) (d : Option (Descriptor R)) → ownPointer q (mapOwn g d) ≡ ownPointer q d
+  pub own-pointer : (q : ℕ) (d : Option (Descriptor R)) → ownPointer q (mapOwn g d) ≡ ownPointer q d
   unfolding ownPointer mapOwn
   own-pointer q none = refl
   own-pointer q (some d) = refl

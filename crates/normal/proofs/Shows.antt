@@ -77,7 +77,7 @@ module _ (s : List ℕ) where
     -- ---- methods
 
     module _ (small : length s ≤ 1048576) where
-      method-shows : (m : Method ℕ) (q p e : ℕ) → GoodMethod minor n m → 1 ≤ q → e ≡ p + methodSize m
+      pub method-shows : (m : Method ℕ) (q p e : ℕ) → GoodMethod minor n m → 1 ≤ q → e ≡ p + methodSize m
           → From s p (methodBytes itself q m) → From s (q - 1) (methodNameBytes m) → ShowsMethod s p m e
       unfolding methodBytes methodSize methodNameBytes methodName
       method-shows (method f w (signature ps r)) q p e g l d h k =

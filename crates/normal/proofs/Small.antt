@@ -22,7 +22,7 @@ use Rattle.normal.proofs.Minors.{minor-range, header-minor}
 
 -- ---- lists
 
-none-small : Bytes []
+pub none-small : Bytes []
 none-small = record { small = λ i. omega arith }
 
 cons-small : {t : List ℕ} (b : ℕ) → b < 256 → Bytes t → Bytes (b ∷ t)
@@ -32,10 +32,10 @@ cons-small {t} b l h = record { small = go }
     go zero = l
     go (suc i) = h .small i
 
-one-small : (b : ℕ) → b < 256 → Bytes (b ∷ [])
+pub one-small : (b : ℕ) → b < 256 → Bytes (b ∷ [])
 one-small b l = cons-small b l none-small
 
-join : {a b : List ℕ} → Bytes a → Bytes b → Bytes (a ++ b)
+pub join : {a b : List ℕ} → Bytes a → Bytes b → Bytes (a ++ b)
 join {a} {b} h k = record { small = go a (h .small) }
   where
     go : (a : List ℕ) → ((i : ℕ) → getD a i 0 < 256) → (i : ℕ) → getD (a ++ b) i 0 < 256
@@ -43,7 +43,7 @@ join {a} {b} h k = record { small = go a (h .small) }
     go (x ∷ a) h zero = h 0
     go (x ∷ a) h (suc i) = go a (λ j. h (suc j)) i
 
-small-number : (k v : ℕ) → Bytes (bytesOf k v)
+pub small-number : (k v : ℕ) → Bytes (bytesOf k v)
 unfolding bytesOf
 small-number zero v = none-small
 small-number (suc k) v = join (small-number k (v / 256)) (one-small (v % 256) (omega arith))
@@ -58,7 +58,7 @@ small-run W f h (x ∷ xs) a = join (h x (a .0)) (small-run W f h xs (a .1))
 small-word : (w : List ℕ) → Identifier w → Bytes w
 small-word w i = record { small = identifier-bytes w i }
 
-small-name : (w : List ℕ) → Identifier w → Bytes (nameBytes w)
+pub small-name : (w : List ℕ) → Identifier w → Bytes (nameBytes w)
 unfolding nameBytes
 small-name w i = join (small-word w i) (one-small 0 (omega arith))
 
@@ -76,7 +76,7 @@ small-param : (x : Param ℕ) → RangedParam x → Bytes (paramBytes itself x)
 unfolding paramBytes
 small-param (param f t) r = cons-small f (r .0) (small-type t (r .1))
 
-small-method : (q : ℕ) (m : Method ℕ) → RangedMethod m → Bytes (methodBytes itself q m)
+pub small-method : (q : ℕ) (m : Method ℕ) → RangedMethod m → Bytes (methodBytes itself q m)
 unfolding methodBytes
 small-method q (method f w (signature ps r)) g =
     join (join (join (join (one-small f (g .0)) (small-number 4 q)) (one-small (length ps) (g .1)))
@@ -87,7 +87,7 @@ unfolding methodsBytes
 small-methods q [] g = none-small
 small-methods q (m ∷ ms) g = join (small-method q m (g .0)) (small-methods (nameAfter q (methodName m)) ms (g .1))
 
-small-constant : (q : ℕ) (c : Constant) → ConstantRule c → Bytes (constantBytes q c)
+pub small-constant : (q : ℕ) (c : Constant) → ConstantRule c → Bytes (constantBytes q c)
 unfolding constantBytes
 small-constant q (constant w k v) r =
     let l : k < 256 = elim (r .1) [ inl h ↦ omega arith | inr (inl h) ↦ omega arith | inr (inr (inl h)) ↦ omega arith | inr (inr (inr h)) ↦ omega arith ] in
@@ -169,7 +169,10 @@ small-note : Bytes noteBytes
 unfolding noteBytes
 small-note = cons-small 128 (omega arith) (cons-small 0 (omega arith) (cons-small 0 (omega arith) (one-small 0 (omega arith))))
 
+-- header, annotation, directory and pool
+pub small-parts : {R : Type 0} (us : List (Entry R)) (len : ℕ) {dir rest : List ℕ} → Bytes dir → Bytes rest → Bytes (headerBytes (normalHeader us) len ++ noteBytes ++ dir ++ rest)
+small-parts us len x y = join (join (join (small-header (normalHeader us) len (omega (arith, header-minor us, minor-range us .1))) small-note) x) y
+
 pub file-bytes : (us : List (Entry ℕ)) (minor : ℕ) → All RangedEntry us → All (EntryRule minor (length us)) us → Bytes (fileBytes itself us)
 unfolding fileBytes
-file-bytes us minor g r =
-    join (join (join (small-header (normalHeader us) (normalLength us) (omega (arith, header-minor us, minor-range us .1))) small-note) (small-directory 1 us)) (small-pool minor (length us) 1 us g r)
+file-bytes us minor g r = small-parts us (normalLength us) (small-directory 1 us) (small-pool minor (length us) 1 us g r)

@@ -1,0 +1,12 @@
+pub mod Stock
+pub mod Grows
+pub mod Pools
+pub mod Lengths
+pub mod Plain
+pub mod Leads
+pub mod Shows
+pub mod Small
+pub mod Mapped
+pub mod Back
+pub mod Theorems
+pub mod Examples

@@ -1,0 +1,5 @@
+pub mod Uses
+pub mod Pool
+pub mod Form
+pub mod Readable
+pub mod Theorems
