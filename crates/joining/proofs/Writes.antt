@@ -15,9 +15,9 @@ use Rattle.reader.specs.Values.{Entry, entry}
 use Rattle.meaning.specs.Meaning.{meaning}
 use Rattle.facts.specs.Union.{union}
 use Rattle.facts.specs.Link.{Linked, stopped, joined as linked}
-use Rattle.normal.specs.Size.{normalLength}
-use Rattle.normal.specs.Normal.{fileBytes, normalForm}
-use Rattle.normal.proofs.Lengths.{length-normal}
+use Rattle.stock.specs.Uses.{normalLength}
+use Rattle.stock.specs.Form.{fileBytes, normalForm}
+use Rattle.stock.proofs.Lengths.{length-normal}
 use Rattle.rows.specs.Rows.{keyOfRow, iidOfRow}
 use Rattle.iids.specs.Joined.{joined}
 use Rattle.iids.specs.Cells.{cell}

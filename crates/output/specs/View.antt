@@ -7,8 +7,8 @@ use Rattle.number.specs.Limits.{fileLimit, entryLimit}
 use Rattle.number.specs.Choice.{if_then_else_, _≤?_}
 use Rattle.key.specs.Key.{Key}
 use Rattle.reader.specs.Values.{Descriptor, Entry, entry}
-use Rattle.normal.specs.Size.{normalLength}
-use Rattle.normal.specs.Normal.{fileBytes}
+use Rattle.stock.specs.Uses.{normalLength}
+use Rattle.stock.specs.Form.{fileBytes}
 use Rattle.rows.specs.Rows.{keyOfRow}
 use Rattle.iids.specs.Cells.{cell}
 use Rattle.bridge.specs.Span.{span}

@@ -1,0 +1,9 @@
+pub mod Words
+pub mod Walks
+pub mod Descriptors
+pub mod Keys
+pub mod Owns
+pub mod Leads
+pub mod Entries
+pub mod Turns
+pub mod Views

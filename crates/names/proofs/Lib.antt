@@ -1,0 +1,5 @@
+pub mod Words
+pub mod Marks
+pub mod Sorts
+pub mod Heads
+pub mod Firsts
