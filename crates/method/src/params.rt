@@ -67,7 +67,7 @@ pub fn read_param(pool: &[u8], c: Context, result: bool, at: usize) -> Step
             place: base + at,
         });
     }
-    let r = types::read_type(pool, c, 8, at + 1);
+    let r = types::read_outer(pool, c, at + 1);
     let Step::End(end) = r else {
         return r;
     };

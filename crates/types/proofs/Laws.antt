@@ -1,21 +1,22 @@
 -- Laws of what follows a prefix.
 -- Assumes nothing.
 use mathlib.Core.Path.{_≡_, refl, sym, ap, _∙_}
-use mathlib.Core.Bool.{Bool}
+use mathlib.Core.Bool.{Bool, false}
 use mathlib.Core.List.{List}
 use Prim.Native.Nat.{ℕ, zero, suc, _+_, _-_, _<_}
 use native.Mathlib.Omega.{arith}
-use lib.ListN.{length}
+use lib.ListN.{length, getD}
 use Rattle.number.proofs.Choice.{from-not-le}
 use Rattle.reading.specs.Got.{Got, got, next, byte, stepOf}
 use Rattle.reading.specs.declared.Context.{Context}
 use Rattle.reading.specs.declared.Step.{Step}
 use Rattle.reading.specs.declared.Step.the-variants.{End}
-use Rattle.reading.proofs.Steps.{refused, at-bad, told}
+use Rattle.reading.proofs.Steps.{refused, at-bad, told, is-false, byte-in}
 use Rattle.reading.proofs.Facts.{Facts, fact, f-got, f-unless}
 use Rattle.types.specs.declared.Class.{Class}
 use Rattle.types.specs.declared.Class.the-variants.{Reserved, Plain, Text, Interface, InterfaceIs, Array, Sized}
-use Rattle.types.specs.Types.{Ty, array, isReserved, lacksPointer, readRest, readArray, readType}
+use Rattle.types.specs.Prefix.{tagOf}
+use Rattle.types.specs.Types.{Ty, array, classOf, isReserved, lacksPointer, readRest, typeWith, readArray, readType}
 
 -- where a byte that was read ends
 byte-facts : (c : Context) (s : List ℕ) (p : ℕ) → Facts (λ b e. (p < length s) × (e ≡ p + 1)) (byte c s p)
@@ -36,6 +37,13 @@ module _ {k l : Class} (h : k ≡ l) {r b : Bool} where
 -- what follows a prefix whose class is known
 pub rest-is : (f : ℕ → ℕ → ℕ → Got (Ty ℕ)) (c : Context) (s : List ℕ) (k l : Class) (p b e : ℕ) {z : Step} → k ≡ l → z ≡ stepOf (readRest f c s l p b e) → z ≡ stepOf (readRest f c s k p b e)
 rest-is f c s k l p b e h r = rw h r
+
+-- a type whose prefix is in the pool, of a class that is not reserved, with the pointer bit that it needs
+pub type-of : (left : ℕ) (c : Context) (s : List ℕ) (p : ℕ) {k l : Class} {r : Bool} {z : Step} → p < length s → l ≡ classOf (c .minor) (tagOf (getD s p 0)) → l ≡ k → isReserved k ≡ false
+    → r ≡ lacksPointer l (getD s p 0) → r ≡ false → z ≡ stepOf (readRest (readArray left c s) c s k p (getD s p 0) (p + 1)) → z ≡ stepOf (readType left c s p)
+unfolding readType typeWith
+type-of left c s p {k} i w h n q e z =
+    byte-in _ _ _ _ i (is-false _ _ _ (rw (← w, h) n) (is-false _ _ _ (lacks-is w _ q e) (rest-is _ _ _ _ k _ _ _ (sym w ∙ h) z)))
 
 -- what is no array's is the same whatever reads arrays
 rest-plain : (f g : ℕ → ℕ → ℕ → Got (Ty ℕ)) (c : Context) (s : List ℕ) (k : Class) (p b e : ℕ) → (k ≡ Array → ⊥) → readRest g c s k p b e ≡ readRest f c s k p b e

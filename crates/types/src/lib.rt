@@ -249,3 +249,25 @@ fn read_array(pool: &[u8], c: Context, left: usize, at: usize) -> Step
     };
     Step::End(end)
 }
+
+// A type that may hold eight arrays one inside another. The common ones are told here, where no function calls itself.
+pub fn read_outer(pool: &[u8], c: Context, at: usize) -> Step
+    requires { ⌜ (at ≤ length (now pool)) × (c .base + length (now pool) ≤ fileLimit) ⌝ }
+    ensures { λ r. ⌜ r ≡ stepOf (readType 8 c (now (pool .entry)) at) ⌝ }
+{
+    let minor = c.minor;
+    if pool.len() <= at {
+        return read_type(pool, c, 8, at);
+    }
+    let b = pool[at];
+    let k = tag_class(minor, b % REFERENCE);
+    if lacks_pointer(k, b) {
+        return read_type(pool, c, 8, at);
+    }
+    match k {
+        Class::Plain => Step::End(at + 1),
+        Class::Text => Step::End(at + 1),
+        Class::Interface => read_index(pool, c, at + 1),
+        _ => read_type(pool, c, 8, at),
+    }
+}
