@@ -3,20 +3,25 @@
 use mathlib.Core.Path.{_≡_, sym, ap, _∙_}
 use mathlib.Core.Bool.{Bool, true, false}
 use mathlib.Core.List.{List}
-use Prim.Native.Nat.{ℕ, _+_}
-use lib.ListN.{getD, take}
-use Rattle.reading.specs.Got.{Got, got, next, stepOf, Accepted}
+use Prim.Native.Nat.{ℕ, _+_, _≤_, _<_}
+use native.Mathlib.Omega.{arith}
+use lib.Dec.{eqb}
+use lib.ListN.{length, getD, take}
+use borrow.Author.Tests.{eqb-true, eqb-false}
+use Rattle.reading.specs.Got.{Got, got, bad, next, many, stepOf, Accepted}
 use Rattle.reading.specs.declared.Context.{Context}
 use Rattle.reading.specs.declared.Step.{Step}
+use Rattle.reading.specs.declared.Step.the-variants.{End}
+use Rattle.reading.proofs.Steps.{refused, at-end, at-bad, told, next-end, next-refused, many-stop}
 use Rattle.types.specs.Types.{prefix, readType}
 use Rattle.method.specs.Parameter.{Param, paramFlags, paramType, readParam}
 use Rattle.method.specs.Numbers.{prefixes, wrongNumbers, wrongArguments, wrongResult}
 use Rattle.method.specs.Method.{ruleSignature}
 use Rattle.method.specs.declared.walk.Fine.{Fine}
 use Rattle.method.specs.declared.walk.Fine.the-variants.{To, Broken}
-use Rattle.method.specs.Walk.{fine, fineOf, brokenOf, ruleOf}
+use Rattle.method.specs.Walk.{fine, fineOf, brokenOf, ruleOf, signatureFrom}
 use Rattle.method.specs.Tables.{Listed}
-use Rattle.method.proofs.Arguments.{ParamAt, param-at}
+use Rattle.method.proofs.Arguments.{ParamAt, param-at, Sofar, sofar-done}
 use Rattle.method.proofs.NumberLaws.{fine-to, fine-broken}
 
 -- the result
@@ -59,3 +64,36 @@ pub rule-told : (c : Context) (first f : ℕ) (t : List ℕ) (g : Got (List (Par
 unfolding ruleOf next
 rule-told c first f t g h n end {ps} {x} {d} {e} a b l z =
     rw (a, b, l .held ps d a) at z
+
+-- ---- the loop over arguments and result: k arguments are behind, and at k = n the result stands
+
+pub row-more : (k n : ℕ) → k ≤ n → eqb k n ≡ false → k < n
+row-more k n l i = let z : k ≡ n → ⊥ = eqb-false k n i in omega arith
+
+pub row-is : {a b : Bool} (c : Context) (s : List ℕ) (p : ℕ) {r : Step} → a ≡ b → r ≡ stepOf (readParam a c s p) → r ≡ stepOf (readParam b c s p)
+row-is c s p i h = rw i at h
+
+module _ (c : Context) (s : List ℕ) (n at k p : ℕ) (t : List ℕ) (a : Sofar c s at k p t) where
+  stop : (first f : ℕ) (b : Bool) {r : Step} {m q : ℕ} → eqb k n ≡ b → k ≤ n → r ≡ refused m q → r ≡ stepOf (readParam b c s p) → r ≡ stepOf (signatureFrom c s first f n at)
+  stop first f true i l e h =
+      let z : k ≡ n = eqb-true k n i in
+      next-end _ _ (rw (← z, a .read) (at-end (a .args) p)) (λ ps g. next-refused _ _ e h)
+  stop first f false {r} {m} {q} i l e h =
+      let b : many (readParam false c s) n at ≡ bad m q = many-stop _ n k at (a .args) p m q (row-more k n l i) (a .read) (told _ (sym e ∙ h)) in
+      next-refused _ _ e (rw b (e ∙ at-bad _ m q))
+
+  pub row-stop : (first f : ℕ) {r : Step} {m q : ℕ} → k ≤ n → r ≡ refused m q → r ≡ stepOf (readParam (eqb k n) c s p) → r ≡ stepOf (signatureFrom c s first f n at)
+  row-stop first f l e h = stop first f (eqb k n) (λ _. eqb k n) l e h
+
+  module _ (i : eqb k n ≡ true) {r : Step} {e : ℕ} (q : r ≡ End e) (h : r ≡ stepOf (readParam (eqb k n) c s p)) where
+    pub row-args : Accepted (many (readParam false c s) n at)
+    row-args = let z : k ≡ n = eqb-true k n i in (a .args, p, rw (← z) (a .read))
+
+    pub row-result : Accepted (readParam true c s p)
+    row-result = let x = told _ (sym q ∙ row-is c s p i h) in (x .0, e, x .1)
+
+    pub row-done : (first f : ℕ) {z : Step} → 256 ≡ length t → z ≡ stepOf (ruleOf c first f (take n t) (many (readParam false c s) n at) (readParam true c s p) e) → z ≡ stepOf (signatureFrom c s first f n at)
+    unfolding row-args
+    row-done first f m w =
+        next-end _ _ (rw (row-args .2) (at-end (a .args) p)) (λ ps g. next-end _ _ (sym q ∙ row-is c s p i h) (λ x j.
+        rule-told c first f t _ _ n e g j (sofar-done c s at n k p t a (eqb-true k n i) m) w))

@@ -1,14 +1,14 @@
 -- The argument numbers and the rules of what was read.
 -- Assumes nothing.
-use mathlib.Core.Bool.{Bool, true}
+use mathlib.Core.Bool.{Bool, true, false}
 use mathlib.Core.List.{List}
 use Prim.Native.Nat.{ℕ}
 use Rattle.number.specs.Choice.{if_then_else_}
-use Rattle.reading.specs.Got.{Got, got, bad, next}
+use Rattle.reading.specs.Got.{Got, got, bad, next, many}
 use Rattle.reading.specs.declared.Context.{Context}
 use Rattle.types.specs.Types.{Ty}
-use Rattle.method.specs.Parameter.{Param}
-use Rattle.method.specs.Numbers.{wrongNumbers, wrongArguments}
+use Rattle.method.specs.Parameter.{Param, readParam}
+use Rattle.method.specs.Numbers.{prefixes, wrongNumbers, wrongArguments}
 use Rattle.method.specs.Method.{Signature, ruleSignature}
 use Rattle.method.specs.declared.walk.Fine.{Fine}
 use Rattle.method.specs.declared.walk.Fine.the-variants.{To, Broken}
@@ -33,3 +33,10 @@ ruleOf c first f pre g h end =
     next g λ ps _.
     next h λ r _.
     ruleSignature c first f pre ps r end
+
+-- a signature of n arguments, which start at p
+abbrev pub signatureFrom : Context → List ℕ → ℕ → ℕ → ℕ → ℕ → Got (Signature ℕ)
+signatureFrom c s first f n p =
+    next (many (readParam false c s) n p) λ ps e.
+    next (readParam true c s e) λ r e.
+    ruleSignature c first f (prefixes ps) ps r e

@@ -67,11 +67,30 @@ pub fn read_param(pool: &[u8], c: Context, result: bool, at: usize) -> Step
             place: base + at,
         });
     }
-    let r = types::read_outer(pool, c, at + 1);
+    let r = types::read_type(pool, c, 8, at + 1);
     let Step::End(end) = r else {
         return r;
     };
     Step::End(end)
+}
+
+// The same, for one caller, in which it is inlined: what is refused is told by the function above.
+pub fn read_row(pool: &[u8], c: Context, result: bool, at: usize) -> Step
+    requires { ⌜ (at ≤ length (now pool)) × (c .base + length (now pool) ≤ fileLimit) ⌝ }
+    ensures { λ r. ⌜ r ≡ stepOf (readParam result c (now (pool .entry)) at) ⌝ }
+{
+    let minor = c.minor;
+    if pool.len() <= at {
+        return read_param(pool, c, result, at);
+    }
+    let f = pool[at];
+    if reserved_param(minor, f) {
+        return read_param(pool, c, result, at);
+    }
+    if wrong_param(result, f) {
+        return read_param(pool, c, result, at);
+    }
+    types::read_outer(pool, c, at + 1)
 }
 
 // n arguments; the table gets the prefixes of their types.

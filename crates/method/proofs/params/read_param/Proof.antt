@@ -27,8 +27,8 @@ read-param-spec =
     (λ c.
     let e = c .before .before .before in
     let k = e .before in
-    byte-in _ _ _ _ (omega arith) (is-false _ _ _ (sym (k .before .before .reserved-param .ensures) ∙ k .before .if2 .left) (is-false _ _ _ (sym (k .wrong-param .ensures) ∙ e .if3 .left) (next-refused _ _ (c .enum-told .given .1) (c .before .before .read-outer .ensures)))))
+    byte-in _ _ _ _ (omega arith) (is-false _ _ _ (sym (k .before .before .reserved-param .ensures) ∙ k .before .if2 .left) (is-false _ _ _ (sym (k .wrong-param .ensures) ∙ e .if3 .left) (next-refused _ _ (c .enum-told .given .1) (c .before .before .read-type .ensures)))))
     (λ c.
     let e = c .before .before .before .before in
     let k = e .before in
-    byte-in _ _ _ _ (omega arith) (is-false _ _ _ (sym (k .before .before .reserved-param .ensures) ∙ k .before .if2 .left) (is-false _ _ _ (sym (k .wrong-param .ensures) ∙ e .if3 .left) (next-end _ _ (sym (c .before .r .given .1) ∙ c .before .before .before .read-outer .ensures) (λ t h. at-end _ _))))))
+    byte-in _ _ _ _ (omega arith) (is-false _ _ _ (sym (k .before .before .reserved-param .ensures) ∙ k .before .if2 .left) (is-false _ _ _ (sym (k .wrong-param .ensures) ∙ e .if3 .left) (next-end _ _ (sym (c .before .r .given .1) ∙ c .before .before .before .read-type .ensures) (λ t h. at-end _ _))))))
