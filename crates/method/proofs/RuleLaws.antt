@@ -11,7 +11,7 @@ use borrow.Author.Tests.{eqb-true, eqb-false}
 use Rattle.reading.specs.Got.{Got, got, bad, next, many, stepOf, Accepted}
 use Rattle.reading.specs.declared.Context.{Context}
 use Rattle.reading.specs.declared.Step.{Step}
-use Rattle.reading.specs.declared.Step.the-variants.{End}
+use Rattle.reading.specs.declared.Step.the-variants.{End, Refused}
 use Rattle.reading.proofs.Steps.{refused, at-end, at-bad, told, next-end, next-refused, many-stop}
 use Rattle.types.specs.Types.{prefix, readType}
 use Rattle.method.specs.Parameter.{Param, paramFlags, paramType, readParam}
@@ -20,7 +20,10 @@ use Rattle.method.specs.Method.{ruleSignature}
 use Rattle.method.specs.declared.walk.Fine.{Fine}
 use Rattle.method.specs.declared.walk.Fine.the-variants.{To, Broken}
 use Rattle.method.specs.Walk.{fine, fineOf, brokenOf, ruleOf, signatureFrom}
-use Rattle.method.specs.Tables.{Listed}
+use Rattle.method.specs.Tables.{Listed, Signs}
+use Rattle.method.specs.declared.params.Signed.{Signed}
+use Rattle.method.specs.declared.params.Signed.the-variants as signed
+use Rattle.reading.specs.declared.Refusal.{Refusal}
 use Rattle.method.proofs.Arguments.{ParamAt, param-at, Sofar, sofar-done}
 use Rattle.method.proofs.NumberLaws.{fine-to, fine-broken}
 
@@ -85,15 +88,21 @@ module _ (c : Context) (s : List ℕ) (n at k p : ℕ) (t : List ℕ) (a : Sofar
   pub row-stop : (first f : ℕ) {r : Step} {m q : ℕ} → k ≤ n → r ≡ refused m q → r ≡ stepOf (readParam (eqb k n) c s p) → r ≡ stepOf (signatureFrom c s first f n at)
   row-stop first f l e h = stop first f (eqb k n) (λ _. eqb k n) l e h
 
-  module _ (i : eqb k n ≡ true) {r : Step} {e : ℕ} (q : r ≡ End e) (h : r ≡ stepOf (readParam (eqb k n) c s p)) where
-    pub row-args : Accepted (many (readParam false c s) n at)
-    row-args = let z : k ≡ n = eqb-true k n i in (a .args, p, rw (← z) (a .read))
+  pub row-done : {r : Step} {e : ℕ} → eqb k n ≡ true → r ≡ End e → r ≡ stepOf (readParam (eqb k n) c s p) → 256 ≡ length t → Listed (many (readParam false c s) n at) n (End p) t × (End e ≡ stepOf (readParam true c s p))
+  row-done i q h m = (sofar-done c s at n k p t a (eqb-true k n i) m, sym q ∙ row-is c s p i h)
 
-    pub row-result : Accepted (readParam true c s p)
-    row-result = let x = told _ (sym q ∙ row-is c s p i h) in (x .0, e, x .1)
+-- what the loop answers
+module _ (c : Context) (s : List ℕ) (n at : ℕ) (r : Signed) (t : List ℕ) (h : Signs c s n at r t) where
+  pub signs-at : {mid end : ℕ} → r ≡ signed.At mid end → Listed (many (readParam false c s) n at) n (End mid) t × (End end ≡ stepOf (readParam true c s mid))
+  unfolding Signs
+  signs-at e = rw e at h
 
-    pub row-done : (first f : ℕ) {z : Step} → 256 ≡ length t → z ≡ stepOf (ruleOf c first f (take n t) (many (readParam false c s) n at) (readParam true c s p) e) → z ≡ stepOf (signatureFrom c s first f n at)
-    unfolding row-args
-    row-done first f m w =
-        next-end _ _ (rw (row-args .2) (at-end (a .args) p)) (λ ps g. next-end _ _ (sym q ∙ row-is c s p i h) (λ x j.
-        rule-told c first f t _ _ n e g j (sofar-done c s at n k p t a (eqb-true k n i) m) w))
+  pub signs-refused : {why : Refusal} → r ≡ signed.Refused why → (first f : ℕ) → Refused why ≡ stepOf (signatureFrom c s first f n at)
+  unfolding Signs
+  signs-refused e = rw e at h
+
+  pub signs-rule : (first f : ℕ) {mid end : ℕ} {z : Step} → r ≡ signed.At mid end → z ≡ stepOf (ruleOf c first f (take n t) (many (readParam false c s) n at) (readParam true c s mid) end)
+      → z ≡ stepOf (signatureFrom c s first f n at)
+  signs-rule first f {mid} {end} e w =
+      let a = signs-at e in
+      next-end _ _ (a .0 .step) (λ ps g. next-end _ _ (a .1) (λ x j. rule-told c first f t _ _ n end g j (a .0) w))

@@ -1,6 +1,7 @@
 -- The tables that the reading of arguments and of methods fills.
 -- Assumes nothing.
 use mathlib.Core.Path.{_≡_}
+use mathlib.Core.Bool.{true, false}
 use mathlib.Core.List.{List}
 use mathlib.Core.Logic.{_⊎_}
 use Prim.Native.Nat.{ℕ, _-_, _≤_, _<_}
@@ -9,17 +10,26 @@ use Rattle.number.specs.Limits.{ownLimit}
 use Rattle.reading.specs.Got.{Got, got, bad, many, stepOf}
 use Rattle.reading.specs.declared.Context.{Context}
 use Rattle.reading.specs.declared.Step.{Step}
+use Rattle.reading.specs.declared.Step.the-variants.{End, Refused}
 use Rattle.key.specs.Word.{wordAt, Leads}
 use Rattle.key.specs.First.{Past}
-use Rattle.method.specs.Parameter.{Param}
+use Rattle.method.specs.Parameter.{Param, readParam}
 use Rattle.method.specs.Numbers.{prefixes}
 use Rattle.method.specs.Method.{Method, methodFlags, methodName, readMethod, noMethod}
+use Rattle.method.specs.Walk.{signatureFrom}
+use Rattle.method.specs.declared.params.Signed.{Signed}
+use Rattle.method.specs.declared.params.Signed.the-variants as signed
 
 -- n arguments were read as g says, and the first n places of the table t are the prefixes of their types
 pub record Listed (g : Got (List (Param ℕ))) (n : ℕ) (r : Step) (t : List ℕ) : Type 0 where
   pub step : r ≡ stepOf g
   pub held : (ps : List (Param ℕ)) (e : ℕ) → g ≡ got ps e → take n t ≡ prefixes ps
   pub long : 256 ≡ length t
+
+-- n arguments and the result behind them were read, the result from `mid` to `end`; where one is refused, so is the signature
+unfoldable pub Signs : Context → List ℕ → ℕ → ℕ → Signed → List ℕ → Type 0
+Signs c s n at (signed.At mid end) t = Listed (many (readParam false c s) n at) n (End mid) t × (End end ≡ stepOf (readParam true c s mid))
+Signs c s n at (signed.Refused why) t = (first f : ℕ) → Refused why ≡ stepOf (signatureFrom c s first f n at)
 
 -- the first n places of two tables are the flags and the name pointers of the methods ms
 pub record Kept (s flags names : List ℕ) (ms : List (Method ℕ)) (n : ℕ) : Type 0 where

@@ -8,8 +8,9 @@ ghost use Rattle.reading.specs.Got.{stepOf, many, Accepted};
 ghost use Rattle.method.specs.Parameter.{readParam};
 ghost use Rattle.method.specs.Numbers.{wrongResult};
 ghost use Rattle.method.specs.Method.{readSignature, readMethod};
-ghost use Rattle.method.specs.Walk.{ruleOf, signatureFrom};
+ghost use Rattle.method.specs.Walk.{ruleOf};
 ghost use Rattle.method.specs.Tables.{Noted, Reached};
+use crate::params::Signed;
 use crate::walk::Fine;
 use number::OWN_LIMIT;
 use reading::Context;
@@ -92,36 +93,6 @@ fn rule_signature(
     Step::End(end)
 }
 
-// n arguments and the result, read in one loop, and their rules; the table gets the prefixes of the arguments' types.
-fn read_parameters(
-    pool: &[u8],
-    c: Context,
-    first: usize,
-    flags: u8,
-    n: usize,
-    at: usize,
-    table: &mut [u8; 256],
-) -> Step
-    requires { ⌜ (at ≤ length (now pool)) × (c .base + length (now pool) ≤ fileLimit) × (first ≤ length (now pool)) × (n ≤ 255) × (256 ≡ length (now table)) ⌝ }
-    ensures { λ r. ⌜ r ≡ stepOf (signatureFrom c (now (pool .entry)) first flags n at) ⌝ }
-{
-    let mut k: usize = 0;
-    let mut p = at;
-    loop {
-        let last = k == n;
-        let r = crate::params::read_row(pool, c, last, p);
-        let Step::End(e) = r else {
-            return r;
-        };
-        if last {
-            return rule_signature(pool, c, first, flags, n, at, p, e, table);
-        }
-        table[k] = pool[p + 1];
-        p = e;
-        k += 1;
-    }
-}
-
 // The argument count at `at`, the arguments and the result.
 fn read_signature(pool: &[u8], c: Context, first: usize, flags: u8, at: usize) -> Step
     requires { ⌜ (at ≤ length (now pool)) × (c .base + length (now pool) ≤ fileLimit) × (first ≤ length (now pool)) ⌝ }
@@ -136,7 +107,20 @@ fn read_signature(pool: &[u8], c: Context, first: usize, flags: u8, at: usize) -
     }
     let n = pool[at] as usize;
     let mut table = [0u8; 256];
-    read_parameters(pool, c, first, flags, n, at + 1, &mut table)
+    match crate::params::read_parameters(pool, c, n, at + 1, &mut table) {
+        Signed::At { mid, end } => rule_signature(
+            pool,
+            c,
+            first,
+            flags,
+            n,
+            at + 1,
+            mid,
+            end,
+            &table,
+        ),
+        Signed::Refused(why) => Step::Refused(why),
+    }
 }
 
 // A method.

@@ -6,7 +6,7 @@ ghost use lib.ListN.{length};
 ghost use Rattle.number.specs.Limits.{fileLimit};
 ghost use Rattle.reading.specs.Got.{stepOf, many};
 ghost use Rattle.method.specs.Parameter.{reservedParam, wrongParam, readParam};
-ghost use Rattle.method.specs.Tables.{Listed};
+ghost use Rattle.method.specs.Tables.{Listed, Signs};
 use crate::DIPPER;
 use crate::LOWEST;
 use crate::OUT;
@@ -14,6 +14,12 @@ use crate::RETVAL;
 use reading::Context;
 use reading::Refusal;
 use reading::Step;
+
+// Where the result of a signature starts and where it ends, or the first refusal.
+pub enum Signed {
+    At { mid: usize, end: usize },
+    Refused(Refusal),
+}
 
 // Whether parameter flags have a reserved bit.
 fn reserved_param(minor: usize, f: u8) -> bool
@@ -75,7 +81,7 @@ pub fn read_param(pool: &[u8], c: Context, result: bool, at: usize) -> Step
 }
 
 // The same, for one caller, in which it is inlined: what is refused is told by the function above.
-pub fn read_row(pool: &[u8], c: Context, result: bool, at: usize) -> Step
+fn read_row(pool: &[u8], c: Context, result: bool, at: usize) -> Step
     requires { ⌜ (at ≤ length (now pool)) × (c .base + length (now pool) ≤ fileLimit) ⌝ }
     ensures { λ r. ⌜ r ≡ stepOf (readParam result c (now (pool .entry)) at) ⌝ }
 {
@@ -110,4 +116,33 @@ pub fn read_arguments(pool: &[u8], c: Context, n: usize, at: usize, table: &mut 
         k += 1;
     }
     Step::End(p)
+}
+
+// n arguments and the result, read in one loop; the table gets the prefixes of the arguments' types.
+pub fn read_parameters(
+    pool: &[u8],
+    c: Context,
+    n: usize,
+    at: usize,
+    table: &mut [u8; 256],
+) -> Signed
+    requires { ⌜ (at ≤ length (now pool)) × (c .base + length (now pool) ≤ fileLimit) × (n ≤ 255) × (256 ≡ length (now table)) ⌝ }
+    ensures { λ r. ⌜ Signs c (now (pool .entry)) n at r (now (table .exit)) ⌝ }
+{
+    let mut k: usize = 0;
+    let mut p = at;
+    loop {
+        let last = k == n;
+        match read_row(pool, c, last, p) {
+            Step::End(e) => {
+                if last {
+                    return Signed::At { mid: p, end: e };
+                }
+                table[k] = pool[p + 1];
+                p = e;
+                k += 1;
+            }
+            Step::Refused(why) => return Signed::Refused(why),
+        }
+    }
 }
