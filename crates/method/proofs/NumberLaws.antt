@@ -1,26 +1,31 @@
 -- Laws of the argument numbers of types that have been read.
 -- Assumes nothing.
-use mathlib.Core.Path.{_≡_, refl, sym, ap, _∙_}
+use mathlib.Core.Path.{_≡_, refl, sym, ap, subst, _∙_}
 use mathlib.Core.Bool.{Bool, true, false}
-use mathlib.Core.List.{List}
-use Prim.Native.Nat.{ℕ, _+_, _-_, _≤_, _<_}
+use mathlib.Core.List.{List, _∷_}
+use Prim.Native.Nat.{ℕ, zero, suc, _+_, _-_, _%_, _≤_, _<_}
 use native.Mathlib.Omega.{arith}
 use native.Mathlib.Nat.{sub-zero}
-use lib.ListN.{length, getD}
-use Rattle.number.specs.Choice.{if_then_else_}
-use Rattle.number.proofs.Choice.{is-true, is-false}
+use lib.ListN.{length, getD, take}
+use lib.Seq.{getD-take}
+use Rattle.number.specs.Choice.{if_then_else_, _≤?_, _=?_}
+use Rattle.number.specs.Scan.{some}
+use Rattle.number.proofs.Choice.{is-true, is-false, both, from-not-le, from-not-eq}
+use Rattle.number.proofs.Scans.{none-found}
 use Rattle.reading.specs.Got.{got, many, Accepted}
 use Rattle.reading.specs.declared.Context.{Context}
 use Rattle.reading.proofs.Steps.{many-open}
-use Rattle.reading.proofs.Rows.{many-empty}
+use Rattle.reading.proofs.Rows.{many-empty, many-first}
+use Rattle.types.specs.declared.Class.{Class}
 use Rattle.types.specs.declared.Class.the-variants.{Reserved, Plain, Text, Interface, InterfaceIs, Array, Sized}
-use Rattle.types.specs.Types.{Ty, readType}
-use Rattle.types.proofs.View.{classAt, type-is, type-as}
+use Rattle.types.specs.Types.{Ty, prefix, classOf, readType}
+use Rattle.types.proofs.View.{TypeAs, classAt, type-is, type-as}
 use Rattle.method.specs.Parameter.{Param, paramType, readParam}
-use Rattle.method.specs.Numbers.{wrongIid, wrongSizes, wrongNumbers, wrongArguments}
+use Rattle.method.specs.Numbers.{prefixes, wrongIid, wrongSizes, wrongNumbers, wrongArguments}
 use Rattle.method.specs.declared.walk.Fine.{Fine}
 use Rattle.method.specs.declared.walk.Fine.the-variants.{To, Broken}
-use Rattle.method.specs.Walk.{fine, fineOf, brokenOf}
+use Rattle.method.specs.Walk.{fine, fineOf, brokenOf, numbered}
+use Rattle.method.specs.Tables.{Held}
 use Rattle.method.proofs.Arguments.{param-at}
 
 -- ---- what the answer for a type says of its numbers
@@ -181,3 +186,41 @@ module _ (c : Context) (s pre : List ℕ) (n at : ℕ) where
     rest-done l =
         let m : n - k ≡ 0 = omega arith in
         sym (w .same ∙ ap (wrongArguments pre) (many-empty (readParam false c s) p (rw m at (w .read)) .0))
+
+-- ---- arguments without a tag from 19 on have no numbers
+
+low-class : (P : Class → Type 0) (minor tag : ℕ) → tag < 19 → P Reserved → P Plain → P Text → P Interface → P (classOf minor tag)
+unfolding classOf
+low-class P minor tag l r a t i =
+    both P (tag ≤? 14) _ _ (λ _. a) (λ _.
+    both P (tag =? 15) _ _ (λ _. both P (minor =? 0) _ _ (λ _. r) (λ _. a)) (λ _.
+    both P (tag ≤? 17) _ _ (λ _. t) (λ e.
+    let m = from-not-le tag 17 e in
+    both P (tag =? 18) _ _ (λ _. i) (λ g. let n = from-not-eq tag 18 g in absurd (omega arith)))))
+
+low-type : (pre : List ℕ) (left : ℕ) (c : Context) (s : List ℕ) (p : ℕ) {t : Ty ℕ} {e : ℕ} → readType left c s p ≡ got t e → getD s p 0 % 32 < 19 → wrongNumbers pre t ≡ false
+unfolding wrongNumbers
+low-type pre left c s p {t} {e} h l =
+    low-class (λ (k : Class). TypeAs left c s p k t e → wrongNumbers pre t ≡ false) (c .minor) (getD s p 0 % 32) l
+    (λ w. absurd w) (λ w. ap (wrongNumbers pre) (w .is)) (λ w. ap (wrongNumbers pre) (w .is)) (λ w. ap (wrongNumbers pre) (w .is))
+    (type-is left c s p h .rest)
+
+low-arguments : (pre : List ℕ) (c : Context) (s : List ℕ) (n p : ℕ) {ps : List (Param ℕ)} {e : ℕ} → many (readParam false c s) n p ≡ got ps e
+    → ((i : ℕ) → i < n → getD (prefixes ps) i 0 % 32 < 19) → wrongArguments pre ps ≡ false
+unfolding wrongArguments prefixes
+low-arguments pre c s zero p h l = ap (wrongArguments pre) (many-empty (readParam false c s) p h .0)
+low-arguments pre c s (suc n) p {ps} h l =
+    let o = many-first (readParam false c s) n p h in
+    let w = param-at false c s p (o .first) in
+    let m : (i : ℕ) → i < suc n → getD (prefixes (o .head ∷ o .tail)) i 0 % 32 < 19 = subst (λ (qs : List (Param ℕ)). (i : ℕ) → i < suc n → getD (prefixes qs) i 0 % 32 < 19) (o .split) l in
+    let z : getD s (p + 1) 0 % 32 < 19 = rw (← w .ty .first) (m 0 (omega arith)) in
+    ap (wrongArguments pre) (o .split) ∙ sym (is-false _ _ _ (low-type pre 8 c s (p + 1) (w .read) z) refl) ∙ low-arguments pre c s n (o .mid) (o .rest) (λ i k. m (suc i) (omega arith))
+
+pub numberless : (c : Context) (s : List ℕ) (n at : ℕ) (t : List ℕ) {r : Bool} → Accepted (many (readParam false c s) n at) → Held (many (readParam false c s) n at) n t
+    → r ≡ some (numbered t) n → r ≡ false → false ≡ brokenOf (take n t) (many (readParam false c s) n at)
+unfolding brokenOf numbered
+numberless c s n at t a h q e =
+    let f = h (a .0) (a .1) (a .2) in
+    rw (a .2) (sym (low-arguments (take n t) c s n at (a .2) (λ i l.
+    let z = getD-take n t i 0 l in
+    from-not-le 19 _ (ap (λ (v : ℕ). 19 ≤? v % 32) (ap (λ (u : List ℕ). getD u i 0) (sym f) ∙ z) ∙ none-found (numbered t) n i (sym q ∙ e) l))))

@@ -20,10 +20,14 @@ use Rattle.method.specs.Walk.{signatureFrom}
 use Rattle.method.specs.declared.params.Signed.{Signed}
 use Rattle.method.specs.declared.params.Signed.the-variants as signed
 
+-- where n arguments were read as g says, the first n places of the table t are the prefixes of their types
+abbrev pub Held : Got (List (Param ℕ)) → ℕ → List ℕ → Type 0
+Held g n t = (ps : List (Param ℕ)) (e : ℕ) → g ≡ got ps e → take n t ≡ prefixes ps
+
 -- n arguments were read as g says, and the first n places of the table t are the prefixes of their types
 pub record Listed (g : Got (List (Param ℕ))) (n : ℕ) (r : Step) (t : List ℕ) : Type 0 where
   pub step : r ≡ stepOf g
-  pub held : (ps : List (Param ℕ)) (e : ℕ) → g ≡ got ps e → take n t ≡ prefixes ps
+  pub held : Held g n t
   pub long : 256 ≡ length t
 
 -- n arguments and the result behind them were read, the result from `mid` to `end`; where one is refused, so is the signature

@@ -3,9 +3,11 @@
 use mathlib.Core.Bool.{Bool, true, false}
 use mathlib.Core.List.{List}
 use Prim.Native.Nat.{ℕ}
-use Rattle.number.specs.Choice.{if_then_else_}
+use lib.ListN.{getD}
+use Rattle.number.specs.Choice.{if_then_else_, _≤?_}
 use Rattle.reading.specs.Got.{Got, got, bad, next, many}
 use Rattle.reading.specs.declared.Context.{Context}
+use Rattle.types.specs.Prefix.{tagOf}
 use Rattle.types.specs.Types.{Ty}
 use Rattle.method.specs.Parameter.{Param, readParam}
 use Rattle.method.specs.Numbers.{prefixes, wrongNumbers, wrongArguments}
@@ -26,6 +28,10 @@ fineOf pre (bad n q) = Broken
 unfoldable pub brokenOf : List ℕ → Got (List (Param ℕ)) → Bool
 brokenOf pre (got ps e) = wrongArguments pre ps
 brokenOf pre (bad n q) = true
+
+-- argument i of the table of prefixes t has a tag that argument numbers may follow
+unfoldable pub numbered : List ℕ → ℕ → Bool
+numbered t i = 19 ≤? tagOf (getD t i 0)
 
 -- the rules of a signature whose arguments and result were read, the result up to `end`
 unfoldable pub ruleOf : Context → ℕ → ℕ → List ℕ → Got (List (Param ℕ)) → Got (Param ℕ) → ℕ → Got (Signature ℕ)

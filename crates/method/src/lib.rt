@@ -9,7 +9,7 @@ ghost use Rattle.method.specs.Parameter.{readParam};
 ghost use Rattle.method.specs.Numbers.{wrongResult};
 ghost use Rattle.method.specs.Method.{readSignature, readMethod};
 ghost use Rattle.method.specs.Walk.{ruleOf};
-ghost use Rattle.method.specs.Tables.{Noted, Reached};
+ghost use Rattle.method.specs.Tables.{Held, Noted, Reached};
 use crate::params::Signed;
 use crate::walk::Fine;
 use number::OWN_LIMIT;
@@ -67,11 +67,11 @@ fn rule_signature(
     end: usize,
     table: &[u8; 256],
 ) -> Step
-    requires { ⌜ Accepted (many (readParam false c (now pool)) n at) × Accepted (readParam true c (now pool) mid) × (c .base + length (now pool) ≤ fileLimit) × (first ≤ length (now pool)) × (n ≤ 255) × (256 ≡ length (now table)) ⌝ }
+    requires { ⌜ Accepted (many (readParam false c (now pool)) n at) × Accepted (readParam true c (now pool) mid) × (c .base + length (now pool) ≤ fileLimit) × (first ≤ length (now pool)) × (n ≤ 255) × (256 ≡ length (now table)) × Held (many (readParam false c (now pool)) n at) n (now table) ⌝ }
     ensures { λ r. ⌜ r ≡ stepOf (ruleOf c first flags (take n (now (table .entry))) (many (readParam false c (now (pool .entry))) n at) (readParam true c (now (pool .entry)) mid) end) ⌝ }
 {
     let base = c.base;
-    if crate::walk::wrong_arguments(pool, c, n, at, table) {
+    if crate::walk::broken_arguments(pool, c, n, at, table) {
         return Step::Refused(Refusal {
             no: 16,
             place: base + first,

@@ -3,14 +3,19 @@ ghost use mathlib.Core.Bool.{false};
 ghost use mathlib.Core.Path.{_≡_};
 ghost use Prim.Native.Nat.{_+_, _≤_};
 ghost use lib.ListN.{length, take};
+ghost use Rattle.number.specs.Scan.{some};
 ghost use Rattle.number.specs.Limits.{fileLimit};
 ghost use Rattle.reading.specs.Got.{many, Accepted};
 ghost use Rattle.types.specs.Types.{readType};
 ghost use Rattle.method.specs.Parameter.{readParam};
 ghost use Rattle.method.specs.Numbers.{wrongIid, wrongSize, wrongSizes};
-ghost use Rattle.method.specs.Walk.{fineOf, brokenOf};
+ghost use Rattle.method.specs.Walk.{fineOf, brokenOf, numbered};
+ghost use Rattle.method.specs.Tables.{Held};
 use reading::Context;
 use types::Class;
+
+// The first tag that argument numbers may follow.
+const NUMBERED: u8 = 19;
 
 // The position after a type whose argument numbers name what they must.
 pub enum Fine {
@@ -132,6 +137,32 @@ pub fn wrong_arguments(pool: &[u8], c: Context, n: usize, at: usize, table: &[u8
         };
         p = e;
         k += 1;
+    }
+    false
+}
+
+// Whether a number may follow the prefix of one of n arguments.
+fn some_numbered(n: usize, table: &[u8; 256]) -> bool
+    requires { ⌜ (n ≤ 256) × (256 ≡ length (now table)) ⌝ }
+    ensures { λ r. ⌜ r ≡ some (numbered (now (table .entry))) n ⌝ }
+{
+    let mut k: usize = 0;
+    while k < n {
+        if NUMBERED <= table[k] % types::REFERENCE {
+            return true;
+        }
+        k += 1;
+    }
+    false
+}
+
+// n arguments whose prefixes the table has: most methods have no numbers, and are not walked.
+pub fn broken_arguments(pool: &[u8], c: Context, n: usize, at: usize, table: &[u8; 256]) -> bool
+    requires { ⌜ Accepted (many (readParam false c (now pool)) n at) × (length (now pool) ≤ fileLimit) × (n ≤ 256) × (256 ≡ length (now table)) × Held (many (readParam false c (now pool)) n at) n (now table) ⌝ }
+    ensures { λ r. ⌜ r ≡ brokenOf (take n (now (table .entry))) (many (readParam false c (now (pool .entry))) n at) ⌝ }
+{
+    if some_numbered(n, table) {
+        return wrong_arguments(pool, c, n, at, table);
     }
     false
 }

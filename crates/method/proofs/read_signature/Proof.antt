@@ -12,7 +12,7 @@ rule-signature-requires : tie.Need-rule-signature-requires
 rule-signature-requires c κs =
     let k = c .before .before .before .before in
     let a = signs-at _ _ _ _ _ _ (k .read-parameters .ensures) (c .before .before .mid .given .1) in
-    (accepted _ refl (a .0 .step), accepted _ refl (a .1), omega arith, omega arith, omega (arith, k .before .before .shared-slice-known2 .given (k .before .before .before .before .before .args .at)), a .0 .long)
+    (accepted _ refl (a .0 .step), accepted _ refl (a .1), omega arith, omega arith, omega (arith, k .before .before .shared-slice-known2 .given (k .before .before .before .before .before .args .at)), a .0 .long, a .0 .held)
 
 returns-2 : tie.Need-returns-2
 unfolding readSignature
