@@ -12,11 +12,11 @@ use lib.Seq.{getD-set-same, getD-set-other, getD-append-add}
 use Rattle.number.specs.Number.{be}
 use Rattle.number.proofs.Choice.{from-not-ne}
 use Rattle.number.proofs.Scans.{below}
-use Rattle.reading.specs.Got.{Got, got, bad, many, stepOf}
+use Rattle.reading.specs.Got.{Got, got, bad, next, many, stepOf}
 use Rattle.reading.specs.declared.Context.{Context}
 use Rattle.reading.specs.declared.Step.{Step}
 use Rattle.reading.specs.declared.Step.the-variants.{End}
-use Rattle.reading.proofs.Steps.{refused, at-end, at-bad, told, many-none, many-snoc, many-stop}
+use Rattle.reading.proofs.Steps.{refused, at-end, at-bad, told, next-last, many-none, many-snoc, many-stop}
 use Rattle.reading.proofs.Facts.{Facts, fact, f-got, f-unless, f-next, f-byte, f-read}
 use Rattle.reading.proofs.Rows.{many-first, many-empty, many-ends, many-length}
 use Rattle.key.specs.Word.{wordAt, Leads}
@@ -37,6 +37,11 @@ many-starts rd one (suc n) p h =
     let a = one p (o .head) (o .mid) (o .first) in
     let b = many-starts rd one n (o .mid) (o .rest) in
     omega arith
+
+-- a run of one record
+pub many-one : {X : Type 0} (rd : ℕ → Got X) (p : ℕ) {z : Step} → z ≡ stepOf (many rd 1 p) → z ≡ stepOf (rd p)
+unfolding many next
+many-one rd p h = h ∙ sym (next-last (rd p) (λ x. x ∷ []) refl)
 
 -- ---- a signature
 

@@ -18,7 +18,7 @@ use Rattle.reading.proofs.Steps.{many-open}
 use Rattle.reading.proofs.Rows.{many-empty, many-first}
 use Rattle.types.specs.declared.Class.{Class}
 use Rattle.types.specs.declared.Class.the-variants.{Reserved, Plain, Text, Interface, InterfaceIs, Array, Sized}
-use Rattle.types.specs.Types.{Ty, prefix, classOf, readType}
+use Rattle.types.specs.Types.{Ty, classOf, readType}
 use Rattle.types.proofs.View.{TypeAs, classAt, type-is, type-as}
 use Rattle.method.specs.Parameter.{Param, paramType, readParam}
 use Rattle.method.specs.Numbers.{prefixes, wrongIid, wrongSizes, wrongNumbers, wrongArguments}

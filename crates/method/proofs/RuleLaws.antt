@@ -97,7 +97,7 @@ module _ (c : Context) (s : List ℕ) (n at : ℕ) (r : Signed) (t : List ℕ) (
   unfolding Signs
   signs-at e = rw e at h
 
-  pub signs-refused : {why : Refusal} → r ≡ signed.Refused why → (first f : ℕ) → Refused why ≡ stepOf (signatureFrom c s first f n at)
+  pub signs-refused : {why : Refusal} → r ≡ signed.Refused why → ((first f : ℕ) → Refused why ≡ stepOf (signatureFrom c s first f n at)) × (256 ≡ length t)
   unfolding Signs
   signs-refused e = rw e at h
 

@@ -33,7 +33,7 @@ pub record Listed (g : Got (List (Param ℕ))) (n : ℕ) (r : Step) (t : List �
 -- n arguments and the result behind them were read, the result from `mid` to `end`; where one is refused, so is the signature
 unfoldable pub Signs : Context → List ℕ → ℕ → ℕ → Signed → List ℕ → Type 0
 Signs c s n at (signed.At mid end) t = Listed (many (readParam false c s) n at) n (End mid) t × (End end ≡ stepOf (readParam true c s mid))
-Signs c s n at (signed.Refused why) t = (first f : ℕ) → Refused why ≡ stepOf (signatureFrom c s first f n at)
+Signs c s n at (signed.Refused why) t = ((first f : ℕ) → Refused why ≡ stepOf (signatureFrom c s first f n at)) × (256 ≡ length t)
 
 -- the first n places of two tables are the flags and the name pointers of the methods ms
 pub record Kept (s flags names : List ℕ) (ms : List (Method ℕ)) (n : ℕ) : Type 0 where

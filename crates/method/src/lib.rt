@@ -94,9 +94,16 @@ fn rule_signature(
 }
 
 // The argument count at `at`, the arguments and the result.
-fn read_signature(pool: &[u8], c: Context, first: usize, flags: u8, at: usize) -> Step
-    requires { ⌜ (at ≤ length (now pool)) × (c .base + length (now pool) ≤ fileLimit) × (first ≤ length (now pool)) ⌝ }
-    ensures { λ r. ⌜ r ≡ stepOf (readSignature c (now (pool .entry)) first flags at) ⌝ }
+fn read_signature(
+    pool: &[u8],
+    c: Context,
+    first: usize,
+    flags: u8,
+    at: usize,
+    table: &mut [u8; 256],
+) -> Step
+    requires { ⌜ (at ≤ length (now pool)) × (c .base + length (now pool) ≤ fileLimit) × (first ≤ length (now pool)) × (256 ≡ length (now table)) ⌝ }
+    ensures { λ r. ⌜ (r ≡ stepOf (readSignature c (now (pool .entry)) first flags at)) × (256 ≡ length (now (table .exit))) ⌝ }
 {
     let base = c.base;
     if pool.len() <= at {
@@ -106,8 +113,7 @@ fn read_signature(pool: &[u8], c: Context, first: usize, flags: u8, at: usize) -
         });
     }
     let n = pool[at] as usize;
-    let mut table = [0u8; 256];
-    match crate::params::read_parameters(pool, c, n, at + 1, &mut table) {
+    match crate::params::read_parameters(pool, c, n, at + 1, table) {
         Signed::At { mid, end } => rule_signature(
             pool,
             c,
@@ -117,16 +123,16 @@ fn read_signature(pool: &[u8], c: Context, first: usize, flags: u8, at: usize) -
             at + 1,
             mid,
             end,
-            &table,
+            table,
         ),
         Signed::Refused(why) => Step::Refused(why),
     }
 }
 
-// A method.
-pub fn read_method(pool: &[u8], c: Context, at: usize) -> Step
-    requires { ⌜ (at ≤ length (now pool)) × (c .base + length (now pool) ≤ fileLimit) ⌝ }
-    ensures { λ r. ⌜ r ≡ stepOf (readMethod c (now (pool .entry)) at) ⌝ }
+// A method; the table is lent for the prefixes of its arguments.
+fn read_one(pool: &[u8], c: Context, at: usize, table: &mut [u8; 256]) -> Step
+    requires { ⌜ (at ≤ length (now pool)) × (c .base + length (now pool) ≤ fileLimit) × (256 ≡ length (now table)) ⌝ }
+    ensures { λ r. ⌜ (r ≡ stepOf (readMethod c (now (pool .entry)) at)) × (256 ≡ length (now (table .exit))) ⌝ }
 {
     let base = c.base;
     if pool.len() <= at {
@@ -146,7 +152,7 @@ pub fn read_method(pool: &[u8], c: Context, at: usize) -> Step
     let Step::End(e) = a else {
         return a;
     };
-    read_signature(pool, c, at, f, e)
+    read_signature(pool, c, at, f, e, table)
 }
 
 // n methods; the tables get their flags and name pointers.
@@ -161,10 +167,11 @@ pub fn read_methods(
     requires { ⌜ (at ≤ length (now pool)) × (c .base + length (now pool) ≤ fileLimit) × (n ≤ ownLimit) × (ownLimit ≡ length (now flags)) × (ownLimit ≡ length (now names)) ⌝ }
     ensures { λ r. ⌜ Noted c (now (pool .entry)) n at r (now (flags .exit)) (now (names .exit)) × Reached c (now (pool .entry)) n at (now (flags .exit)) (now (names .exit)) (now (flags .entry)) (now (names .entry)) ⌝ }
 {
+    let mut table = [0u8; 256];
     let mut k: usize = 0;
     let mut p = at;
     while k < n {
-        let r = read_method(pool, c, p);
+        let r = read_one(pool, c, p, &mut table);
         let Step::End(e) = r else {
             return r;
         };
@@ -174,4 +181,14 @@ pub fn read_methods(
         k += 1;
     }
     Step::End(p)
+}
+
+// One method. The loop above has the only call of `read_one`, which is inlined so.
+pub fn read_method(pool: &[u8], c: Context, at: usize) -> Step
+    requires { ⌜ (at ≤ length (now pool)) × (c .base + length (now pool) ≤ fileLimit) ⌝ }
+    ensures { λ r. ⌜ r ≡ stepOf (readMethod c (now (pool .entry)) at) ⌝ }
+{
+    let mut flags = [0u8; OWN_LIMIT];
+    let mut names = [0u32; OWN_LIMIT];
+    read_methods(pool, c, 1, at, &mut flags, &mut names)
 }

@@ -1,26 +1,10 @@
 -- `method::read_method` meets its contract.
 -- Assumes nothing.
-use Rattle.number.proofs.Tools.{arith, needs, sym, _∙_}
-use Rattle.reading.proofs.Steps.{at-bad, is-ne, no-ne, byte-in, byte-out, next-end, next-refused, next-last}
-use Rattle.name.proofs.NameLaws.{name-ends}
-use Rattle.method.specs.Method.{readMethod}
+use Rattle.number.proofs.Tools.{arith, refl}
+use Rattle.method.proofs.MethodLaws.{many-one}
 use Rattle.method.proofs.read_method.Statement.{statement}
 use Rattle.method.proofs.read_method.Tie as tie
 
 pub read-method-spec : {M : Type 1} → statement M
-unfolding readMethod
 read-method-spec =
-    tie.close
-    (tie.spec
-    (λ c. search needs)
-    (λ c. byte-out _ _ _ _ (omega arith))
-    (λ c. search needs)
-    (λ c. search needs)
-    (λ c. byte-in _ _ _ _ (omega arith) (is-ne _ _ _ _ (λ e. omega arith) (at-bad _ _ _)))
-    (λ c. search needs)
-    (λ c κs. search needs)
-    (λ c. search needs)
-    (λ c. search needs)
-    (λ c. byte-in _ _ _ _ (omega arith) (no-ne _ _ _ _ (omega arith) (next-refused _ _ (c .enum-told .given .1) (c .before .before .read-name .ensures))))
-    (λ c κs. omega (arith, name-ends _ _ _ (c .before .a .given .1) (c .before .before .before .read-name .ensures)))
-    (λ c. byte-in _ _ _ _ (omega arith) (no-ne _ _ _ _ (omega arith) (next-end _ _ (sym (c .before .before .a .given .1) ∙ c .before .before .before .before .read-name .ensures) (λ w h. next-last _ _ (c .read-signature .ensures))))))
+    tie.close (tie.spec (λ c κs. (omega arith, omega arith, omega arith, refl, refl)) (λ c. many-one _ _ (c .read-methods .ensures .0 .step)))

@@ -17,12 +17,15 @@ rule-signature-requires c κs =
 returns-2 : tie.Need-returns-2
 unfolding readSignature
 returns-2 c =
-    byte-in _ _ _ _ (omega arith) (signs-rule _ _ _ _ _ _ (c .before .before .before .before .before .read-parameters .ensures) _ _ (c .before .before .before .mid .given .1) (c .rule-signature .ensures))
+    let e = c .before .before .before .mid .given .1 in
+    let h = c .before .before .before .before .before .read-parameters .ensures in
+    (byte-in _ _ _ _ (omega arith) (signs-rule _ _ _ _ _ _ h _ _ e (c .rule-signature .ensures)), signs-at _ _ _ _ _ _ h e .0 .long)
 
 returns-3 : tie.Need-returns-3
 unfolding readSignature
 returns-3 c =
-    byte-in _ _ _ _ (omega arith) (signs-refused _ _ _ _ _ _ (c .before .before .before .read-parameters .ensures) (c .before .why .given .1) _ _)
+    let w = signs-refused _ _ _ _ _ _ (c .before .before .before .read-parameters .ensures) (c .before .why .given .1) in
+    (byte-in _ _ _ _ (omega arith) (w .0 _ _), w .1)
 
 pub read-signature-spec : {M : Type 1} → statement M
 unfolding readSignature
@@ -30,11 +33,11 @@ read-signature-spec =
     tie.close
     (tie.spec
     (λ c. search needs)
-    (λ c. byte-out _ _ _ _ (omega arith))
+    (λ c. (byte-out _ _ _ _ (omega arith), omega arith))
     (λ c. search needs)
     (λ c. omega (arith, c .shared-slice-known2 .given (c .before .before .before .args .at)))
     (λ c. search needs)
-    (λ c κs. (omega arith, omega arith, omega (arith, c .before .shared-slice-known2 .given (c .before .before .before .before .args .at)), refl))
+    (λ c κs. (omega arith, omega arith, omega (arith, c .before .shared-slice-known2 .given (c .before .before .before .before .args .at)), omega arith))
     (λ c. search needs)
     (λ c. search needs)
     rule-signature-requires

@@ -43,9 +43,9 @@ loop-again c =
 
 returns-2 : tie.Need-returns-2 Inv-loop μ-loop
 unfolding Signs
-returns-2 c first f =
+returns-2 c =
     let k = c .before .before .before in
-    sym (c .before .why .given .1) ∙ row-stop _ _ _ _ _ _ _ (k .before .loop .inv .1 .1 .0) first f (omega arith) (c .before .why .given .1) (k .read-row .ensures)
+    (λ first f. sym (c .before .why .given .1) ∙ row-stop _ _ _ _ _ _ _ (k .before .loop .inv .1 .1 .0) first f (omega arith) (c .before .why .given .1) (k .read-row .ensures), omega arith)
 
 pub read-parameters-spec : {M : Type 1} → statement M
 read-parameters-spec =
