@@ -7,7 +7,7 @@ use Prim.Native.Nat.{ℕ, zero, suc, _+_, _-_, _<_}
 use lib.ListN.{length, getD}
 use Rattle.number.specs.Limits.{ownLimit}
 use Rattle.number.specs.Choice.{if_then_else_, _≤?_, _=?_, _≠?_}
-use Rattle.number.specs.Scan.{tally}
+use Rattle.number.specs.Scan.{some, tally}
 use Rattle.reading.specs.Got.{got, stepOf}
 use Rattle.reading.specs.declared.Context.{Context}
 use Rattle.reading.specs.declared.Step.{Step}
@@ -15,7 +15,7 @@ use Rattle.key.specs.Word.{Leads, wordAt, sameWord}
 use Rattle.method.specs.Method.{Method, readMethod}
 use Rattle.method.specs.Tables.{Kept}
 use Rattle.method.specs.Flags.{setterBit}
-use Rattle.descriptor.specs.Rules.{isGetter, isSetter}
+use Rattle.descriptor.specs.Rules.{isGetter, isSetter, strayPair}
 use Rattle.descriptor.specs.Descriptor.{readCounted}
 
 -- what a table holds at i
@@ -47,6 +47,13 @@ strayOf v j = if v =? 0 then false else v ≠? j
 -- method j is a setter, and a getter of its name, by what t says of each name, is not just before it
 unfoldable pub straySetter : (ℕ → ℕ) → (ℕ → ℕ) → (ℕ → ℕ) → ℕ → Bool
 straySetter f g t j = if isSetter f j then strayOf (t (g j)) j else false
+
+-- a broken pair seen from setter j, and whether there is one among n methods
+unfoldable pub pairWith : (ℕ → ℕ) → (ℕ → List ℕ) → ℕ → ℕ → Bool
+pairWith f w j i = strayPair f w i j
+
+unfoldable pub strayWith : (ℕ → ℕ) → (ℕ → List ℕ) → ℕ → ℕ → Bool
+strayWith f w n j = some (pairWith f w j) n
 
 -- a getter or a setter: the two highest bits
 unfoldable pub isAccessor : (ℕ → ℕ) → ℕ → Bool

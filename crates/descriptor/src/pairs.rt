@@ -1,15 +1,17 @@
 // Constructors and getter pairs, from tables of the methods' flags and of the groups of their names.
 ghost use mathlib.Core.Path.{_≡_};
-ghost use Prim.Native.Nat.{_+_, _≤_, _<_};
+ghost use mathlib.Core.Bool.{true};
+ghost use Prim.Native.Nat.{_+_, _-_, _≤_, _<_};
 ghost use lib.ListN.{length, getD};
 ghost use Rattle.number.specs.Limits.{fileLimit, ownLimit};
 ghost use Rattle.number.specs.Bits.{bit};
 ghost use Rattle.number.specs.Choice.{if_then_else_, _≤?_, _=?_};
 ghost use Rattle.number.specs.Scan.{some, tally};
 ghost use Rattle.key.specs.First.{Filled};
+ghost use Rattle.key.specs.Word.{Leads, wordAt, sameWord};
 ghost use Rattle.method.specs.Flags.{setterBit, constructorBit};
-ghost use Rattle.descriptor.specs.Rules.{manyConstructors, strayPairs};
-ghost use Rattle.descriptor.specs.Tables.{Below, Led, Taken, Grouped, cell, wordIn, isAccessor, groupIn, oneMore, gettersOf, strayOf, straySetter};
+ghost use Rattle.descriptor.specs.Rules.{isSetter, manyConstructors, strayPairs};
+ghost use Rattle.descriptor.specs.Tables.{Below, Led, Taken, Grouped, cell, wordIn, isAccessor, groupIn, oneMore, gettersOf, strayOf, straySetter, pairWith, strayWith};
 use number::OWN_LIMIT;
 
 // 1 for the flags of a constructor, 0 for others.
@@ -205,8 +207,8 @@ fn name_groups(
     spread_groups(flags, &groups, n, first);
 }
 
-// Whether a getter pair is broken among n methods, whose flags and name pointers stand in tables.
-pub fn stray_pairs(pool: &[u8], flags: &[u8; OWN_LIMIT], names: &[u32; OWN_LIMIT], n: usize) -> bool
+// Whether a getter pair is broken, by the table of getters.
+fn stray_by_table(pool: &[u8], flags: &[u8; OWN_LIMIT], names: &[u32; OWN_LIMIT], n: usize) -> bool
     requires { ⌜ (n ≤ ownLimit) × (length (now pool) ≤ fileLimit) × (ownLimit ≡ length (now flags)) × (ownLimit ≡ length (now names)) × Led (now pool) (now names) n ⌝ }
     ensures { λ r. ⌜ r ≡ strayPairs (cell (now (flags .entry))) (wordIn (now (pool .entry)) (now (names .entry))) n ⌝ }
 {
@@ -215,4 +217,119 @@ pub fn stray_pairs(pool: &[u8], flags: &[u8; OWN_LIMIT], names: &[u32; OWN_LIMIT
     name_groups(pool, flags, names, n, &mut first);
     note_getters(flags, &first, n, &mut getters);
     stray_setter(flags, &first, &getters, n)
+}
+
+// The words that the pool pointers a and b lead to are the same.
+fn same_name(pool: &[u8], a: u32, b: u32) -> bool
+    requires { ⌜ Leads (now pool) a × Leads (now pool) b × (length (now pool) ≤ fileLimit) ⌝ }
+    ensures { λ r. ⌜ r ≡ sameWord (wordAt (now (pool .entry)) (a - 1)) (wordAt (now (pool .entry)) (b - 1)) ⌝ }
+{
+    let o = key::compare_words(pool, a as usize - 1, pool, b as usize - 1);
+    match o {
+        key::Order::Before => false,
+        key::Order::Same => true,
+        key::Order::After => false,
+    }
+}
+
+// Whether method i is a getter that setter j, of its name, is not just behind.
+fn parts_from(
+    pool: &[u8],
+    flags: &[u8; OWN_LIMIT],
+    names: &[u32; OWN_LIMIT],
+    n: usize,
+    i: usize,
+    j: usize,
+) -> bool
+    requires { ⌜ (n ≤ ownLimit) × (length (now pool) ≤ fileLimit) × (ownLimit ≡ length (now flags)) × (ownLimit ≡ length (now names)) × Led (now pool) (now names) n × (i < n) × (j < n) × (isSetter (cell (now flags)) j ≡ true) ⌝ }
+    ensures { λ r. ⌜ r ≡ pairWith (cell (now (flags .entry))) (wordIn (now (pool .entry)) (now (names .entry))) j i ⌝ }
+{
+    if flags[i] / method::GETTER % 2 == 0 {
+        return false;
+    }
+    if i + 1 == j {
+        return false;
+    }
+    same_name(pool, names[i], names[j])
+}
+
+// Whether one of n methods is such a getter.
+fn parts_from_some(
+    pool: &[u8],
+    flags: &[u8; OWN_LIMIT],
+    names: &[u32; OWN_LIMIT],
+    n: usize,
+    j: usize,
+) -> bool
+    requires { ⌜ (n ≤ ownLimit) × (length (now pool) ≤ fileLimit) × (ownLimit ≡ length (now flags)) × (ownLimit ≡ length (now names)) × Led (now pool) (now names) n × (j < n) × (isSetter (cell (now flags)) j ≡ true) ⌝ }
+    ensures { λ r. ⌜ r ≡ strayWith (cell (now (flags .entry))) (wordIn (now (pool .entry)) (now (names .entry))) n j ⌝ }
+{
+    let mut i: usize = 0;
+    while i < n {
+        if parts_from(pool, flags, names, n, i, j) {
+            return true;
+        }
+        i += 1;
+    }
+    false
+}
+
+// Whether method j is a setter of a broken pair.
+fn stray_with(
+    pool: &[u8],
+    flags: &[u8; OWN_LIMIT],
+    names: &[u32; OWN_LIMIT],
+    n: usize,
+    j: usize,
+) -> bool
+    requires { ⌜ (n ≤ ownLimit) × (length (now pool) ≤ fileLimit) × (ownLimit ≡ length (now flags)) × (ownLimit ≡ length (now names)) × Led (now pool) (now names) n × (j < n) ⌝ }
+    ensures { λ r. ⌜ r ≡ strayWith (cell (now (flags .entry))) (wordIn (now (pool .entry)) (now (names .entry))) n j ⌝ }
+{
+    if flags[j] / method::SETTER % 2 == 1 {
+        return parts_from_some(pool, flags, names, n, j);
+    }
+    false
+}
+
+// Whether a getter pair is broken, by comparing each setter's name with the getters'.
+fn stray_by_each(pool: &[u8], flags: &[u8; OWN_LIMIT], names: &[u32; OWN_LIMIT], n: usize) -> bool
+    requires { ⌜ (n ≤ ownLimit) × (length (now pool) ≤ fileLimit) × (ownLimit ≡ length (now flags)) × (ownLimit ≡ length (now names)) × Led (now pool) (now names) n ⌝ }
+    ensures { λ r. ⌜ r ≡ strayPairs (cell (now (flags .entry))) (wordIn (now (pool .entry)) (now (names .entry))) n ⌝ }
+{
+    let mut j: usize = 0;
+    while j < n {
+        if stray_with(pool, flags, names, n, j) {
+            return true;
+        }
+        j += 1;
+    }
+    false
+}
+
+// How many of n methods are setters.
+fn count_setters(flags: &[u8; OWN_LIMIT], n: usize) -> usize
+    requires { ⌜ (n ≤ ownLimit) × (ownLimit ≡ length (now flags)) ⌝ }
+    ensures { λ r. ⌜ r ≤ n ⌝ }
+{
+    let mut k: usize = 0;
+    let mut i: usize = 0;
+    while i < n {
+        k += (flags[i] / method::SETTER % 2) as usize;
+        i += 1;
+    }
+    k
+}
+
+// Below so many comparisons names are compared one by one; with more, names alike would take longer than with the table.
+const FEW: usize = 128;
+
+// Whether a getter pair is broken among n methods, whose flags and name pointers stand in tables.
+pub fn stray_pairs(pool: &[u8], flags: &[u8; OWN_LIMIT], names: &[u32; OWN_LIMIT], n: usize) -> bool
+    requires { ⌜ (n ≤ ownLimit) × (length (now pool) ≤ fileLimit) × (ownLimit ≡ length (now flags)) × (ownLimit ≡ length (now names)) × Led (now pool) (now names) n ⌝ }
+    ensures { λ r. ⌜ r ≡ strayPairs (cell (now (flags .entry))) (wordIn (now (pool .entry)) (now (names .entry))) n ⌝ }
+{
+    if count_setters(flags, n) * n < FEW {
+        return stray_by_each(pool, flags, names, n);
+    }
+    stray_by_table(pool, flags, names, n)
 }

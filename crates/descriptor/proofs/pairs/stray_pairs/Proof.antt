@@ -1,24 +1,22 @@
 -- `descriptor::pairs::stray_pairs` meets its contract.
 -- Assumes nothing.
-use Rattle.number.proofs.Tools.{arith, needs}
-use Rattle.descriptor.proofs.StrayLaws.{no-getters, strays-told}
+use Prim.Native.Nat.{_≤_}
+use native.Mathlib.Nat.{mul-le-mul-right}
+use Rattle.number.proofs.Tools.{arith}
+use borrow.Author.Needs.{needs}
 use Rattle.descriptor.proofs.pairs.stray_pairs.Statement.{statement}
 use Rattle.descriptor.proofs.pairs.stray_pairs.Tie as tie
 
-name-groups-requires : tie.Need-name-groups-requires
-name-groups-requires c κs = search needs
-
-note-getters-requires : tie.Need-note-getters-requires
-note-getters-requires c κs = (omega arith, omega arith, c .before .before .name-groups .ensures .2, c .before .before .name-groups .ensures .1, no-getters _ _)
-
-stray-setter-requires : tie.Need-stray-setter-requires
-stray-setter-requires c κs = search needs
-
-returns : tie.Need-returns
-returns c =
-    let g = c .before .before .before .before .before .before .name-groups .ensures in
-    strays-told _ _ _ _ _ (omega arith) (g .0) (g .1) (c .before .before .before .note-getters .ensures) (c .stray-setter .ensures)
+mul-if1 : tie.Need-mul-if1
+mul-if1 c = let h : c .count-setters .result ≤ 1024 = omega arith in omega (arith, mul-le-mul-right (c .before .before .args .n) h)
 
 pub stray-pairs-spec : {M : Type 1} → statement M
 stray-pairs-spec =
-    tie.close (tie.spec name-groups-requires note-getters-requires stray-setter-requires returns)
+    tie.close
+    (tie.spec
+    (λ c κs. search needs)
+    mul-if1
+    (λ c κs. search needs)
+    (λ c. search needs)
+    (λ c κs. search needs)
+    (λ c. search needs))
