@@ -4,3 +4,4 @@ mod pairs;
 mod record;
 
 pub use record::read_descriptor;
+pub use record::read_with;

@@ -120,8 +120,8 @@ fn read_flags(
     Step::End(at + 1)
 }
 
-// A descriptor, with room for its methods' flags and names.
-fn read_with(
+// A descriptor, with tables for its methods' flags and names, whatever stands in them.
+pub fn read_with(
     pool: &[u8],
     c: Context,
     at: usize,
@@ -129,7 +129,7 @@ fn read_with(
     names: &mut [u32; OWN_LIMIT],
 ) -> Step
     requires { ⌜ (at ≤ length (now pool)) × (c .base + length (now pool) ≤ fileLimit) × (ownLimit ≡ length (now flags)) × (ownLimit ≡ length (now names)) ⌝ }
-    ensures { λ r. ⌜ r ≡ stepOf (readDescriptor c (now (pool .entry)) at) ⌝ }
+    ensures { λ r. ⌜ (r ≡ stepOf (readDescriptor c (now (pool .entry)) at)) × (ownLimit ≡ length (now (flags .exit))) × (ownLimit ≡ length (now (names .exit))) ⌝ }
 {
     let up = read_parent(pool, c, at);
     let Step::End(e) = up else {

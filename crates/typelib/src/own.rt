@@ -3,21 +3,29 @@ ghost use mathlib.Core.Path.{_≡_};
 ghost use mathlib.Core.Bool.{true};
 ghost use Prim.Native.Nat.{_+_, _*_, _≤_, _<_};
 ghost use lib.ListN.{length};
-ghost use Rattle.number.specs.Limits.{fileLimit, entryWidth};
+ghost use Rattle.number.specs.Limits.{fileLimit, ownLimit, entryWidth};
 ghost use Rattle.number.specs.Scan.{scan, some};
 ghost use Rattle.reading.specs.Got.{stepOf, many};
 ghost use Rattle.typelib.specs.Entry.{readOwn};
 ghost use Rattle.typelib.specs.Own.{Settled};
 ghost use Rattle.typelib.specs.Directory.{Lies, pointsTo};
 use number::ENTRY_WIDTH;
+use number::OWN_LIMIT;
 use reading::Context;
 use reading::Refusal;
 use reading::Step;
 
-// The verdict on the descriptor of the entry at p.
-pub fn check_own(file: &[u8], pool: &[u8], c: Context, p: usize) -> Step
-    requires { ⌜ (p + entryWidth ≤ length (now file)) × (length (now file) ≤ fileLimit) × (c .base + length (now pool) ≤ fileLimit) ⌝ }
-    ensures { λ r. ⌜ r ≡ stepOf (readOwn c (now (file .entry)) (now (pool .entry)) p) ⌝ }
+// The verdict on the descriptor of the entry at p, with tables for its methods.
+fn check_with(
+    file: &[u8],
+    pool: &[u8],
+    c: Context,
+    p: usize,
+    flags: &mut [u8; OWN_LIMIT],
+    names: &mut [u32; OWN_LIMIT],
+) -> Step
+    requires { ⌜ (p + entryWidth ≤ length (now file)) × (length (now file) ≤ fileLimit) × (c .base + length (now pool) ≤ fileLimit) × (ownLimit ≡ length (now flags)) × (ownLimit ≡ length (now names)) ⌝ }
+    ensures { λ r. ⌜ (r ≡ stepOf (readOwn c (now (file .entry)) (now (pool .entry)) p)) × (ownLimit ≡ length (now (flags .exit))) × (ownLimit ≡ length (now (names .exit))) ⌝ }
 {
     let q = number::u32_at(file, p + 24) as usize;
     if q == 0 {
@@ -29,11 +37,21 @@ pub fn check_own(file: &[u8], pool: &[u8], c: Context, p: usize) -> Step
             place: p + 24,
         });
     }
-    let r = descriptor::read_descriptor(pool, c, q - 1);
+    let r = descriptor::read_with(pool, c, q - 1, flags, names);
     let Step::End(e) = r else {
         return r;
     };
     Step::End(p + ENTRY_WIDTH)
+}
+
+// The same with tables of its own.
+pub fn check_own(file: &[u8], pool: &[u8], c: Context, p: usize) -> Step
+    requires { ⌜ (p + entryWidth ≤ length (now file)) × (length (now file) ≤ fileLimit) × (c .base + length (now pool) ≤ fileLimit) ⌝ }
+    ensures { λ r. ⌜ r ≡ stepOf (readOwn c (now (file .entry)) (now (pool .entry)) p) ⌝ }
+{
+    let mut flags = [0u8; OWN_LIMIT];
+    let mut names = [0u32; OWN_LIMIT];
+    check_with(file, pool, c, p, &mut flags, &mut names)
 }
 
 // Whether entry j has the descriptor pointer q.
@@ -71,16 +89,26 @@ fn stood_earlier(file: &[u8], n: usize, d: usize, k: usize, q: u32, top: u32) ->
 }
 
 // The verdict on the descriptor of entry k, where those before it were accepted.
-fn check_once(file: &[u8], pool: &[u8], c: Context, n: usize, d: usize, k: usize, top: u32) -> Step
-    requires { ⌜ Lies (now file) n d × (k < n) × (c .base + length (now pool) ≤ fileLimit) × Settled c (now file) (now pool) d k ⌝ }
-    ensures { λ r. ⌜ r ≡ stepOf (readOwn c (now (file .entry)) (now (pool .entry)) (d + entryWidth * k)) ⌝ }
+fn check_once(
+    file: &[u8],
+    pool: &[u8],
+    c: Context,
+    n: usize,
+    d: usize,
+    k: usize,
+    top: u32,
+    flags: &mut [u8; OWN_LIMIT],
+    names: &mut [u32; OWN_LIMIT],
+) -> Step
+    requires { ⌜ Lies (now file) n d × (k < n) × (c .base + length (now pool) ≤ fileLimit) × Settled c (now file) (now pool) d k × (ownLimit ≡ length (now flags)) × (ownLimit ≡ length (now names)) ⌝ }
+    ensures { λ r. ⌜ (r ≡ stepOf (readOwn c (now (file .entry)) (now (pool .entry)) (d + entryWidth * k))) × (ownLimit ≡ length (now (flags .exit))) × (ownLimit ≡ length (now (names .exit))) ⌝ }
 {
     let p = d + ENTRY_WIDTH * k;
     let q = number::u32_at(file, p + 24);
     if stood_earlier(file, n, d, k, q, top) {
         return Step::End(p + ENTRY_WIDTH);
     }
-    check_own(file, pool, c, p)
+    check_with(file, pool, c, p, flags, names)
 }
 
 // The higher of `top` and the pointer of entry k.
@@ -95,15 +123,23 @@ fn raised(file: &[u8], n: usize, d: usize, k: usize, top: u32) -> u32
     top
 }
 
-// The descriptors of n entries.
-pub fn check_descriptors(file: &[u8], pool: &[u8], c: Context, n: usize, d: usize) -> Step
-    requires { ⌜ Lies (now file) n d × (c .base + length (now pool) ≤ fileLimit) ⌝ }
+// The descriptors of n entries, with tables that serve each in its turn.
+fn check_each(
+    file: &[u8],
+    pool: &[u8],
+    c: Context,
+    n: usize,
+    d: usize,
+    flags: &mut [u8; OWN_LIMIT],
+    names: &mut [u32; OWN_LIMIT],
+) -> Step
+    requires { ⌜ Lies (now file) n d × (c .base + length (now pool) ≤ fileLimit) × (ownLimit ≡ length (now flags)) × (ownLimit ≡ length (now names)) ⌝ }
     ensures { λ r. ⌜ r ≡ stepOf (many (readOwn c (now (file .entry)) (now (pool .entry))) n d) ⌝ }
 {
     let mut k: usize = 0;
     let mut top: u32 = 0;
     while k < n {
-        let r = check_once(file, pool, c, n, d, k, top);
+        let r = check_once(file, pool, c, n, d, k, top, flags, names);
         let Step::End(e) = r else {
             return r;
         };
@@ -111,4 +147,14 @@ pub fn check_descriptors(file: &[u8], pool: &[u8], c: Context, n: usize, d: usiz
         k += 1;
     }
     Step::End(d + ENTRY_WIDTH * n)
+}
+
+// The descriptors of n entries.
+pub fn check_descriptors(file: &[u8], pool: &[u8], c: Context, n: usize, d: usize) -> Step
+    requires { ⌜ Lies (now file) n d × (c .base + length (now pool) ≤ fileLimit) ⌝ }
+    ensures { λ r. ⌜ r ≡ stepOf (many (readOwn c (now (file .entry)) (now (pool .entry))) n d) ⌝ }
+{
+    let mut flags = [0u8; OWN_LIMIT];
+    let mut names = [0u32; OWN_LIMIT];
+    check_each(file, pool, c, n, d, &mut flags, &mut names)
 }

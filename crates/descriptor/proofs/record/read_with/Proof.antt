@@ -20,7 +20,11 @@ enum-told c = search needs
 
 returns : tie.Need-returns
 unfolding readDescriptor
-returns c = next-refused _ _ (c .enum-told .given .1) (c .before .before .read-parent .ensures)
+returns c = (
+  next-refused _ _ (c .enum-told .given .1) (c .before .before .read-parent .ensures),
+  omega arith,
+  omega arith,
+)
 
 read-all-methods-requires : tie.Need-read-all-methods-requires
 read-all-methods-requires c κs = omega (arith, parent-ends _ _ _ (c .before .before .before .up .given .1) (c .before .before .before .before .before .read-parent .ensures))
@@ -33,7 +37,11 @@ enum-told-2 c = search needs
 
 returns-2 : tie.Need-returns-2
 unfolding readDescriptor
-returns-2 c = next-end _ _ (sym (c .before .before .before .before .before .before .up .given .1) ∙ c .before .before .before .before .before .before .before .before .read-parent .ensures) (λ w h. next-refused _ _ (c .enum-told2 .given .1) (c .before .before .read-all-methods .ensures .step))
+returns-2 c = (
+  next-end _ _ (sym (c .before .before .before .before .before .before .up .given .1) ∙ c .before .before .before .before .before .before .before .before .read-parent .ensures) (λ w h. next-refused _ _ (c .enum-told2 .given .1) (c .before .before .read-all-methods .ensures .step)),
+  c .before .before .read-all-methods .ensures .flags-long,
+  c .before .before .read-all-methods .ensures .names-long,
+)
 
 read-all-constants-requires : tie.Need-read-all-constants-requires
 read-all-constants-requires c κs = omega (arith, methods-end _ _ _ (c .before .methods .given .1) (omega (arith, parent-ends _ _ _ (c .before .before .before .before .before .before .before .up .given .1) (c .before .before .before .before .before .before .before .before .before .read-parent .ensures))) (c .before .before .before .read-all-methods .ensures .step))
@@ -46,7 +54,11 @@ enum-told-3 c = search needs
 
 returns-3 : tie.Need-returns-3
 unfolding readDescriptor
-returns-3 c = next-end _ _ (sym (c .before .before .before .before .before .before .before .before .before .before .up .given .1) ∙ c .before .before .before .before .before .before .before .before .before .before .before .before .read-parent .ensures) (λ w h. next-end _ _ (sym (c .before .before .before .before .methods .given .1) ∙ c .before .before .before .before .before .before .read-all-methods .ensures .step) (λ ms j. next-refused _ _ (c .enum-told3 .given .1) (c .before .before .read-all-constants .ensures)))
+returns-3 c = (
+  next-end _ _ (sym (c .before .before .before .before .before .before .before .before .before .before .up .given .1) ∙ c .before .before .before .before .before .before .before .before .before .before .before .before .read-parent .ensures) (λ w h. next-end _ _ (sym (c .before .before .before .before .methods .given .1) ∙ c .before .before .before .before .before .before .read-all-methods .ensures .step) (λ ms j. next-refused _ _ (c .enum-told3 .given .1) (c .before .before .read-all-constants .ensures))),
+  c .before .before .before .before .before .before .read-all-methods .ensures .flags-long,
+  c .before .before .before .before .before .before .read-all-methods .ensures .names-long,
+)
 
 u16-at-requires : tie.Need-u16-at-requires
 u16-at-requires c κs = omega (arith, methods-end _ _ _ (c .before .before .before .before .before .methods .given .1) (omega (arith, parent-ends _ _ _ (c .before .before .before .before .before .before .before .before .before .before .before .up .given .1) (c .before .before .before .before .before .before .before .before .before .before .before .before .before .read-parent .ensures))) (c .before .before .before .before .before .before .before .read-all-methods .ensures .step))
@@ -59,7 +71,11 @@ read-flags-requires c κs = (omega (arith, constants-ends _ _ _ (c .before .befo
 
 returns-4 : tie.Need-returns-4
 unfolding readDescriptor
-returns-4 c = next-end _ _ (sym (c .before .before .before .before .before .before .before .before .before .before .before .before .before .before .before .up .given .1) ∙ c .before .before .before .before .before .before .before .before .before .before .before .before .before .before .before .before .before .read-parent .ensures) (λ w h. next-end _ _ (sym (c .before .before .before .before .before .before .before .before .before .methods .given .1) ∙ c .before .before .before .before .before .before .before .before .before .before .before .read-all-methods .ensures .step) (λ ms j. next-end _ _ (sym (c .before .before .before .before .before .constants .given .1) ∙ c .before .before .before .before .before .before .before .read-all-constants .ensures) (λ ks k. next-last _ _ (count-told _ _ _ _ _ (c .before .before .before .before .before .before .before .before .before .methods .given .1) (c .before .before .before .before .before .before .before .before .before .before .before .read-all-methods .ensures) _ _ _ ms (c .before .before .before .u16-at .ensures) j (c .read-flags .ensures)))))
+returns-4 c = (
+  next-end _ _ (sym (c .before .before .before .before .before .before .before .before .before .before .before .before .before .before .before .up .given .1) ∙ c .before .before .before .before .before .before .before .before .before .before .before .before .before .before .before .before .before .read-parent .ensures) (λ w h. next-end _ _ (sym (c .before .before .before .before .before .before .before .before .before .methods .given .1) ∙ c .before .before .before .before .before .before .before .before .before .before .before .read-all-methods .ensures .step) (λ ms j. next-end _ _ (sym (c .before .before .before .before .before .constants .given .1) ∙ c .before .before .before .before .before .before .before .read-all-constants .ensures) (λ ks k. next-last _ _ (count-told _ _ _ _ _ (c .before .before .before .before .before .before .before .before .before .methods .given .1) (c .before .before .before .before .before .before .before .before .before .before .before .read-all-methods .ensures) _ _ _ ms (c .before .before .before .u16-at .ensures) j (c .read-flags .ensures))))),
+  c .before .before .before .before .before .before .before .before .before .before .before .read-all-methods .ensures .flags-long,
+  c .before .before .before .before .before .before .before .before .before .before .before .read-all-methods .ensures .names-long,
+)
 
 pub read-with-spec : {M : Type 1} → statement M
 read-with-spec =
