@@ -2,6 +2,7 @@
 -- Assumes nothing.
 use Rattle.number.proofs.Tools.{arith, refl, sym, _+_, _-_}
 use Rattle.number.proofs.Scans.{clash}
+use Rattle.key.specs.Word.{Walk}
 use Rattle.key.proofs.Ends.{word-from}
 use Rattle.key.proofs.Walks as laws
 use mathlib.Core.Bool.{false}
@@ -9,7 +10,7 @@ use Rattle.rdb_map.proofs.comes_before.Statement.{statement}
 use Rattle.rdb_map.proofs.comes_before.Tie as tie
 
 abbrev Inv-loop : tie.InvT-loop
-Inv-loop file a b i₀ j₀ i j = laws.Walk file file a b i j
+Inv-loop file a b i₀ j₀ i j = Walk file file a b i j
 
 abbrev μ-loop : tie.MeasureT-loop
 μ-loop file a b i₀ j₀ i j = a + 64 - i
