@@ -1,18 +1,24 @@
 -- Where letters end: the bytes before that place, the characters they are, and that a word's letters end where the pool's do.
 -- Assumes nothing.
 use mathlib.Core.Path.{_≡_, refl, sym, ap, _∙_}
+use mathlib.Core.Bool.{Bool, true, false, _&&_, false≢true}
 use mathlib.Core.List.{List}
+use mathlib.Core.Logic.{inl, inr}
 use Prim.Native.Nat.{ℕ, zero, suc, _+_, _-_, _≤_, _<_}
 use native.Mathlib.Decide.{decLe, ℕ-discrete}
 use native.Mathlib.Nat.{add-zero}
 use native.Mathlib.Omega.{arith}
-use lib.ListN.{length, getD, List·getD-eq-default}
+use lib.ListN.{length, getD, take, List·getD-eq-default}
+use lib.Seq.{length-take-le, getD-take}
+use lib.Dec.{ltb}
+use borrow.Author.Tests.{ltb-true}
 use Rattle.number.specs.Choice.{if_then_else_, _≤?_, _=?_}
 use Rattle.number.proofs.Choice.{both, is-le, no-le, is-eq, no-eq, from-not-le, from-not-eq}
+use Rattle.number.proofs.Scans.{below}
 use Rattle.utf8.specs.Utf8.{CharAt, Chars, charSize, one}
 use Rattle.utf8.proofs.Laws.{char-size, size-char}
 use Rattle.utf8.proofs.Chars.{char-some, char-tails, char-inside, char-bytes, char-moved, size-same}
-use Rattle.name.specs.Name.{letterSize, lettersEnd}
+use Rattle.name.specs.Name.{Plain, letterSize, lettersEnd}
 
 -- a byte that may stand in a letter
 pub record Lettered (b : ℕ) : Type 0 where
@@ -153,6 +159,39 @@ module _ (s : List ℕ) where
       let b = v p (omega (arith, char-inside s p c)) in
       let e = letter-size s p k (b .0) (b .1) c in
       ends-next f p (λ z. omega arith) ∙ rw e (chars-end n f (p + k) (omega arith) r v)
+
+-- ---- by sixteens
+
+pub plain-none : (s : List ℕ) (p : ℕ) → Plain s p 0
+plain-none s p = record { each = λ k l. absurd (omega arith) }
+
+split : (t u : Bool) → (t && u) ≡ true → (t ≡ true) × (u ≡ true)
+split true u e = (refl, e)
+split false u e = absurd (false≢true e)
+
+pub plain-and : (s : List ℕ) (p n : ℕ) (all : Bool) → (all ≡ true → Plain s p n) → (all && (ltb 32 (getD s (p + n) 0) && ltb (getD s (p + n) 0) 127)) ≡ true → Plain s p (n + 1)
+plain-and s p n all h e =
+    let x = split all (ltb 32 (getD s (p + n) 0) && ltb (getD s (p + n) 0) 127) e in
+    let y = split (ltb 32 (getD s (p + n) 0)) (ltb (getD s (p + n) 0) 127) (x .1) in
+    record {
+      each = λ k l. elim (below k n (omega arith)) [
+        | inl q ↦ rw q (ltb-true 32 (getD s (p + n) 0) (y .0), ltb-true (getD s (p + n) 0) 127 (y .1))
+        | inr q ↦ h (x .0) .each k q
+      ];
+    }
+
+-- letters of one byte, and those after them
+plain-ends : (s : List ℕ) (stop p n : ℕ) → length s ≡ stop → p + n ≤ stop → Plain s p n → lettersEnd (stop - p) s p ≡ lettersEnd (stop - (p + n)) s (p + n)
+plain-ends s stop p zero l h w = rw (add-zero p)
+plain-ends s stop p (suc n) l h w =
+    let u : p + suc n ≡ p + n + 1 = omega arith in
+    let b = w .each n (omega arith) in
+    rw u (plain-ends s stop p n l (omega arith) (record { each = λ k o. w .each k (omega arith) })
+    ∙ ends-turn s stop (p + n) 1 l (omega arith) (size-plain s (p + n) (omega arith) (b .0) (b .1)) (λ e. omega arith) .1)
+
+pub plain-skip : (s : List ℕ) (stop at i : ℕ) → stop ≤ length s → i + 16 ≤ stop → Plain s i 16 → lettersEnd (stop - at) (take stop s) at ≡ lettersEnd (stop - i) (take stop s) i → lettersEnd (stop - at) (take stop s) at ≡ lettersEnd (stop - (i + 16)) (take stop s) (i + 16)
+plain-skip s stop at i l h w e =
+    e ∙ plain-ends (take stop s) stop i 16 (length-take-le stop s l) h (record { each = λ k o. rw (getD-take stop s (i + k) 0 (omega arith)) (w .each k o) })
 
 -- ---- a word: the bytes of t from p on up to a zero byte, or to the end of t
 

@@ -2,7 +2,7 @@
 -- Assumes nothing.
 use mathlib.Core.Bool.{Bool, true, false}
 use mathlib.Core.List.{List, [], _∷_}
-use Prim.Native.Nat.{ℕ, zero, suc, _+_, _-_}
+use Prim.Native.Nat.{ℕ, zero, suc, _+_, _-_, _<_}
 use lib.ListN.{length, getD}
 use Rattle.number.specs.Limits.{nameLimit}
 use Rattle.number.specs.Choice.{if_then_else_, _<?_, _≤?_, _=?_}
@@ -23,6 +23,10 @@ letterSize s p =
 unfoldable pub lettersEnd : ℕ → List ℕ → ℕ → ℕ
 lettersEnd zero s p = p
 lettersEnd (suc f) s p = if letterSize s p =? 0 then p else lettersEnd f s (p + letterSize s p)
+
+-- n bytes of s from p on are letters of one byte
+pub record Plain (s : List ℕ) (p n : ℕ) : Type 0 where
+  pub each : (k : ℕ) → k < n → (0x20 < getD s (p + k) 0) × (getD s (p + k) 0 < 0x7f)
 
 -- a lone `-`
 unfoldable pub isDash : List ℕ → Bool

@@ -1,11 +1,12 @@
 // Identifiers, and the pool pointers that lead to them.
 ghost use mathlib.Core.Path.{_≡_};
+ghost use mathlib.Core.Bool.{true};
 ghost use Prim.Native.Nat.{_+_, _-_, _≤_, _<_};
 ghost use lib.ListN.{length, take};
 ghost use Rattle.number.specs.Limits.{fileLimit};
 ghost use Rattle.number.specs.Part.{part};
 ghost use Rattle.reading.specs.Got.{stepOf};
-ghost use Rattle.name.specs.Name.{letterSize, lettersEnd, isDash, isIdentifier, searchEnd, readIdentifier, follow, followSpace, readName};
+ghost use Rattle.name.specs.Name.{Plain, letterSize, lettersEnd, isDash, isIdentifier, searchEnd, readIdentifier, follow, followSpace, readName};
 use number::NAME_LIMIT;
 use reading::Context;
 use reading::Refusal;
@@ -29,12 +30,41 @@ fn letter_size(s: &[u8], p: usize, stop: usize) -> usize
     utf8::char_size(s, p, stop)
 }
 
+// Whether the sixteen bytes from `at` on are letters of one byte. A loop without a branch becomes one test of sixteen bytes.
+fn sixteen_plain(s: &[u8], at: usize) -> bool
+    requires { ⌜ at + 16 ≤ length (now s) ⌝ }
+    ensures { λ r. ⌜ (r ≡ true → Plain (now (s .entry)) at 16) ⌝ }
+{
+    let mut all = true;
+    let mut k: usize = 0;
+    while k < 16 {
+        all = all & ((32 < s[at + k]) & (s[at + k] < 127));
+        k += 1;
+    }
+    all
+}
+
+// How far the letters from `at` on are found by sixteens.
+fn plain_to(s: &[u8], at: usize, stop: usize) -> usize
+    requires { ⌜ (at ≤ stop) × (stop ≤ length (now s)) ⌝ }
+    ensures { λ r. ⌜ (r ≤ stop) × (lettersEnd (stop - at) (take stop (now (s .entry))) at ≡ lettersEnd (stop - r) (take stop (now (s .entry))) r) ⌝ }
+{
+    let mut i = at;
+    while 16 <= stop - i {
+        if !sixteen_plain(s, i) {
+            return i;
+        }
+        i += 16;
+    }
+    i
+}
+
 // Where the letters from `at` on end, before `stop`.
 fn letters_end(s: &[u8], at: usize, stop: usize) -> usize
     requires { ⌜ (at ≤ stop) × (stop ≤ length (now s)) ⌝ }
     ensures { λ r. ⌜ r ≡ lettersEnd (stop - at) (take stop (now (s .entry))) at ⌝ }
 {
-    let mut i = at;
+    let mut i = plain_to(s, at, stop);
     while i < stop {
         let k = letter_size(s, i, stop);
         if k == 0 {
