@@ -1,6 +1,7 @@
 // The files that a line names: loaded into the store, and the line answered from there.
 use commands::Reply;
 use kept::Kept;
+use kept::STORE_ROOM;
 use number::FILE_LIMIT;
 use sayings::ANSWER_ROOM;
 use store::Loaded;
@@ -57,7 +58,7 @@ fn fetch_second(
     separator: u8,
     kept: Kept,
     rows: &mut [usize; 256],
-    store: &mut [u8; 4210688],
+    store: &mut [u8; STORE_ROOM],
 ) -> Fetched
     requires { ⌜ (Tidy (now rows) kept × Roomy 1 kept) × (isFound (argument 1 (wordsOf separator (now line))) kept (now rows) (now store) ≡ true) ⌝ }
     ensures { λ r. ⌜ ((n : ℕ) → FetchesAll n (wordsOf separator (now (line .entry))) r (now (rows .exit)) (now (store .exit))) ⌝ }
@@ -78,7 +79,7 @@ fn fetch_next(
     wanting: Wanting,
     kept: Kept,
     rows: &mut [usize; 256],
-    store: &mut [u8; 4210688],
+    store: &mut [u8; STORE_ROOM],
 ) -> Fetched
     requires { ⌜ (Tidy (now rows) kept × Roomy 1 kept) × WhereHad (isFound (argument 1 (wordsOf separator (now line))) kept (now rows) (now store) ≡ true) wanting ⌝ }
     ensures { λ r. ⌜ ((n : ℕ) → FetchesAll n (wordsOf separator (now (line .entry))) r (now (rows .exit)) (now (store .exit))) ⌝ }
@@ -106,7 +107,7 @@ pub fn fetch_all(
     separator: u8,
     kept: Kept,
     rows: &mut [usize; 256],
-    store: &mut [u8; 4210688],
+    store: &mut [u8; STORE_ROOM],
 ) -> Fetched
     requires { ⌜ Tidy (now rows) kept × Roomy 2 kept ⌝ }
     ensures { λ r. ⌜ FetchesAll (filesOf (taskOf separator (now (line .entry)))) (wordsOf separator (now (line .entry))) r (now (rows .exit)) (now (store .exit)) ⌝ }
@@ -134,7 +135,7 @@ pub fn answer(
     separator: u8,
     kept: Kept,
     rows: &[usize; 256],
-    store: &[u8; 4210688],
+    store: &[u8; STORE_ROOM],
     out: &mut [u8; FILE_LIMIT],
     work: &mut [u8; FILE_LIMIT],
     text: &mut [u8; ANSWER_ROOM],

@@ -42,12 +42,12 @@ written : places (forgotten (101 ∷ 47 ∷ 97 ∷ []) table store 4) ≡ 4 ∷ 
 unfolding places store table rowOf scan isKept stateIn nameIn part sameWord isSame compareWords forgotten mayLead sameEnding ending lastPart lastWithin if_then_else_ _=?_ _<?_
 written = refl
 
--- three of the largest files leave room for a fourth, not for two more; 64 rows for none
-room : withRoom (record { rows = 3; used = 3158016 }) 1 ≡ record { rows = 3; used = 3158016 }
+-- two of the largest files leave room for a third, not for two more; 64 rows for none
+room : withRoom (record { rows = 2; used = 2105344 }) 1 ≡ record { rows = 2; used = 2105344 }
 unfolding withRoom if_then_else_ _<?_
 room = refl
 
-no-room : withRoom (record { rows = 3; used = 3158016 }) 2 ≡ nothingKept
+no-room : withRoom (record { rows = 2; used = 2105344 }) 2 ≡ nothingKept
 unfolding withRoom if_then_else_ _<?_
 no-room = refl
 

@@ -12,7 +12,7 @@ use Rattle.words.specs.declared.Span.{Span}
 use Rattle.kept.specs.declared.Kept.{Kept}
 use Rattle.kept.specs.Table.{Tidy}
 use Rattle.kept.specs.Names.{rowSet, rowAdded, oneMore}
-use Rattle.kept.specs.Room.{nothingKept}
+use Rattle.kept.specs.Room.{storeBytes, nothingKept}
 
 pub tidy-nothing : (rows : List ℕ) → 256 ≡ length rows → Tidy rows nothingKept
 tidy-nothing rows e = record { whole = e; few = omega arith; room = omega arith; inside = λ k h. absurd (omega arith) }
@@ -99,7 +99,7 @@ module _ (state : ℕ) (file : Span) (kept : Kept) (rows : List ℕ) where
     unfolding rowAdded
     added-state = row-state rows (4 * kept .rows) (kept .used) (file .from) (file .end) state h
 
-    pub tidy-added : Tidy rows kept → kept .rows < 64 → kept .used ≤ file .from → file .from ≤ file .end → file .end ≤ 4210688 → Tidy (rowAdded state file kept rows) (oneMore file kept)
+    pub tidy-added : Tidy rows kept → kept .rows < 64 → kept .used ≤ file .from → file .from ≤ file .end → file .end ≤ storeBytes → Tidy (rowAdded state file kept rows) (oneMore file kept)
     unfolding oneMore rowAdded
     tidy-added t few u f e = record {
       whole = t .whole ∙ sym (row-length rows (4 * kept .rows) (kept .used) (file .from) (file .end) state);
@@ -114,6 +114,6 @@ module _ (state : ℕ) (file : Span) (kept : Kept) (rows : List ℕ) where
     }
 
     -- the table as the code leaves it
-    pub tidy-put : (t : List ℕ) → t ≡ rowSet rows (4 * kept .rows) (kept .used) (file .from) (file .end) state → Tidy rows kept → kept .rows < 64 → kept .used ≤ file .from → file .from ≤ file .end → file .end ≤ 4210688 → Tidy t (record { rows = kept .rows + 1; used = file .end })
+    pub tidy-put : (t : List ℕ) → t ≡ rowSet rows (4 * kept .rows) (kept .used) (file .from) (file .end) state → Tidy rows kept → kept .rows < 64 → kept .used ≤ file .from → file .from ≤ file .end → file .end ≤ storeBytes → Tidy t (record { rows = kept .rows + 1; used = file .end })
     unfolding rowAdded oneMore
     tidy-put t e d few u f l = rw e (tidy-added d few u f l)

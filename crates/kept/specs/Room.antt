@@ -1,15 +1,17 @@
 -- Room for more files: where it is wanting, nothing that was kept is kept on.
 -- Assumes nothing.
 use Prim.Native.Nat.{ℕ, _+_, _*_, _≤_}
+use Rattle.number.specs.Limits.{fileLimit}
 use Rattle.number.specs.Choice.{if_then_else_, _<?_}
 use Rattle.kept.specs.declared.Kept.{Kept}
 
--- the bytes of the store, and the most of them that one file takes: a name of 4,095 bytes, and 1,048,577 bytes, one more than a typelib may have
-abbrev pub storeBytes : ℕ
-storeBytes = 4210688
-
+-- the most that one file takes: a name of 4,095 bytes, and one byte more than a file may have
 abbrev pub fileBytes : ℕ
-fileBytes = 1052672
+fileBytes = 4095 + (fileLimit + 1)
+
+-- the bytes of the store: two files that one command names always fit
+abbrev pub storeBytes : ℕ
+storeBytes = 3 * fileBytes
 
 -- n files more fit
 abbrev pub Roomy : ℕ → Kept → Type 0

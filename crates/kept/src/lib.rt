@@ -1,6 +1,7 @@
 // Files that were read, kept for the rest of a batch. In the store a file's name stands before its bytes. A row of the table has four
 // numbers: where the name starts, where it ends and the bytes start, where they end, and its state. Where another file might not fit, all
-// rows are given up; four of the largest files fit.
+// rows are given up; three of the largest files fit.
+use number::FILE_LIMIT;
 use words::Span;
 ghost use mathlib.Core.Path.{_≡_};
 ghost use Prim.Native.Nat.{_+_, _*_, _-_, _≤_, _<_};
@@ -11,6 +12,12 @@ ghost use Rattle.kept.specs.Names.{isKept, rowOf, rowSet, rowAdded, oneM
 ghost use Rattle.kept.specs.Room.{storeBytes, Roomy, withRoom};
 ghost use Rattle.kept.specs.Files.{keptFile};
 ghost use Rattle.kept.specs.Written.{lastPart, sameEnding, mayLead, forgotten, Forgot};
+
+// The most that one file takes: a name of 4,095 bytes, and one byte more than the largest file has.
+const FILE_ROOM: usize = 4095 + (FILE_LIMIT + 1);
+
+// The bytes of the store.
+pub const STORE_ROOM: usize = 3 * FILE_ROOM;
 
 // The rows in use, and the bytes of the store that they take.
 pub struct Kept {
@@ -26,7 +33,7 @@ pub const LINK: usize = 1;
 pub const FORGOTTEN: usize = 2;
 
 // Row k has this name and is not forgotten.
-fn is_row(name: &[u8], k: usize, kept: Kept, rows: &[usize; 256], store: &[u8; 4210688]) -> bool
+fn is_row(name: &[u8], k: usize, kept: Kept, rows: &[usize; 256], store: &[u8; STORE_ROOM]) -> bool
     requires { ⌜ Tidy (now rows) kept × (k < kept .rows) ⌝ }
     ensures { λ r. ⌜ r ≡ isKept (now (name .entry)) (now (rows .entry)) (now (store .entry)) k ⌝ }
 {
@@ -41,7 +48,7 @@ fn is_row(name: &[u8], k: usize, kept: Kept, rows: &[usize; 256], store: &[u8; 4
 }
 
 // The first row of this name that is not forgotten; the number of rows where there is none.
-pub fn row_of(name: &[u8], kept: Kept, rows: &[usize; 256], store: &[u8; 4210688]) -> usize
+pub fn row_of(name: &[u8], kept: Kept, rows: &[usize; 256], store: &[u8; STORE_ROOM]) -> usize
     requires { ⌜ Tidy (now rows) kept ⌝ }
     ensures { λ r. ⌜ (r ≤ kept .rows) × (r ≡ rowOf (now (name .entry)) (now (rows .entry)) (now (store .entry)) (kept .rows)) ⌝ }
 {
@@ -58,7 +65,7 @@ pub fn row_of(name: &[u8], kept: Kept, rows: &[usize; 256], store: &[u8; 4210688
 // Where the bytes of row k stand in the store.
 pub fn bytes_of(k: usize, kept: Kept, rows: &[usize; 256]) -> Span
     requires { ⌜ Tidy (now rows) kept × (k < kept .rows) ⌝ }
-    ensures { λ r. ⌜ (r .from ≤ r .end) × ((r .end ≤ 4210688) × ((r .from ≡ getD (now (rows .entry)) (4 * k + 1) 0) × (r .end ≡ getD (now (rows .entry)) (4 * k + 2) 0))) ⌝ }
+    ensures { λ r. ⌜ (r .from ≤ r .end) × ((r .end ≤ storeBytes) × ((r .from ≡ getD (now (rows .entry)) (4 * k + 1) 0) × (r .end ≡ getD (now (rows .entry)) (4 * k + 2) 0))) ⌝ }
 {
     let from = rows[4 * k + 1];
     let end = rows[4 * k + 2];
@@ -66,7 +73,7 @@ pub fn bytes_of(k: usize, kept: Kept, rows: &[usize; 256]) -> Span
 }
 
 // Where the bytes stand that are kept under this name: at the front, and none, where no file is.
-pub fn file_of(name: &[u8], kept: Kept, rows: &[usize; 256], store: &[u8; 4210688]) -> Span
+pub fn file_of(name: &[u8], kept: Kept, rows: &[usize; 256], store: &[u8; STORE_ROOM]) -> Span
     requires { ⌜ Tidy (now rows) kept ⌝ }
     ensures { λ r. ⌜ (r .from ≤ r .end) × ((r .end ≤ storeBytes) × (part (now (store .entry)) (r .from) (r .end) ≡ keptFile (now (name .entry)) kept (now (rows .entry)) (now (store .entry)))) ⌝ }
 {
@@ -77,7 +84,7 @@ pub fn file_of(name: &[u8], kept: Kept, rows: &[usize; 256], store: &[u8; 421068
     Span { from: 0, end: 0 }
 }
 
-// What is kept once there is room for n files more, each with a name of 4,095 bytes and one byte more than the largest file.
+// What is kept once there is room for n files more.
 pub fn with_room(kept: Kept, n: usize, rows: &[usize; 256]) -> Kept
     requires { ⌜ Tidy (now rows) kept × ((0 < n) × (n ≤ 2)) ⌝ }
     ensures { λ r. ⌜ Tidy (now (rows .entry)) r × (Roomy n r × (r ≡ withRoom kept n)) ⌝ }
@@ -85,7 +92,7 @@ pub fn with_room(kept: Kept, n: usize, rows: &[usize; 256]) -> Kept
     if 64 < kept.rows + n {
         return Kept { rows: 0, used: 0 };
     }
-    if 4210688 - kept.used < n * 1052672 {
+    if STORE_ROOM - kept.used < n * FILE_ROOM {
         return Kept { rows: 0, used: 0 };
     }
     kept
@@ -104,7 +111,7 @@ fn put_row(k: usize, from: usize, file: Span, state: usize, rows: &mut [usize])
 
 // A row more, of a file whose name starts where the used part of the store ends.
 pub fn add(state: usize, file: Span, kept: Kept, rows: &mut [usize; 256]) -> Kept
-    requires { ⌜ Tidy (now rows) kept × ((kept .rows < 64) × ((kept .used ≤ file .from) × ((file .from ≤ file .end) × (file .end ≤ 4210688)))) ⌝ }
+    requires { ⌜ Tidy (now rows) kept × ((kept .rows < 64) × ((kept .used ≤ file .from) × ((file .from ≤ file .end) × (file .end ≤ storeBytes)))) ⌝ }
     ensures { λ r. ⌜ Tidy (now (rows .exit)) r × ((r ≡ oneMore file kept) × (now (rows .exit) ≡ rowAdded state file kept (now (rows .entry)))) ⌝ }
 {
     put_row(kept.rows, kept.used, file, state, rows);
@@ -139,7 +146,13 @@ fn same_ending(path: &[u8], name: &[u8]) -> bool
 }
 
 // Row k may lead to the file that was written at `path`: it is a symbolic link, or ends in the same part.
-fn may_lead(path: &[u8], k: usize, kept: Kept, rows: &[usize; 256], store: &[u8; 4210688]) -> bool
+fn may_lead(
+    path: &[u8],
+    k: usize,
+    kept: Kept,
+    rows: &[usize; 256],
+    store: &[u8; STORE_ROOM],
+) -> bool
     requires { ⌜ Tidy (now rows) kept × (k < kept .rows) ⌝ }
     ensures { λ r. ⌜ r ≡ mayLead (now (path .entry)) (now (rows .entry)) (now (store .entry)) k ⌝ }
 {
@@ -154,7 +167,7 @@ fn may_lead(path: &[u8], k: usize, kept: Kept, rows: &[usize; 256], store: &[u8;
 }
 
 // All rows that may lead to the file that was written at `path` are forgotten.
-pub fn forget(path: &[u8], kept: Kept, rows: &mut [usize; 256], store: &[u8; 4210688])
+pub fn forget(path: &[u8], kept: Kept, rows: &mut [usize; 256], store: &[u8; STORE_ROOM])
     requires { ⌜ Tidy (now rows) kept ⌝ }
     ensures { λ _. ⌜ Tidy (now (rows .exit)) kept × (now (rows .exit) ≡ forgotten (now (path .entry)) (now (rows .entry)) (now (store .entry)) (kept .rows)) ⌝ }
     ensures { λ _. ⌜ Forgot (now (path .entry)) kept (now (rows .entry)) (now (store .entry)) (now (rows .exit)) ⌝ }

@@ -1,5 +1,6 @@
 // The files that the words of a line name, in the store.
 use kept::Kept;
+use kept::STORE_ROOM;
 use store::Asked;
 use words::Span;
 ghost use Prim.Native.Nat.{_≤_};
@@ -18,7 +19,7 @@ pub fn fetch(
     k: usize,
     kept: Kept,
     rows: &mut [usize; 256],
-    store: &mut [u8; 4210688],
+    store: &mut [u8; STORE_ROOM],
 ) -> Asked
     requires { ⌜ (k ≤ pileLimit) × (Tidy (now rows) kept × Roomy 1 kept) ⌝ }
     ensures { λ r. ⌜ Loads (isBarred (inBatch separator) (argument k (wordsOf separator (now (line .entry))))) (argument k (wordsOf separator (now (line .entry)))) kept (now (rows .entry)) (now (store .entry)) r (now (rows .exit)) (now (store .exit)) ⌝ }
@@ -42,7 +43,7 @@ pub fn file_at(
     k: usize,
     kept: Kept,
     rows: &[usize; 256],
-    store: &[u8; 4210688],
+    store: &[u8; STORE_ROOM],
 ) -> Span
     requires { ⌜ (k ≤ pileLimit) × Tidy (now rows) kept ⌝ }
     ensures { λ r. ⌜ Lies (argument k (wordsOf separator (now (line .entry)))) kept (now (rows .entry)) (now (store .entry)) r ⌝ }

@@ -1,5 +1,6 @@
 // A link of many files, which are fetched and added one by one, and the line that tells how it went.
 use kept::Kept;
+use kept::STORE_ROOM;
 use number::FILE_LIMIT;
 use pile::Added;
 use pile::Pile;
@@ -64,7 +65,7 @@ fn fetch(
     k: usize,
     kept: Kept,
     rows: &mut [usize; 256],
-    store: &mut [u8; 4210688],
+    store: &mut [u8; STORE_ROOM],
 ) -> Asked
     requires { ⌜ (k ≤ pileLimit) × Tidy (now rows) kept ⌝ }
     ensures { λ r. ⌜ Asks (inBatch separator) (argument k (wordsOf separator (now (line .entry)))) (storeOf kept (now (rows .entry)) (now (store .entry))) (r .file) (storeOf (r .kept) (now (rows .exit)) (now (store .exit))) ⌝ }
@@ -81,7 +82,7 @@ fn add_kept(
     pile: Pile,
     kept: Kept,
     rows: &[usize; 256],
-    store: &[u8; 4210688],
+    store: &[u8; STORE_ROOM],
     one: &mut [u8; FILE_LIMIT],
     other: &mut [u8; FILE_LIMIT],
 ) -> Added
@@ -103,7 +104,7 @@ fn add_next(
     pile: Pile,
     kept: Kept,
     rows: &mut [usize; 256],
-    store: &mut [u8; 4210688],
+    store: &mut [u8; STORE_ROOM],
     one: &mut [u8; FILE_LIMIT],
     other: &mut [u8; FILE_LIMIT],
 ) -> Next
@@ -133,7 +134,7 @@ fn link_all(
     n: usize,
     first: Kept,
     rows: &mut [usize; 256],
-    store: &mut [u8; 4210688],
+    store: &mut [u8; STORE_ROOM],
     one: &mut [u8; FILE_LIMIT],
     other: &mut [u8; FILE_LIMIT],
 ) -> Gathered
@@ -232,7 +233,7 @@ pub fn answer(
     n: usize,
     first: Kept,
     rows: &mut [usize; 256],
-    store: &mut [u8; 4210688],
+    store: &mut [u8; STORE_ROOM],
     one: &mut [u8; FILE_LIMIT],
     other: &mut [u8; FILE_LIMIT],
     text: &mut [u8; ANSWER_ROOM],

@@ -1,6 +1,7 @@
 // What was changed in what was salvaged, in words on standard error, by the report of a second salvage of the same file.
 use failures::ROOM;
 use kept::Kept;
+use kept::STORE_ROOM;
 use number::ENTRY_LIMIT;
 use number::FILE_LIMIT;
 use reading::Refusal;
@@ -72,7 +73,7 @@ pub fn say(
     separator: u8,
     kept: Kept,
     rows: &[usize; 256],
-    store: &[u8; 4210688],
+    store: &[u8; STORE_ROOM],
     out: &mut [u8; FILE_LIMIT],
     work: &mut [u8; FILE_LIMIT],
     text: &mut [u8; ROOM],

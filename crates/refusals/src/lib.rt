@@ -3,6 +3,7 @@ pub mod changes;
 
 use failures::ROOM;
 use kept::Kept;
+use kept::STORE_ROOM;
 use link::Which;
 use pile::PileRefusal;
 use reading::Refusal;
@@ -32,7 +33,7 @@ fn say_file(
     why: Refusal,
     kept: Kept,
     rows: &[usize; 256],
-    store: &[u8; 4210688],
+    store: &[u8; STORE_ROOM],
     text: &mut [u8; ROOM],
 )
     requires { ⌜ (k ≤ pileLimit) × ((length (now line) ≤ wordLimit) × Tidy (now rows) kept) ⌝ }
@@ -62,7 +63,7 @@ fn say_union(
     why: Refusal,
     kept: Kept,
     rows: &[usize; 256],
-    store: &[u8; 4210688],
+    store: &[u8; STORE_ROOM],
     text: &mut [u8; ROOM],
 )
     requires { ⌜ (length (now line) ≤ wordLimit) × Tidy (now rows) kept ⌝ }
@@ -116,7 +117,7 @@ pub fn say(
     why: Refusal,
     kept: Kept,
     rows: &[usize; 256],
-    store: &[u8; 4210688],
+    store: &[u8; STORE_ROOM],
     text: &mut [u8; ROOM],
 )
     requires { ⌜ (length (now line) ≤ wordLimit) × Tidy (now rows) kept ⌝ }
@@ -176,7 +177,7 @@ fn say_link(
     why: Refusal,
     kept: Kept,
     rows: &[usize; 256],
-    store: &[u8; 4210688],
+    store: &[u8; STORE_ROOM],
     text: &mut [u8; ROOM],
 )
     requires { ⌜ (k ≤ pileLimit) × ((length (now line) ≤ wordLimit) × Tidy (now rows) kept) ⌝ }
@@ -194,7 +195,7 @@ pub fn say_step(
     x: PileRefusal,
     kept: Kept,
     rows: &[usize; 256],
-    store: &[u8; 4210688],
+    store: &[u8; STORE_ROOM],
     text: &mut [u8; ROOM],
 )
     requires { ⌜ (length (now line) ≤ wordLimit) × Tidy (now rows) kept ⌝ }

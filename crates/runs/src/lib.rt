@@ -7,6 +7,7 @@ use commands::Save;
 use failures::ROOM;
 use held::Wanting;
 use kept::Kept;
+use kept::STORE_ROOM;
 use number::FILE_LIMIT;
 use pile::Added;
 use pile::PileRefusal;
@@ -90,7 +91,7 @@ fn put_rest(
     rest: Stream,
     kept: Kept,
     rows: &[usize; 256],
-    store: &[u8; 4210688],
+    store: &[u8; STORE_ROOM],
 ) -> bool
     requires { ⌜ Tidy (now rows) kept × ((text : List ℕ) × LeftOf (inBatch separator) (keptFile (argument 1 (wordsOf separator (now line))) kept (now rows) (now store)) rest text) ⌝ }
 {
@@ -131,7 +132,7 @@ fn say_why(
     head: &[u8; ANSWER_ROOM],
     kept: Kept,
     rows: &[usize; 256],
-    store: &[u8; 4210688],
+    store: &[u8; STORE_ROOM],
     text: &mut [u8; ROOM],
 ) -> Told
     requires { ⌜ ((length (now line) ≤ wordLimit) × (reply .said .length ≤ answerRoom)) × Tidy (now rows) kept ⌝ }
@@ -158,7 +159,7 @@ fn say_reply(
     head: &[u8; ANSWER_ROOM],
     kept: Kept,
     rows: &[usize; 256],
-    store: &[u8; 4210688],
+    store: &[u8; STORE_ROOM],
     text: &mut [u8; ROOM],
 ) -> Told
     requires { ⌜ ((length (now line) ≤ wordLimit) × (reply .said .length ≤ answerRoom)) × (Tidy (now rows) kept × ((rest : List ℕ) × LeftOf (inBatch separator) (keptFile (argument 1 (wordsOf separator (now line))) kept (now rows) (now store)) (reply .rest) rest)) ⌝ }
@@ -234,7 +235,7 @@ fn say_changes(
     saved: Saved,
     kept: Kept,
     rows: &[usize; 256],
-    store: &[u8; 4210688],
+    store: &[u8; STORE_ROOM],
     out: &mut [u8; FILE_LIMIT],
     work: &mut [u8; FILE_LIMIT],
     text: &mut [u8; ROOM],
@@ -252,7 +253,7 @@ fn reply_with(
     separator: u8,
     kept: Kept,
     rows: &[usize; 256],
-    store: &[u8; 4210688],
+    store: &[u8; STORE_ROOM],
     out: &mut [u8; FILE_LIMIT],
     work: &mut [u8; FILE_LIMIT],
     head: &mut [u8; ANSWER_ROOM],
@@ -280,7 +281,7 @@ fn reply(
     separator: u8,
     kept: Kept,
     rows: &[usize; 256],
-    store: &[u8; 4210688],
+    store: &[u8; STORE_ROOM],
     out: &mut [u8; FILE_LIMIT],
     work: &mut [u8; FILE_LIMIT],
     text: &mut [u8; ROOM],
@@ -308,7 +309,7 @@ fn answer(
     wanting: Wanting,
     kept: Kept,
     rows: &[usize; 256],
-    store: &[u8; 4210688],
+    store: &[u8; STORE_ROOM],
     out: &mut [u8; FILE_LIMIT],
     work: &mut [u8; FILE_LIMIT],
     text: &mut [u8; ROOM],
@@ -324,7 +325,7 @@ fn answer(
 }
 
 // What may be the file that the line wrote is read anew.
-fn settle(line: &[u8], separator: u8, kept: Kept, rows: &mut [usize; 256], store: &[u8; 4210688])
+fn settle(line: &[u8], separator: u8, kept: Kept, rows: &mut [usize; 256], store: &[u8; STORE_ROOM])
     requires { ⌜ Tidy (now rows) kept ⌝ }
     ensures { λ _. ⌜ Settled separator (now (line .entry)) kept (now (rows .exit)) (now (store .entry)) ⌝ }
 {
@@ -342,7 +343,7 @@ fn run_few(
     separator: u8,
     kept: Kept,
     rows: &mut [usize; 256],
-    store: &mut [u8; 4210688],
+    store: &mut [u8; STORE_ROOM],
     out: &mut [u8; FILE_LIMIT],
     work: &mut [u8; FILE_LIMIT],
     text: &mut [u8; ROOM],
@@ -385,7 +386,7 @@ fn say_refused(
     head: &[u8; ANSWER_ROOM],
     kept: Kept,
     rows: &[usize; 256],
-    store: &[u8; 4210688],
+    store: &[u8; STORE_ROOM],
     text: &mut [u8; ROOM],
 ) -> Told
     requires { ⌜ ((length (now line) ≤ wordLimit) × (n ≤ answerRoom)) × Tidy (now rows) kept ⌝ }
@@ -403,7 +404,7 @@ fn reply_pile(
     separator: u8,
     replied: Replied,
     rows: &[usize; 256],
-    store: &[u8; 4210688],
+    store: &[u8; STORE_ROOM],
     out: &[u8; FILE_LIMIT],
     work: &[u8; FILE_LIMIT],
     head: &[u8; ANSWER_ROOM],
@@ -437,7 +438,7 @@ fn run_pile(
     n: usize,
     kept: Kept,
     rows: &mut [usize; 256],
-    store: &mut [u8; 4210688],
+    store: &mut [u8; STORE_ROOM],
     out: &mut [u8; FILE_LIMIT],
     work: &mut [u8; FILE_LIMIT],
     text: &mut [u8; ROOM],
@@ -469,7 +470,7 @@ pub fn run(
     separator: u8,
     kept: Kept,
     rows: &mut [usize; 256],
-    store: &mut [u8; 4210688],
+    store: &mut [u8; STORE_ROOM],
     out: &mut [u8; FILE_LIMIT],
     work: &mut [u8; FILE_LIMIT],
     text: &mut [u8; ROOM],

@@ -5,6 +5,7 @@ use feed::Feed;
 use feed::INPUT_ROOM;
 use feed::Taken;
 use kept::Kept;
+use kept::STORE_ROOM;
 use number::FILE_LIMIT;
 use runs::Told;
 ghost use mathlib.Core.Path.{_≡_};
@@ -45,7 +46,7 @@ fn take_line(
     kept: Kept,
     input: &[u8; INPUT_ROOM],
     rows: &mut [usize; 256],
-    store: &mut [u8; 4210688],
+    store: &mut [u8; STORE_ROOM],
     out: &mut [u8; FILE_LIMIT],
     work: &mut [u8; FILE_LIMIT],
     text: &mut [u8; ROOM],
@@ -73,7 +74,7 @@ fn go_on(
     kept: Kept,
     input: &mut [u8; INPUT_ROOM],
     rows: &mut [usize; 256],
-    store: &mut [u8; 4210688],
+    store: &mut [u8; STORE_ROOM],
     out: &mut [u8; FILE_LIMIT],
     work: &mut [u8; FILE_LIMIT],
     text: &mut [u8; ROOM],
@@ -113,7 +114,7 @@ fn run_all(
     from: Feed,
     input: &mut [u8; INPUT_ROOM],
     rows: &mut [usize; 256],
-    store: &mut [u8; 4210688],
+    store: &mut [u8; STORE_ROOM],
     out: &mut [u8; FILE_LIMIT],
     work: &mut [u8; FILE_LIMIT],
     text: &mut [u8; ROOM],
@@ -147,7 +148,7 @@ fn run_one(
     input: &[u8; INPUT_ROOM],
     n: usize,
     rows: &mut [usize; 256],
-    store: &mut [u8; 4210688],
+    store: &mut [u8; STORE_ROOM],
     out: &mut [u8; FILE_LIMIT],
     work: &mut [u8; FILE_LIMIT],
     text: &mut [u8; ROOM],
@@ -179,7 +180,7 @@ fn hold(feed: Feed, input: &mut [u8; INPUT_ROOM], n: usize, in_batch: bool) -> R
     ensures { λ r. ⌜ Fed (now (input .exit)) (r .feed) ⌝ }
 {
     let mut rows = [0usize; 256];
-    let mut store = [0u8; 4210688];
+    let mut store = [0u8; STORE_ROOM];
     let mut out = [0u8; FILE_LIMIT];
     let mut work = [0u8; FILE_LIMIT];
     let mut text = [0u8; ROOM];

@@ -1,5 +1,6 @@
 // Files by name, read where they are not kept from an earlier command of the batch (crate `kept`). The name `-` is standard input's.
 use kept::Kept;
+use kept::STORE_ROOM;
 use words::Span;
 ghost use mathlib.Core.Path.{_≡_};
 ghost use mathlib.Core.Bool.{false};
@@ -49,7 +50,7 @@ fn read_some(fd: i32, from: usize, most: usize, store: &mut [u8]) -> Read
 }
 
 // The file's bytes into the store from `from` on, at most that many.
-fn read_from(fd: i32, from: usize, store: &mut [u8; 4210688]) -> Read
+fn read_from(fd: i32, from: usize, store: &mut [u8; STORE_ROOM]) -> Read
     requires { ⌜ from + (fileLimit + 1) ≤ storeBytes ⌝ }
     ensures { λ r. ⌜ ReadBehind (now (store .entry)) from (from + (fileLimit + 1)) r (now (store .exit)) ⌝ }
 {
@@ -87,7 +88,7 @@ fn read_in(
     name: &[u8],
     kept: Kept,
     rows: &mut [usize; 256],
-    store: &mut [u8; 4210688],
+    store: &mut [u8; STORE_ROOM],
 ) -> Asked
     requires { ⌜ Tidy (now rows) kept × (Roomy 1 kept × ((isFound (now name) kept (now rows) (now store) ≡ false) × ((state < forgottenState) × (length (now name) ≤ 4095)))) ⌝ }
     ensures { λ r. ⌜ Loads false (now (name .entry)) kept (now (rows .entry)) (now (store .entry)) r (now (rows .exit)) (now (store .exit)) ⌝ }
@@ -117,7 +118,7 @@ fn open_and_read(
     name: &[u8],
     kept: Kept,
     rows: &mut [usize; 256],
-    store: &mut [u8; 4210688],
+    store: &mut [u8; STORE_ROOM],
 ) -> Asked
     requires { ⌜ Tidy (now rows) kept × (Roomy 1 kept × (isFound (now name) kept (now rows) (now store) ≡ false)) ⌝ }
     ensures { λ r. ⌜ Loads false (now (name .entry)) kept (now (rows .entry)) (now (store .entry)) r (now (rows .exit)) (now (store .exit)) ⌝ }
@@ -159,7 +160,7 @@ pub fn load(
     in_batch: bool,
     kept: Kept,
     rows: &mut [usize; 256],
-    store: &mut [u8; 4210688],
+    store: &mut [u8; STORE_ROOM],
 ) -> Asked
     requires { ⌜ Tidy (now rows) kept × Roomy 1 kept ⌝ }
     ensures { λ r. ⌜ Loads (isBarred «in_batch» (now (name .entry))) (now (name .entry)) kept (now (rows .entry)) (now (store .entry)) r (now (rows .exit)) (now (store .exit)) ⌝ }
