@@ -20,7 +20,7 @@ use Rattle.piling.specs.declared.Went.the-variants as went
 use Rattle.piling.specs.declared.Saves.{Saves}
 use Rattle.piling.specs.declared.Saves.the-variants as saves
 use Rattle.piling.specs.declared.Replied.{Replied}
-use Rattle.piling.specs.Lines.{sayPiled}
+use Rattle.piled.specs.Lines.{sayPiled}
 use Rattle.piling.specs.Fetching.{Store, Short, ShortEnd, Ends}
 use Rattle.piling.specs.Answers.{pileAnswer, placeOf, savesOf, bytesAt, SavesIn, Gives, Tells}
 

@@ -1,3 +1,2 @@
 pub mod Fetching
-pub mod Lines
 pub mod Answers

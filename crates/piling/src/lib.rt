@@ -1,26 +1,21 @@
-// A link of many files, which are fetched and added one by one, and the line that tells how it went.
+// A link of many files, which are fetched and added one by one, and its answer.
 use kept::Kept;
 use kept::STORE_ROOM;
 use number::FILE_LIMIT;
 use pile::Added;
 use pile::Pile;
-use pile::PileRefusal;
 use sayings::ANSWER_ROOM;
 use sayings::Said;
 use sayings::Why;
 use store::Asked;
 use store::Loaded;
-use tasks::Mistake;
 ghost use mathlib.Core.Path.{_≡_};
 ghost use Prim.Native.Nat.{_≤_};
 ghost use Rattle.words.specs.Words.{wordsOf};
 ghost use Rattle.tasks.specs.Tasks.{inBatch, argument};
 ghost use Rattle.kept.specs.Table.{Tidy};
-ghost use Rattle.sayings.specs.Sayings.{Says};
-ghost use Rattle.pile.specs.declared.Added.the-variants.{Refused};
 ghost use Rattle.pile.specs.Pile.{pileLimit, turn, added};
 ghost use Rattle.piling.specs.Fetching.{storeOf, fileIn, Asks, WentOn, Short, ShortEnd, Links};
-ghost use Rattle.piling.specs.Lines.{sayPiled};
 ghost use Rattle.piling.specs.Answers.{placeOf, savesOf, Answers};
 
 // What came of a file: it was added or refused, or why it is wanting.
@@ -172,38 +167,6 @@ fn link_all(
     }
 }
 
-// The refusal of a pile.
-fn refused(x: PileRefusal, line: &mut [u8; ANSWER_ROOM]) -> Said
-    ensures { λ r. ⌜ Says (sayPiled (Refused x)) (now (line .entry)) r (now (line .exit)) ⌝ }
-{
-    let link = x.why;
-    let step = x.step as u64;
-    let which = link.which;
-    let why = link.why;
-    let no = why.no as u64;
-    let place = why.place as u64;
-    let a = text::put_labelled(line, 0, b"refused ", outcomes::which_number(which));
-    let b = text::put_labelled(line, a, b" ", no);
-    let c = text::put_labelled(line, b, b" ", place);
-    let d = text::put_labelled(line, c, b" step ", step);
-    let length = text::put_bytes(line, d, b"\n");
-    Said {
-        length,
-        why: Why::Refused(why),
-    }
-}
-
-// What a pile answered.
-fn say(added: Added, line: &mut [u8; ANSWER_ROOM]) -> Said
-    ensures { λ r. ⌜ Says (sayPiled added) (now (line .entry)) r (now (line .exit)) ⌝ }
-{
-    match added {
-        Added::Grown(pile) => sayings::numbered(b"written ", pile.length as u64, line),
-        Added::Refused(x) => refused(x, line),
-        Added::Full => tasks::tell(Mistake::Files, line),
-    }
-}
-
 // Where what a pile left stands.
 fn place_of(pile: Pile) -> Saves
     ensures { λ r. ⌜ r ≡ placeOf pile ⌝ }
@@ -250,7 +213,7 @@ pub fn answer(
             kept,
             count,
             went,
-            said: say(added, text),
+            said: piled::say(added, text),
             saves: saves_of(added),
         },
         Went::Wanting(_) => Replied {

@@ -1,4 +1,4 @@
--- `piling::refused` meets its contract.
+-- `piled::refused` meets its contract.
 -- Assumes nothing.
 use mathlib.Core.List.{_++_}
 use Rattle.number.proofs.Tools.{ℕ, refl, ap, arith, needs}
@@ -8,9 +8,9 @@ use Rattle.decimal.proofs.Laws.{length-byte, length-u64}
 use Rattle.text.specs.Line.{refused, space, newline}
 use Rattle.printed.proofs.WritingLaws.{wrote, wrote-label, wrote-then, wrote-as}
 use Rattle.sayings.proofs.SayingLaws.{says}
-use Rattle.piling.specs.Lines.{refusedText, sayPiled}
-use Rattle.piling.proofs.refused.Statement.{statement}
-use Rattle.piling.proofs.refused.Tie as tie
+use Rattle.piled.specs.Lines.{refusedText, sayPiled}
+use Rattle.piled.proofs.refused.Statement.{statement}
+use Rattle.piled.proofs.refused.Tie as tie
 
 put-labelled-requires : tie.Need-put-labelled-requires
 put-labelled-requires c κs = omega (arith, length-byte (c .which-number .result) (omega arith))

@@ -1,9 +1,9 @@
--- `piling::say` meets its contract.
+-- `piled::say` meets its contract.
 -- Assumes nothing.
 use Rattle.number.proofs.Tools.{needs}
-use Rattle.piling.specs.Lines.{sayPiled}
-use Rattle.piling.proofs.say.Statement.{statement}
-use Rattle.piling.proofs.say.Tie as tie
+use Rattle.piled.specs.Lines.{sayPiled}
+use Rattle.piled.proofs.say.Statement.{statement}
+use Rattle.piled.proofs.say.Tie as tie
 
 pub say-spec : {M : Type 1} → statement M
 unfolding sayPiled
