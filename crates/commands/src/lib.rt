@@ -1,7 +1,7 @@
 // The answer to a line, from its bytes and those of the files that it names to the bytes of the text and of the output.
-use joining::Normalised;
-use link::Linked;
 use link::Which;
+use made::Made;
+use made::Save;
 use number::FILE_LIMIT;
 use sayings::ANSWER_ROOM;
 use sayings::Said;
@@ -18,13 +18,7 @@ ghost use Prim.Native.Nat.{ℕ};
 ghost use Rattle.words.specs.Words.{wordsOf};
 ghost use Rattle.verbs.specs.declared.Verb.the-variants as verb;
 ghost use Rattle.tasks.specs.Tasks.{inBatch};
-ghost use Rattle.commands.specs.Answer.{silence, oneLine, openedReply, normalisedSave, linkedSave, linkedWhose, verbAnswer, answerOf, Replies};
-
-// What of the output is to be saved: nothing, or its first bytes.
-pub enum Save {
-    Nothing,
-    FirstBytes(usize),
-}
+ghost use Rattle.commands.specs.Answer.{silence, oneLine, openedReply, madeReply, verbAnswer, answerOf, Replies};
 
 // What was put at the front of the text and why, what is left of the answer after it, of which file a refusal is, and what is to be saved.
 pub struct Reply {
@@ -70,95 +64,18 @@ fn opened(begun: Begun) -> Reply
     }
 }
 
-fn normalised_save(done: Normalised) -> Save
-    ensures { λ r. ⌜ r ≡ normalisedSave done ⌝ }
+// What was made, with nothing left of its answer.
+fn written(made: Made) -> Reply
+    ensures { λ r. ⌜ r ≡ madeReply made ⌝ }
 {
-    match done {
-        Normalised::Written(n) => Save::FirstBytes(n),
-        Normalised::Refused(_) => Save::Nothing,
-    }
-}
-
-fn linked_save(done: Linked) -> Save
-    ensures { λ r. ⌜ r ≡ linkedSave done ⌝ }
-{
-    match done {
-        Linked::Written(n) => Save::FirstBytes(n),
-        Linked::Refused(_) => Save::Nothing,
-    }
-}
-
-fn linked_whose(done: Linked) -> Which
-    ensures { λ r. ⌜ r ≡ linkedWhose done ⌝ }
-{
-    match done {
-        Linked::Written(_) => Which::Union,
-        Linked::Refused(refusal) => refusal.which,
-    }
-}
-
-// The command `normal`.
-fn normal(first: &[u8], out: &mut [u8], text: &mut [u8; ANSWER_ROOM]) -> Reply
-    ensures { λ r. ⌜ ((b : Bool) (ws : List (List ℕ)) (second : List ℕ) → Replies b (verbAnswer b verb.Normal ws (now (first .entry)) second (now (out .entry))) (now (first .entry)) (now (text .entry)) r (now (out .exit)) (now (text .exit))) ⌝ }
-{
-    let done = link::normalise(first, out);
-    Reply {
-        said: outcomes::normalised(done, text),
-        rest: streamed::no_rest(),
-        whose: Which::First,
-        save: normalised_save(done),
-    }
-}
-
-// The command `adopt`: what the check says of what was written is told with it.
-fn adopt(first: &[u8], out: &mut [u8], text: &mut [u8; ANSWER_ROOM]) -> Reply
-    ensures { λ r. ⌜ ((b : Bool) (ws : List (List ℕ)) (second : List ℕ) → Replies b (verbAnswer b verb.Adopt ws (now (first .entry)) second (now (out .entry))) (now (first .entry)) (now (text .entry)) r (now (out .exit)) (now (text .exit))) ⌝ }
-{
-    match adopt::adopt(first, out) {
-        Normalised::Written(n) => {
-            let verdict = reader::check(&out[0..n]);
-            Reply {
-                said: outcomes::adopted(n, verdict, text),
-                rest: streamed::no_rest(),
-                whose: Which::First,
-                save: Save::FirstBytes(n),
-            }
-        }
-        Normalised::Refused(why) => answered(sayings::refused(why, text)),
-    }
-}
-
-// The command `link`.
-fn link(first: &[u8], second: &[u8], out: &mut [u8], text: &mut [u8; ANSWER_ROOM]) -> Reply
-    ensures { λ r. ⌜ ((b : Bool) (ws : List (List ℕ)) → Replies b (verbAnswer b verb.Link ws (now (first .entry)) (now (second .entry)) (now (out .entry))) (now (first .entry)) (now (text .entry)) r (now (out .exit)) (now (text .exit))) ⌝ }
-{
-    let done = link::link(first, second, out);
-    Reply {
-        said: outcomes::linked(done, text),
-        rest: streamed::no_rest(),
-        whose: linked_whose(done),
-        save: linked_save(done),
-    }
-}
-
-// The command `salvage`; `work` has room for a copy of the file.
-fn salvage(
-    first: &[u8],
-    in_batch: bool,
-    out: &mut [u8],
-    work: &mut [u8; FILE_LIMIT],
-    text: &mut [u8; ANSWER_ROOM],
-) -> Reply
-    ensures { λ r. ⌜ ((ws : List (List ℕ)) (second : List ℕ) → Replies «in_batch» (verbAnswer «in_batch» verb.Salvage ws (now (first .entry)) second (now (out .entry))) (now (first .entry)) (now (text .entry)) r (now (out .exit)) (now (text .exit))) ⌝ }
-{
-    let told = salvaging::salvage(first, in_batch, work, out, text);
-    let said = told.said;
-    let done = told.done;
+    let said = made.said;
+    let whose = made.whose;
+    let save = made.save;
     Reply {
         said,
         rest: streamed::no_rest(),
-        whose: Which::First,
-        save: normalised_save(done),
+        whose,
+        save,
     }
 }
 
@@ -205,10 +122,10 @@ fn run(
         Verb::Ask(question) => answered(questions::ask(question, line, separator, first, text)),
         Verb::List => list(first, tasks::in_batch(separator), text),
         Verb::Table => table(line, separator, first, tasks::in_batch(separator), text),
-        Verb::Normal => normal(first, out, text),
-        Verb::Adopt => adopt(first, out, text),
-        Verb::Link => link(first, second, out, text),
-        Verb::Salvage => salvage(first, tasks::in_batch(separator), out, work, text),
+        Verb::Normal => written(made::normal(first, out, text)),
+        Verb::Adopt => written(made::adopt(first, out, text)),
+        Verb::Link => written(made::link(first, second, out, text)),
+        Verb::Salvage => written(made::salvage(first, tasks::in_batch(separator), out, work, text)),
         Verb::Unknown => answered(tasks::tell(Mistake::Words(Verb::Unknown), text)),
     }
 }

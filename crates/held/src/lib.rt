@@ -1,22 +1,17 @@
-// The files that a line names: loaded into the store, and the line answered from there.
-use commands::Reply;
+// The files that a line names, loaded into the store.
 use kept::Kept;
 use kept::STORE_ROOM;
-use number::FILE_LIMIT;
-use sayings::ANSWER_ROOM;
 use store::Loaded;
 ghost use mathlib.Core.Path.{_≡_};
 ghost use mathlib.Core.Bool.{true};
-ghost use Prim.Native.Nat.{ℕ, _≤_};
-ghost use Rattle.number.specs.Limits.{fileLimit};
+ghost use Prim.Native.Nat.{ℕ};
 ghost use Rattle.words.specs.Words.{wordsOf};
-ghost use Rattle.tasks.specs.Tasks.{inBatch, argument, taskOf, filesOf};
+ghost use Rattle.tasks.specs.Tasks.{argument, taskOf, filesOf};
 ghost use Rattle.kept.specs.Table.{Tidy};
-ghost use Rattle.kept.specs.Files.{isFound, keptFile};
+ghost use Rattle.kept.specs.Files.{isFound};
 ghost use Rattle.kept.specs.Room.{Roomy};
-ghost use Rattle.commands.specs.Answer.{answerOf, SavedIn, Replies};
 ghost use Rattle.store.specs.declared.Loaded.the-variants as loaded;
-ghost use Rattle.held.specs.Held.{Held, WhereHad, FetchesAll};
+ghost use Rattle.held.specs.Held.{WhereHad, FetchesAll};
 
 // Whether a file is wanting: none, standard input, which has the commands of a batch, or the first or second, by errno's number.
 pub enum Wanting {
@@ -127,28 +122,4 @@ pub fn fetch_all(
         return Fetched { kept, wanting };
     }
     fetch_next(line, separator, wanting, kept, rows, store)
-}
-
-// The answer to the line, from the files that are kept under the names in it.
-pub fn answer(
-    line: &[u8],
-    separator: u8,
-    kept: Kept,
-    rows: &[usize; 256],
-    store: &[u8; STORE_ROOM],
-    out: &mut [u8; FILE_LIMIT],
-    work: &mut [u8; FILE_LIMIT],
-    text: &mut [u8; ANSWER_ROOM],
-) -> Reply
-    requires { ⌜ Tidy (now rows) kept × Held (filesOf (taskOf separator (now line))) (wordsOf separator (now line)) kept (now rows) (now store) ⌝ }
-    ensures { λ r. ⌜ SavedIn fileLimit (r .save) × Replies (inBatch separator) (answerOf separator (now (line .entry)) (keptFile (argument 1 (wordsOf separator (now (line .entry)))) kept (now (rows .entry)) (now (store .entry))) (keptFile (argument 2 (wordsOf separator (now (line .entry)))) kept (now (rows .entry)) (now (store .entry))) (now (out .entry))) (keptFile (argument 1 (wordsOf separator (now (line .entry)))) kept (now (rows .entry)) (now (store .entry))) (now (text .entry)) r (now (out .exit)) (now (text .exit)) ⌝ }
-{
-    let first = named::file_at(line, separator, 1, kept, rows, store);
-    let second = named::file_at(line, separator, 2, kept, rows, store);
-    let a = first.from;
-    let b = first.end;
-    let c = second.from;
-    let d = second.end;
-    let all: &[u8] = store;
-    commands::answer(line, separator, &all[a..b], &all[c..d], out, work, text)
 }

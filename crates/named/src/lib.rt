@@ -11,6 +11,7 @@ ghost use Rattle.kept.specs.Table.{Tidy};
 ghost use Rattle.kept.specs.Room.{Roomy};
 ghost use Rattle.store.specs.Loading.{isBarred, Loads};
 ghost use Rattle.named.specs.Places.{Lies};
+ghost use Rattle.named.specs.Settled.{Settled};
 
 // The file of the k-th word into the store.
 pub fn fetch(
@@ -48,8 +49,27 @@ pub fn file_at(
     requires { ⌜ (k ≤ pileLimit) × Tidy (now rows) kept ⌝ }
     ensures { λ r. ⌜ Lies (argument k (wordsOf separator (now (line .entry)))) kept (now (rows .entry)) (now (store .entry)) r ⌝ }
 {
-    let name = tasks::argument(line, separator, k);
-    let from = name.from;
-    let end = name.end;
+    let word = tasks::argument(line, separator, k);
+    let from = word.from;
+    let end = word.end;
     kept::file_of(&line[from..end], kept, rows, store)
+}
+
+// What may be the file that the line wrote is read anew.
+pub fn settle(
+    line: &[u8],
+    separator: u8,
+    kept: Kept,
+    rows: &mut [usize; 256],
+    store: &[u8; STORE_ROOM],
+)
+    requires { ⌜ Tidy (now rows) kept ⌝ }
+    ensures { λ _. ⌜ Settled separator (now (line .entry)) kept (now (rows .exit)) (now (store .entry)) ⌝ }
+{
+    if tasks::is_writing(tasks::task_of(line, separator)) {
+        let name = tasks::output(line, separator);
+        let from = name.from;
+        let end = name.end;
+        kept::forget(&line[from..end], kept, rows, store);
+    }
 }

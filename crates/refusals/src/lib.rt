@@ -1,6 +1,4 @@
 // Why a line was refused, in words on standard error: its words, one of its files, or the union of them.
-pub mod changes;
-
 use failures::ROOM;
 use kept::Kept;
 use kept::STORE_ROOM;

@@ -7,7 +7,7 @@ use feed::Taken;
 use kept::Kept;
 use kept::STORE_ROOM;
 use number::FILE_LIMIT;
-use runs::Told;
+use told::Told;
 ghost use mathlib.Core.Path.{_≡_};
 ghost use Prim.Native.Nat.{_≤_};
 ghost use lib.ListN.{length};
@@ -85,7 +85,7 @@ fn go_on(
     match feed::next(feed, input) {
         Coming::Line(taken) => take_line(taken, kept, input, rows, store, out, work, text),
         Coming::TooLong(after) => {
-            let told = runs::say_too_long(text);
+            let told = told::say_too_long(text);
             Turn {
                 feed: after,
                 kept,

@@ -33,7 +33,7 @@ fn nothing() -> Work
 }
 
 // The first n bytes on standard output, and nothing to run.
-fn told(text: &[u8; ROOM], n: usize) -> Work
+fn show(text: &[u8; ROOM], n: usize) -> Work
     requires { ⌜ n ≤ room ⌝ }
     ensures { λ r. ⌜ r .length ≤ inputRoom ⌝ }
 {
@@ -60,26 +60,26 @@ fn find_work(input: &mut [u8; INPUT_ROOM], text: &mut [u8; ROOM]) -> Work
     match feed::arguments::gather(input) {
         Gathered::Nothing => {
             let n = failures::no_command(text);
-            runs::streams::put_error(text, n);
+            told::streams::put_error(text, n);
             remarks::hint(text);
             nothing()
         }
         Gathered::TooLong => {
             let n = failures::arguments_too_long(text);
-            runs::streams::put_error(text, n);
+            told::streams::put_error(text, n);
             nothing()
         }
         Gathered::Help => {
             let n = manual::help(text);
-            told(text, n)
+            show(text, n)
         }
         Gathered::Version => {
             let n = manual::version(text);
-            told(text, n)
+            show(text, n)
         }
         Gathered::HelpOf(k) => {
             let n = put_help_of(input, k, text);
-            told(text, n)
+            show(text, n)
         }
         Gathered::Batch => Work {
             is_asked: true,

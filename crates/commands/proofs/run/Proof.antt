@@ -2,7 +2,7 @@
 -- Assumes nothing.
 use Rattle.number.proofs.Tools.{needs}
 use Rattle.commands.specs.Answer.{verbAnswer}
-use Rattle.commands.proofs.ReplyLaws.{says-replies}
+use Rattle.commands.proofs.ReplyLaws.{says-replies, makes-replies}
 use Rattle.commands.proofs.run.Statement.{statement}
 use Rattle.commands.proofs.run.Tie as tie
 
@@ -17,16 +17,20 @@ returns-3 : tie.Need-returns-3
 returns-3 c = rw (c .before .before .before .enum-told2 .given .1, ← c .before .before .in-batch2 .ensures) (c .table .ensures _ _)
 
 returns-4 : tie.Need-returns-4
-returns-4 c = rw (c .before .before .before .before .before .enum-told3 .given .1) (c .before .before .normal .ensures _ _ _)
+unfolding verbAnswer
+returns-4 c = rw (c .before .before .before .before .before .before .enum-told3 .given .1) (makes-replies _ _ _ _ _ _ _ _ (c .before .before .before .normal .ensures) (c .written .ensures))
 
 returns-5 : tie.Need-returns-5
-returns-5 c = rw (c .before .before .before .before .before .enum-told4 .given .1) (c .before .before .adopt .ensures _ _ _)
+unfolding verbAnswer
+returns-5 c = rw (c .before .before .before .before .before .before .enum-told4 .given .1) (makes-replies _ _ _ _ _ _ _ _ (c .before .before .before .adopt .ensures) (c .written2 .ensures))
 
 returns-6 : tie.Need-returns-6
-returns-6 c = rw (c .before .before .before .before .before .enum-told5 .given .1) (c .before .before .link .ensures _ _)
+unfolding verbAnswer
+returns-6 c = rw (c .before .before .before .before .before .before .enum-told5 .given .1) (makes-replies _ _ _ _ _ _ _ _ (c .before .before .before .link .ensures) (c .written3 .ensures))
 
 returns-7 : tie.Need-returns-7
-returns-7 c = rw (c .before .before .before .before .before .before .before .enum-told6 .given .1, ← c .before .before .before .before .before .before .in-batch3 .ensures) (c .before .before .salvage .ensures _ _)
+unfolding verbAnswer
+returns-7 c = rw (c .before .before .before .before .before .before .before .before .enum-told6 .given .1, ← c .before .before .before .before .before .before .before .in-batch3 .ensures) (makes-replies _ _ _ _ _ _ _ _ (c .before .before .before .salvage .ensures) (c .written4 .ensures))
 
 returns-8 : tie.Need-returns-8
 unfolding verbAnswer
@@ -47,11 +51,15 @@ run-spec =
     (λ c κs. search needs)
     (λ c. search needs)
     (λ c κs. search needs)
-    (λ c. search needs)
     (λ c κs. search needs)
     (λ c. search needs)
     (λ c κs. search needs)
+    (λ c κs. search needs)
     (λ c. search needs)
+    (λ c κs. search needs)
+    (λ c κs. search needs)
+    (λ c. search needs)
+    (λ c κs. search needs)
     (λ c κs. search needs)
     (λ c κs. search needs)
     (λ c. search needs)

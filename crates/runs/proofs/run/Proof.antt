@@ -8,9 +8,9 @@ use Rattle.tasks.proofs.CountLaws.{files-few}
 use Rattle.runs.proofs.run.Statement.{statement}
 use Rattle.runs.proofs.run.Tie as tie
 
-run-pile-requires : tie.Need-run-pile-requires
+run-requires : tie.Need-run-requires
 unfolding filesOf
-run-pile-requires c κs =
+run-requires c κs =
     let s = c .before .before .before .before .before .before .before .before .before .before in
     let e = sym (c .before .before .before .before .before .before .before .before .task-of .ensures) ∙ c .before .before .before .before .before .before .task .given .1 in
     (subst (λ (t : Task). filesOf t ≤ pileLimit) e (files-few (s .args .separator) (s .args .line .now)), s .pre)
@@ -21,7 +21,7 @@ run-spec =
     (tie.spec
     (λ c κs. search needs)
     (λ c. search needs)
-    run-pile-requires
+    run-requires
     (λ c. search needs)
     (λ c κs. search needs)
     (λ c. search needs))

@@ -1,0 +1,21 @@
+-- `told::streams::put_error` meets its contract: the bytes lie within the text.
+-- Assumes nothing.
+use lib.Seq.{length-take-le}
+use Rattle.number.proofs.Tools.{sym, arith, needs}
+use Rattle.told.proofs.streams.put_error.Statement.{statement}
+use Rattle.told.proofs.streams.put_error.Tie as tie
+
+pub put-error-spec : {M : Type 1} → statement M
+put-error-spec =
+    tie.close
+    (tie.spec
+    (λ c. sym (length-take-le (c .before .before .before .args .n) (c .before .before .before .args .text .now) (omega arith)))
+    (λ c κs. search needs)
+    (λ c. search needs)
+    (λ c κs. search needs)
+    (λ c. search needs)
+    (λ c. search needs)
+    (λ c. search needs)
+    (λ c κs. search needs)
+    (λ c. search needs)
+    (λ c. search needs))
