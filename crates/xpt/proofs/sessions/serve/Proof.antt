@@ -1,8 +1,8 @@
--- `sessions::serve` meets its contract: the first session starts with nothing read, the second with what the first left.
+-- `xpt::sessions::serve` meets its contract: the first session starts with nothing read, the second with what the first left.
 -- Assumes nothing.
 use Rattle.number.proofs.Tools.{arith, needs}
-use Rattle.sessions.proofs.serve.Statement.{statement}
-use Rattle.sessions.proofs.serve.Tie as tie
+use Rattle.xpt.proofs.sessions.serve.Statement.{statement}
+use Rattle.xpt.proofs.sessions.serve.Tie as tie
 
 pub serve-spec : {M : Type 1} → statement M
 serve-spec =

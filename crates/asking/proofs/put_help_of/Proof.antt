@@ -1,9 +1,9 @@
--- `xpt::put_help_of` meets its contract: the word lies within the line.
+-- `asking::put_help_of` meets its contract: the word lies within the line.
 -- Assumes nothing.
 use lib.Seq.{length-take-le}
 use Rattle.number.proofs.Tools.{sym, arith, needs}
-use Rattle.xpt.proofs.put_help_of.Statement.{statement}
-use Rattle.xpt.proofs.put_help_of.Tie as tie
+use Rattle.asking.proofs.put_help_of.Statement.{statement}
+use Rattle.asking.proofs.put_help_of.Tie as tie
 
 slice-aggregate-is-types : tie.Need-slice-aggregate-is-types
 slice-aggregate-is-types c =

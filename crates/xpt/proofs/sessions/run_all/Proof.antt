@@ -1,11 +1,11 @@
--- `sessions::run_all` meets its contract. The loop's invariant: the feed is one of this input, and the table is tidy. The measure is the turns that are left.
+-- `xpt::sessions::run_all` meets its contract. The loop's invariant: the feed is one of this input, and the table is tidy. The measure is the turns that are left.
 -- Assumes nothing.
 use Rattle.number.proofs.Tools.{arith, needs}
 use Rattle.kept.specs.Table.{Tidy}
 use Rattle.kept.proofs.RowLaws.{tidy-nothing}
 use Rattle.feed.specs.Input.{Fed}
-use Rattle.sessions.proofs.run_all.Statement.{statement}
-use Rattle.sessions.proofs.run_all.Tie as tie
+use Rattle.xpt.proofs.sessions.run_all.Statement.{statement}
+use Rattle.xpt.proofs.sessions.run_all.Tie as tie
 
 abbrev Inv-loop : tie.InvT-loop
 Inv-loop input₀ rows₀ store₀ out₀ work₀ text₀ feed₀ kept₀ turns₀ input rows store out work text feed kept turns = Fed input feed × Tidy rows kept

@@ -1,10 +1,10 @@
--- `sessions::run_one` meets its contract: the words lie within the input, and nothing is kept yet.
+-- `xpt::sessions::run_one` meets its contract: the words lie within the input, and nothing is kept yet.
 -- Assumes nothing.
 use lib.Seq.{length-take-le}
 use Rattle.number.proofs.Tools.{sym, arith, needs}
 use Rattle.kept.proofs.RowLaws.{tidy-nothing}
-use Rattle.sessions.proofs.run_one.Statement.{statement}
-use Rattle.sessions.proofs.run_one.Tie as tie
+use Rattle.xpt.proofs.sessions.run_one.Statement.{statement}
+use Rattle.xpt.proofs.sessions.run_one.Tie as tie
 
 slice-aggregate-run : tie.Need-slice-aggregate-run
 slice-aggregate-run c = sym (length-take-le (c .before .before .args .n) (c .before .before .args .input .now) (omega arith))

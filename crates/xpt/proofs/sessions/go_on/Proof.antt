@@ -1,9 +1,9 @@
--- `sessions::go_on` meets its contract: a line, one that was too long, more input, or the end.
+-- `xpt::sessions::go_on` meets its contract: a line, one that was too long, more input, or the end.
 -- Assumes nothing.
 use Rattle.number.proofs.Tools.{subst, needs}
 use Rattle.feed.specs.Input.{Comes}
-use Rattle.sessions.proofs.go_on.Statement.{statement}
-use Rattle.sessions.proofs.go_on.Tie as tie
+use Rattle.xpt.proofs.sessions.go_on.Statement.{statement}
+use Rattle.xpt.proofs.sessions.go_on.Tie as tie
 
 take-line-requires : tie.Need-take-line-requires
 take-line-requires c κs =

@@ -1,9 +1,9 @@
--- `xpt::find_work` meets its contract: the words lie within the line.
+-- `asking::find_work` meets its contract: the words lie within the line.
 -- Assumes nothing.
 use Rattle.number.proofs.Tools.{subst, arith, needs}
 use Rattle.feed.specs.Arguments.{GatheredIn}
-use Rattle.xpt.proofs.find_work.Statement.{statement}
-use Rattle.xpt.proofs.find_work.Tie as tie
+use Rattle.asking.proofs.find_work.Statement.{statement}
+use Rattle.asking.proofs.find_work.Tie as tie
 
 put-help-of-requires : tie.Need-put-help-of-requires
 put-help-of-requires c κs =
