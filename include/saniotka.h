@@ -25,8 +25,10 @@
  * Threads. The functions keep no state, allocate nothing and call nothing of the system: any number of threads may call
  * them at once, as long as nobody changes what is lent for a call while it runs.
  *
- * Stack. A call needs fewer than SANIOTKA_STACK bytes of it; saniotka_salvage, which copies the file, fewer than
- * SANIOTKA_SALVAGE_STACK, and one about a types.rdb fewer than SANIOTKA_RDB_STACK.
+ * Stack. A call needs fewer than SANIOTKA_STACK bytes of it; one that writes a normal form, which keeps tables of names
+ * (saniotka_normal, saniotka_link, saniotka_pile_add, saniotka_pile_end), fewer than SANIOTKA_FORM_STACK;
+ * saniotka_salvage, which copies the file too, fewer than SANIOTKA_SALVAGE_STACK, and one about a types.rdb fewer than
+ * SANIOTKA_RDB_STACK.
  */
 #ifndef SANIOTKA_H
 #define SANIOTKA_H
@@ -50,9 +52,11 @@ extern "C" {
 /* Numbers of each list of a report. */
 #define SANIOTKA_REPORTS 1024
 
-/* Bytes of stack that are enough for any call about typelibs but saniotka_salvage, and for that one. */
+/* Bytes of stack that are enough for any call about typelibs that writes no normal form, for those that do, and for
+ * saniotka_salvage. */
 #define SANIOTKA_STACK 131072
-#define SANIOTKA_SALVAGE_STACK 1310720
+#define SANIOTKA_FORM_STACK 2097152
+#define SANIOTKA_SALVAGE_STACK 3276800
 
 /* And for any about a types.rdb. */
 #define SANIOTKA_RDB_STACK 2097152

@@ -8,7 +8,8 @@ use second::library::{
 use second::library::{Program, Session, OWN};
 use second::line::answers::{asked, reason, salvaged};
 use second::line::{compare::is_told, compare::tells, listing};
-use second::making::{builder::*, generate::marked, generate::rich};
+use second::making::generate::{marked, one_stock, rich};
+use second::making::{builder::*, hostile::long_listing, model, pairs, rng::Rng, shape};
 use second::program::{check::check, questions::Lookup};
 use second::tally::{floors, Came, Tally};
 use std::cmp::Ordering;
@@ -30,8 +31,7 @@ fn marked_files() {
         "01010001000000520000002400000040 80000000 00000000000000000000000000000001
          000000010000000000000003 4100 0000 0000 0001 00000011 01 fffe 80 4b00",
     ]
-    .map(|hex| bytes(&hex.split_whitespace().collect::<String>()).unwrap())
-    .map(|rest| [&MAGIC[..], &rest].concat());
+    .map(with_magic);
     assert_eq!(marked(), [p1.clone(), p2.clone(), p3.clone()]);
     for (file, n) in [(&p1, 0), (&p2, 1), (&p3, 1)] {
         assert_eq!(check(file), Ok(n));
@@ -256,7 +256,7 @@ fn normal_forms() {
     // Zero IIDs by namespace, then name: default first, a prefix before the longer.
     let keys = [("", "A"), ("", "AA"), ("", "_"), ("", "a"), ("Z", "a"), ("a", "b"), ("aa", "A")];
     let of = |keys: &mut dyn Iterator<Item = &(&str, &str)>| {
-        let mut lib = Typelib::default();
+        let mut lib = Typelib { sharing: Sharing::Equal, ..Typelib::default() };
         for (namespace, name) in keys {
             lib.entries.push(Entry::new(0, name));
             lib.entries.last_mut().unwrap().set_key(namespace, name);
@@ -264,16 +264,129 @@ fn normal_forms() {
         lib.bytes()
     };
     assert_eq!(written(&[&of(&mut keys.iter().rev())]), Ok(of(&mut keys.iter())));
-    // Names stand after the whole descriptor, repeated; buffers keep their other bytes.
-    let methods = vec![Method::plain(GETTER, b"A"), Method::plain(SETTER, b"A")];
+    // Names stand after the whole descriptor; buffers keep their other bytes.
+    let methods = vec![Method::plain(GETTER, b"B"), Method::plain(SETTER, b"B")];
     let shared = Typelib { sharing: Sharing::Overlap, ..Typelib::of(methods) }.bytes();
     let form = written(&[&shared]).unwrap();
-    assert!(form.ends_with(b"A\0A\0"));
+    assert!(form.len() == 91 && form.ends_with(b"\0B\0"));
     let mut out = vec![7; form.len() + 3];
     assert_eq!((OWN.normalise)(&shared, &mut out[..form.len() - 1]).unwrap_err().number, 27);
     assert!(out.iter().all(|byte| *byte == 7));
     assert_eq!((OWN.normalise)(&shared, &mut out), Ok(form.len()));
     assert!(out.ends_with(&[7; 3]));
+}
+
+/// The bytes of hexadecimal digits behind the magic.
+fn with_magic(hex: &str) -> Vec<u8> {
+    let rest = bytes(&hex.split_whitespace().collect::<String>()).unwrap();
+    [&MAGIC[..], &rest].concat()
+}
+
+#[test]
+fn each_name_once() {
+    let named =
+        |lib: &mut Typelib, i: usize, namespace, name| lib.entries[i].set_key(namespace, name);
+    let methods = |names: &[&str]| -> Vec<Method> {
+        names.iter().map(|name| Method::plain(0, name.as_bytes())).collect()
+    };
+    // A.A with a method A and a constant A.
+    let constants = vec![Constant::new(b"A", 1, 7)];
+    let d = Descriptor { methods: methods(&["A"]), constants, ..Descriptor::default() };
+    let mut same = Typelib::single(d);
+    named(&mut same, 0, "A", "A");
+    let same_form = with_magic(
+        "01010001000000580000002400000040 80000000 00000000000000000000000000000001
+         000000010000000100000003 4100 0000 0001 00 00000001 00 000d 0001 00000001 01 0007 00",
+    );
+    // Methods foo, foo and bar, then bar.foo.
+    let mut later = Typelib::plain(2);
+    later.resolve(0, Descriptor::of(methods(&["foo", "foo", "bar"])));
+    named(&mut later, 0, "", "A");
+    named(&mut later, 1, "bar", "foo");
+    let later_form = with_magic(
+        "0101000200000085000000240000005c 80000000 00000000000000000000000000000001
+         000000010000000000000003 00000000000000000000000000000002 000000220000002600000000
+         4100 0000 0003 00 00000022 00 000d 00 00000022 00 000d 00 00000026 00 000d 0000 00
+         666f6f00 62617200",
+    );
+    // x.y and y.x.
+    let mut crossed = Typelib::plain(2);
+    crossed.entries.iter_mut().for_each(|entry| entry.iid = [0; 16]);
+    named(&mut crossed, 0, "y", "x");
+    named(&mut crossed, 1, "x", "y");
+    let crossed_form = with_magic(
+        "0101000200000060000000240000005c 80000000 00000000000000000000000000000000
+         000000010000000300000000 00000000000000000000000000000000 000000030000000100000000
+         7900 7800",
+    );
+    let all = [(same, same_form, 88), (later, later_form, 133), (crossed, crossed_form, 96)];
+    for (lib, form, length) in all {
+        assert_eq!(form.len(), length);
+        for sharing in [Sharing::None, Sharing::Equal, Sharing::Overlap] {
+            let bytes = Typelib { sharing, ..lib.clone() }.bytes();
+            assert_eq!(written(&[&bytes]), Ok(form.clone()));
+            assert_eq!(written(&[&bytes, &form]), Ok(form.clone()));
+        }
+        let short = Err(Refusal { number: 27, place: length });
+        assert_eq!((OWN.normalise)(&form, &mut vec![0; length - 1]), short);
+    }
+    // No tails are shared, and no descriptors.
+    let mut tails = Typelib { sharing: Sharing::Overlap, ..Typelib::plain(2) };
+    named(&mut tails, 0, "", "foo");
+    named(&mut tails, 1, "", "oo");
+    let d = Some(tails.add(Descriptor::default()));
+    tails.entries.iter_mut().for_each(|entry| entry.descriptor = d);
+    let form = written(&[&tails.bytes()]).unwrap();
+    assert_eq!(form[92..], *b"foo\0\0\0\0\0\0\0\0oo\0\0\0\0\0\0\0\0");
+    assert!(form[64..92].ends_with(&[0, 0, 0, 12, 0, 0, 0, 0, 0, 0, 0, 15]));
+    // As the builder stores each name once, and never longer than with repeats.
+    let rng = &mut Rng::new(109);
+    let mut shorter = 0;
+    for _ in 0..500 {
+        let form = written(&[&one_stock(rng).bytes()]).unwrap();
+        let read = model::read(&form);
+        assert_eq!(model::form(&read, Sharing::Equal), form);
+        assert!(shape::uses(&form).is_some());
+        let before = model::form(&read, Sharing::None);
+        assert!(before.len() >= form.len());
+        shorter += usize::from(before.len() > form.len());
+        // Another check sees where it is not so.
+        assert_eq!(shape::uses(&before).is_some(), before == form);
+    }
+    assert!(shorter > 300);
+}
+
+#[test]
+fn at_the_limit() {
+    let length = |files: &[Typelib]| {
+        let files: Vec<_> = files.iter().map(Typelib::bytes).collect();
+        written(&files.iter().map(|file| &file[..]).collect::<Vec<_>>()).map(|form| form.len())
+    };
+    let over = Err("refused 26 0".to_string());
+    for length_asked in [MAX_FILE - 100, MAX_FILE - 1, MAX_FILE, MAX_FILE + 1, MAX_FILE + 90_000] {
+        let lib = pairs::of_normal_length(length_asked, 'a');
+        let is_over = length_asked > MAX_FILE;
+        assert_eq!(length(&[lib]), if is_over { over.clone() } else { Ok(length_asked) });
+    }
+    let ends = [Ok(MAX_FILE - 1), Ok(MAX_FILE), over.clone()];
+    for (i, (made, files)) in pairs::ends().into_iter().enumerate() {
+        assert_eq!(length(&files), ends[i / 2 % 3], "{made}");
+        if i % 2 == 1 {
+            assert_eq!(length(&files[..1]), ends[i / 2 % 3], "{made}");
+        }
+    }
+    for (made, files) in pairs::edge_triples() {
+        let files = files.map(|lib| lib.bytes());
+        let piled = piled(&files.each_ref().map(|file| &file[..])).map(|form| form.len());
+        match made {
+            "1,048,576 bytes in the end" => assert_eq!(piled, Ok(MAX_FILE)),
+            "1,048,577 bytes in the end" => assert_eq!(piled, Err("refused 0 26 0 step 2".into())),
+            "too long at once" => assert_eq!(piled, Err("refused 0 26 0 step 1".into())),
+            _ => {}
+        }
+    }
+    let shared = [68, 69].map(|n| (OWN.normalise)(&long_listing(n), &mut vec![0; MAX_FILE]));
+    assert_eq!(shared.map(|form| form.map_err(|why| why.number)), [Ok(1_047_414), Err(26)]);
 }
 
 #[test]
@@ -476,5 +589,5 @@ fn what_is_told_and_counted() {
         "rdb-batches",
         "rdb-alone",
     ];
-    assert_eq!(parts.map(|part| floors(part).len()).iter().sum::<usize>(), 1428);
+    assert_eq!(parts.map(|part| floors(part).len()).iter().sum::<usize>(), 1458);
 }

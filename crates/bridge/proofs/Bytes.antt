@@ -11,9 +11,9 @@ use Rattle.reader.specs.Rules.{InDirectory}
 use Rattle.meaning.specs.Meaning.{mapOwn, mapEntry}
 use Rattle.meaning.specs.Index.{keysOf, indexOf, renumbered}
 use Rattle.meaning.proofs.Maps.{itself}
-use Rattle.normal.specs.Size.{normalLength}
-use Rattle.normal.specs.Normal.{fileBytes, normalForm}
-use Rattle.normal.proofs.Mapped.{normal-length, file-mapped, normal-file}
+use Rattle.stock.specs.Uses.{normalLength}
+use Rattle.stock.specs.Form.{fileBytes, normalForm}
+use Rattle.stock.proofs.Mapped.{normal-mapped, file-mapped, normal-file}
 use Rattle.facts.specs.Union.{union}
 use Rattle.rows.specs.Rows.{keyOfRow, iidOfRow, descriptorOfRow, referenceIn}
 use Rattle.iids.specs.Joined.{holder, joined}
@@ -60,9 +60,9 @@ module _ (es fs : List (Entry ℕ)) (m : ℕ → ℕ) (x : Matched es fs m) (own
   module _ (t : List ℕ) (c : ℕ) (w : Owned es fs own) (o : Ordered (keyOfRow es fs) (joined (iidOfRow es fs) m (length es)) N t c) where
     pub union-length : normalLength (union (told es fs)) ≡ normalLength (rowEntries es fs own m t c)
     union-length =
-        sym (normal-length {S = ℕ} (λ _. 0) (union (told es fs)))
+        sym (normal-mapped {S = ℕ} (λ _. 0) (union (told es fs)))
         ∙ ap normalLength (entries-same {X = ℕ} (λ _. 0) (λ _. 0) (λ i _ r _. refl) t c w o)
-        ∙ normal-length {S = ℕ} (λ _. 0) (rowEntries es fs own m t c)
+        ∙ normal-mapped {S = ℕ} (λ _. 0) (rowEntries es fs own m t c)
 
     module _ (place : List ℕ) (p : Placed (keyOfRow es fs) N t c place) where
       -- where a reference lies

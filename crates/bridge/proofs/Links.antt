@@ -11,7 +11,7 @@ use Rattle.key.specs.Key.{Key}
 use Rattle.key.specs.First.{firstSame}
 use Rattle.reader.specs.Values.{Entry}
 use Rattle.meaning.specs.Meaning.{meaning}
-use Rattle.normal.specs.Size.{normalLength}
+use Rattle.stock.specs.Uses.{normalLength}
 use Rattle.facts.specs.Union.{union}
 use Rattle.facts.specs.Conditions.{twoIids, sharedIid, twoDescriptors, endless}
 use Rattle.facts.specs.Link.{Linked, stopped, joined as linked, anySuch, linkBoth, linkEntries}

@@ -8,7 +8,7 @@ use Rattle.number.specs.Choice.{if_then_else_, _<?_}
 use Rattle.reading.specs.declared.Refusal.{Refusal}
 use Rattle.facts.specs.Link as facts
 use Rattle.facts.specs.Link.{stopped, joined}
-use Rattle.normal.specs.Normal.{normalForm}
+use Rattle.stock.specs.Form.{normalForm}
 use Rattle.joining.specs.declared.Normalised.{Normalised}
 use Rattle.joining.specs.declared.Normalised.the-variants as normalised
 

@@ -10,11 +10,12 @@ ghost use Rattle.joining.specs.Outcome.{refusal};
 ghost use Rattle.stages.specs.Stages.{Known, Keyed, Mated, Iids, Numbered, Owns, Resolved, Ended, Arranged};
 ghost use Rattle.joining.specs.Joins.{Joins};
 use crate::Normalised;
+use minor::view_minor;
 use number::ENTRY_LIMIT;
-use number::FILE_LIMIT;
 use number::ROW_LIMIT;
+use output::Stored;
 use output::file::put_file;
-use output::file::total_size;
+use output::leads::lead_view;
 use reader::Layout;
 use reading::Refusal;
 use stages::descriptors::first_two_descriptors;
@@ -48,15 +49,42 @@ fn write_union(
     if ENTRY_LIMIT < c {
         return stop(25, 0);
     }
-    let size = total_size(s, p, l, t, q, k, order, holders, c);
-    if FILE_LIMIT < size {
-        return stop(26, 0);
+    let mut names = [0u32; ROW_LIMIT];
+    let mut spaces = [0u32; ROW_LIMIT];
+    let mut bodies = [0u32; ROW_LIMIT];
+    lead_view(
+        s,
+        l,
+        t,
+        k,
+        order,
+        holders,
+        c,
+        &mut names,
+        &mut spaces,
+        &mut bodies,
+    );
+    let minor = view_minor(s, p, l, t, q, k, order, holders, c);
+    let n = l.count;
+    match put_file(
+        p,
+        q,
+        n,
+        &mut names,
+        &spaces,
+        &bodies,
+        c,
+        high,
+        low,
+        order,
+        place,
+        minor,
+        out,
+    ) {
+        Stored::Long => stop(26, 0),
+        Stored::Short(size) => stop(27, size),
+        Stored::Done(size) => Normalised::Written(size),
     }
-    if out.len() < size {
-        return stop(27, size);
-    }
-    let end = put_file(s, p, l, t, q, k, order, holders, high, low, place, c, out);
-    Normalised::Written(end)
 }
 
 // The rows of the union in its order.

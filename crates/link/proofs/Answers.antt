@@ -15,10 +15,10 @@ use Rattle.reader.specs.Values.{Entry}
 use Rattle.facts.specs.Link.{Linked, stopped, joined, linkEntries, normalEntries, numberOnly, joinedOf, andThen}
 use Rattle.facts.proofs.Links.{stopped-equal, joined-equal, not-both}
 use Rattle.facts.proofs.Algebra.{joined-exactly, normal-exactly, closed-valid, closed-both}
-use Rattle.normal.specs.Size.{normalLength}
-use Rattle.normal.specs.Normal.{normalForm}
-use Rattle.normal.specs.Encodable.{Readable}
-use Rattle.normal.proofs.Lengths.{length-normal}
+use Rattle.stock.specs.Uses.{normalLength}
+use Rattle.stock.specs.Form.{normalForm}
+use Rattle.stock.specs.Readable.{Readable}
+use Rattle.stock.proofs.Lengths.{length-normal}
 use Rattle.link.specs.declared.Which.the-variants.{Union}
 use Rattle.link.specs.declared.Linked as link
 use Rattle.link.specs.declared.Linked.the-variants as linked
@@ -60,7 +60,7 @@ module _ (a : List ℕ) (A : List (Entry Key)) (m : Means a A) where
     unfolding normaliseIn
     normal-in =
         ap (inRoom refusal (length out)) (normal-of a A m)
-        ∙ in-room refusal (length out) (normalEntries normalLength A) (λ U e. omega (arith, w, normal-readable U e .encodable .short))
+        ∙ in-room refusal (length out) (normalEntries normalLength A) (λ U e. omega (arith, w, normal-readable U e .short))
 
     pub normal-answer : normaliseAnswer a out ≡ normalisedAs (encoded refusal (normalEntries normalLength A))
     unfolding normaliseAnswer
@@ -83,7 +83,7 @@ module _ (a : List ℕ) (A : List (Entry Key)) (m : Means a A) where
       unfolding linkIn
       link-in =
           ap (inRoom (refusalOf Union) (length out)) (link-of a A m b B n)
-          ∙ in-room (refusalOf Union) (length out) (linkEntries normalLength A B) (λ U e. omega (arith, w, link-readable U e .encodable .short))
+          ∙ in-room (refusalOf Union) (length out) (linkEntries normalLength A B) (λ U e. omega (arith, w, link-readable U e .short))
 
       pub link-answer : linkAnswer a b out ≡ answerOf (linkEntries normalLength A B)
       unfolding linkAnswer
@@ -146,7 +146,7 @@ module _ (a : List ℕ) (A : List (Entry Key)) (m : Means a A) (b : List ℕ) (B
   unfolding leftBy
   left-by out w =
       (λ i. leftIn (link-buffer a A m b B n out w i) (link-answer a A m b B n out w i))
-      ∙ left-form (linkEntries normalLength A B) out (λ U e. omega (arith, w, link-readable a A m b B n U e .encodable .short))
+      ∙ left-form (linkEntries normalLength A B) out (λ U e. omega (arith, w, link-readable a A m b B n U e .short))
 
   -- and what a second link does with it is what it does with the entries
   pub left-then : (out : List ℕ) → Buffer out → (f : List ℕ → Option (List ℕ)) (g : List (Entry Key) → Option (List (Entry Key)))

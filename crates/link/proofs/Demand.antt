@@ -10,13 +10,13 @@ use Rattle.facts.specs.Conditions.{Fine}
 use Rattle.facts.specs.Link.{Linked, stopped, joined, linkEntries, normalEntries, joinedOf, andThen}
 use Rattle.facts.proofs.Algebra as algebra
 use Rattle.facts.proofs.Algebra.{joined-exactly, stopped-exactly}
-use Rattle.normal.specs.Size.{normalLength}
+use Rattle.stock.specs.Uses.{normalLength}
+use Rattle.stock.proofs.Grows.{normal-grows}
 use Rattle.link.specs.declared.Linked.the-variants as linked
 use Rattle.joining.specs.Outcome.{encoded, after}
 use Rattle.link.specs.Outcome.{linkedAs, linkAnswer, linkBuffer}
 use Rattle.link.specs.Demand.{Means, Buffer, leftBy, placeless, asLink, AsNormal, Writes, Refuses, Demand3}
 use Rattle.link.proofs.Files.{accepted-valid}
-use Rattle.link.proofs.Unions.{grows}
 use Rattle.link.proofs.Answers.{answerOf, bufferOf, formOf, normal-answer, normal-buffer, link-answer, link-buffer, placeless-same, joined-same, buffer-same, as-normal, normal-same, left-by, left-then}
 
 -- ---- two files
@@ -81,7 +81,7 @@ grouped : (a b c : List ℕ) (A B C : List (Entry Key)) (ab bc left right : List
     → andThen (leftBy a b ab) (λ f. leftBy f c left) ≡ andThen (leftBy b c bc) (λ f. leftBy a f right)
 grouped a b c A B C ab bc left right l m n p q r s =
     left-then a A l b B m ab p (λ f. leftBy f c left) (λ U. joinedOf (linkEntries normalLength U C)) (λ f U u. left-by f U u c C n left r)
-    ∙ ap formOf (algebra.grouped normalLength grows A B C (accepted-valid a A l) (accepted-valid b B m) (accepted-valid c C n))
+    ∙ ap formOf (algebra.grouped normalLength normal-grows A B C (accepted-valid a A l) (accepted-valid b B m) (accepted-valid c C n))
     ∙ sym (left-then b B m c C n bc q (λ f. leftBy a f right) (λ U. joinedOf (linkEntries normalLength A U)) (λ f U u. left-by a A l f U u right s))
 
 -- ---- the demand

@@ -7,10 +7,10 @@ use Rattle.reading.specs.Got.{got}
 use Rattle.reader.specs.Values.{entriesIn}
 use Rattle.reader.specs.Reader.{decode}
 use Rattle.reader.specs.Reader.Marked.{P3, P3newer, says3, says3newer, decodes3, decodes3newer}
-use Rattle.normal.specs.Normal.{normalForm}
+use Rattle.stock.specs.Form.{normalForm}
 use Rattle.normal.proofs.Examples.{withString}
-use Rattle.normal.proofs.Minors.{minor-byte}
 use Rattle.normal.proofs.Cases.{string-minor, readable-string}
+use Rattle.stock.proofs.Back.{plain-readable, minor-byte}
 use Rattle.joining.specs.Outcome.{written}
 use Rattle.link.specs.Outcome.{normalOf}
 use Rattle.link.specs.Demand.{Means}
@@ -27,4 +27,4 @@ older-form = ap normalOf decodes3newer ∙ same-entries ∙ sym (ap normalOf dec
 
 -- an interface with one method, whose result has tag 23, is written with minor 2, and reads back
 pub newer-form : (getD (normalForm (withString ∷ [])) 17 0 ≡ 2) × Means (normalForm (withString ∷ [])) (withString ∷ [])
-newer-form = (minor-byte (withString ∷ []) ∙ string-minor, form-means (withString ∷ []) readable-string)
+newer-form = (minor-byte (withString ∷ []) ∙ string-minor, form-means (withString ∷ []) (plain-readable (withString ∷ []) readable-string))

@@ -19,8 +19,8 @@ use Rattle.meaning.specs.Meaning.{meaning}
 use Rattle.facts.specs.Link as facts
 use Rattle.facts.specs.Link.{stopped, joined}
 use Rattle.facts.proofs.Algebra.{with-empty}
-use Rattle.normal.specs.Size.{normalLength}
-use Rattle.normal.specs.Normal.{normalForm}
+use Rattle.stock.specs.Uses.{normalLength}
+use Rattle.stock.specs.Form.{normalForm}
 use Rattle.rows.specs.Files.{Pair, HoldBoth, Given}
 use Rattle.link.specs.declared.Which.the-variants.{First, Second, Union}
 use Rattle.link.specs.declared.LinkRefusal.{LinkRefusal}

@@ -15,11 +15,13 @@ use Rattle.meaning.specs.Meaning.{meaning}
 use Rattle.meaning.specs.Index.{Closed}
 use Rattle.facts.specs.Valid.{Valid}
 use Rattle.facts.specs.Link.{linkEntries, normalEntries}
-use Rattle.normal.specs.Size.{normalLength}
-use Rattle.normal.specs.Normal.{normalForm, normalTypelib}
-use Rattle.normal.specs.Encodable.{Sound, Readable}
+use Rattle.normal.specs.Normal.{normalTypelib}
+use Rattle.normal.specs.Encodable.{Sound}
 use Rattle.normal.proofs.Accepted as normal
-use Rattle.normal.proofs.Back.{bytes-back, read-back, means-back}
+use Rattle.stock.specs.Uses.{normalLength}
+use Rattle.stock.specs.Form.{normalForm}
+use Rattle.stock.specs.Readable.{Readable}
+use Rattle.stock.proofs.Back.{bytes-back, read-back, means-back}
 use Rattle.bridge.proofs.Valids.{meaning-valid}
 use Rattle.link.specs.declared.Which.the-variants.{Union}
 use Rattle.joining.specs.Outcome.{refusal, encoded}
@@ -56,4 +58,4 @@ module _ (a : List ℕ) (A : List (Entry Key)) (m : Means a A) where
 
 -- a normal form is an accepted file that means what it was written for
 pub form-means : (us : List (Entry Key)) → Readable us → Means (normalForm us) us
-form-means us r = record { bytes = bytes-back us (r .encodable); typelib = normalTypelib us; end = length (normalForm us); decoded = read-back us r; meant = sym (means-back us r) }
+form-means us r = record { bytes = bytes-back us r; typelib = normalTypelib us; end = length (normalForm us); decoded = read-back us r; meant = sym (means-back us r) }

@@ -6,6 +6,7 @@ pub mod Buffers
 pub mod Demand
 pub mod Minors
 pub mod Theorems
+pub mod Once
 pub mod Marked
 pub mod Faces
 pub mod Examples

@@ -10,6 +10,7 @@ use Rattle.number.specs.Choice.{if_then_else_, _<?_, _=?_}
 use Rattle.number.specs.Scan.{scan, some as one}
 use Rattle.key.specs.Word.{compareWords, isSame}
 use Rattle.key.specs.Key.{thenBy, compareKeys, sameKey}
+use Rattle.key.specs.First.{sameAs, firstSame}
 use Rattle.reader.specs.Values.{entriesIn, parentOf, methodsOf, entryKey, entryDescriptor}
 use Rattle.reader.specs.Reader.{decode}
 use Rattle.reader.specs.Reader.Marked.{P1, P2, P3, P13, says1, says2, says3, says13, decodes1, decodes2, decodes3, decodes13}
@@ -22,10 +23,13 @@ use Rattle.facts.specs.Conditions.{anyOf, differ, twoIids, sharesWith, sharedIi
 use Rattle.facts.specs.Valid.{blank, entryAt}
 use Rattle.facts.specs.Link.{suchAt, anySuch, firstSuch, linkBoth, linkEntries, normalEntries}
 use Rattle.normal.specs.BigEndian.{bytesOf}
-use Rattle.normal.specs.Size.{sum, valueWidth, constantSize, descriptorSize, nameSize, methodNameSize, constantName, constantNameSize, namesSize, spaceSize, ownSize, entrySize, entryLength, normalLength}
-use Rattle.normal.specs.Record.{run, nameAfter, methodsBytes, constantBytes, constantsBytes, parentNumber, constantsFrom, descriptorBytes, nameBytes, constantNameBytes, namesBytes}
+use Rattle.normal.specs.Size.{sum, valueWidth, constantSize, descriptorSize, nameSize, constantName}
+use Rattle.normal.specs.Record.{constantBytes, parentNumber, nameBytes}
 use Rattle.normal.specs.Minor.{newDescriptor, newOwn, newEntry, minorOf}
-use Rattle.normal.specs.Normal.{spaceFrom, ownFrom, namesFrom, spaceBytes, ownBytes, entryPool, poolBytes, spacePointer, ownPointer, entryBytes, directoryBytes, normalHeader, headerBytes, noteBytes, fileBytes, normalForm}
+use Rattle.normal.specs.Normal.{spacePointer, ownPointer, normalHeader, headerBytes, noteBytes}
+use Rattle.stock.specs.Uses.{namesOf, ownWords, spaceWords, keyWords, entryWords, wordsOf, firstUse, atFirst, keptSize, storedSize, stockSize, ownBody, bodyLength, normalLength}
+use Rattle.stock.specs.Pool.{ownPieces, entryPieces, piecesOf, wordsIn, poolSize, offset, onceAt}
+use Rattle.stock.specs.Form.{runFrom, methodsWith, constantsWith, descriptorWith, keptBytes, poolWith, ownAfter, entryWith, directoryWith, lengthWith, fileWith, normalForm}
 use Rattle.link.specs.declared.Which.the-variants.{Union}
 use Rattle.joining.specs.declared.Normalised.the-variants as normalised
 use Rattle.joining.specs.Outcome.{refused, written, encoded}
@@ -43,7 +47,7 @@ pub record Marked : Type 0 where
   pub linked13 : linkOf (decode P3) (decode P13) ≡ refused (refusalOf Union 23 1)
 
 pub marked : Marked
-unfolding P1 P2 P3 says1 says2 says3 says13 encoded normalOf linkOf entriesIn mapParent mapDescriptor mapOwn mapEntry meaning normalEntries linkEntries linkBoth anySuch firstSuch suchAt one scan if_then_else_ _<?_ _=?_ compareWords isSame thenBy compareKeys sameKey parentOf entryKey cons? list? some? option? word? key? param? method? descriptor? decided sameDescriptor prepend said saysIid saysDescriptor valuesOf firstOf orZero iidIn descriptorFor compareNumbers compareBy beside insert sort entryFor union anyOf differ twoIids sharesWith sharedIid twoDescriptors parentFrom parentIn climb isSome endless blank entryAt ℕ-discrete keysOf indexOf bytesOf sum valueWidth constantSize descriptorSize nameSize methodNameSize constantName constantNameSize namesSize spaceSize ownSize entrySize entryLength normalLength run nameAfter methodsBytes constantBytes constantsBytes parentNumber constantsFrom descriptorBytes nameBytes constantNameBytes namesBytes spaceFrom ownFrom namesFrom spaceBytes ownBytes entryPool poolBytes spacePointer ownPointer entryBytes directoryBytes entryDescriptor methodsOf newDescriptor newOwn newEntry minorOf normalHeader headerBytes noteBytes fileBytes normalForm
+unfolding P1 P2 P3 says1 says2 says3 says13 encoded normalOf linkOf entriesIn mapParent mapDescriptor mapOwn mapEntry meaning normalEntries linkEntries linkBoth anySuch firstSuch suchAt one scan if_then_else_ _<?_ _=?_ compareWords isSame thenBy compareKeys sameKey parentOf entryKey cons? list? some? option? word? key? param? method? descriptor? decided sameDescriptor prepend said saysIid saysDescriptor valuesOf firstOf orZero iidIn descriptorFor compareNumbers compareBy beside insert sort entryFor union anyOf differ twoIids sharesWith sharedIid twoDescriptors parentFrom parentIn climb isSome endless blank entryAt ℕ-discrete keysOf indexOf sameAs firstSame bytesOf sum valueWidth constantSize descriptorSize nameSize constantName constantBytes parentNumber nameBytes entryDescriptor methodsOf newDescriptor newOwn newEntry minorOf spacePointer ownPointer normalHeader headerBytes noteBytes namesOf ownWords spaceWords keyWords entryWords wordsOf firstUse atFirst keptSize storedSize stockSize ownBody bodyLength normalLength ownPieces entryPieces piecesOf wordsIn poolSize offset onceAt runFrom methodsWith constantsWith descriptorWith keptBytes poolWith ownAfter entryWith directoryWith lengthWith fileWith normalForm
 marked = record {
   own1 = rw decodes1 refl;
   own2 = rw decodes2 refl;

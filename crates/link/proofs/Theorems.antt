@@ -15,12 +15,12 @@ use Rattle.facts.specs.Facts.{Within}
 use Rattle.facts.specs.Union.{union}
 use Rattle.facts.specs.Link.{Linked, stopped, joined, linkEntries, normalEntries}
 use Rattle.facts.proofs.Algebra.{joined-exactly, joined-normal, joined-says, normal-exactly, normal-normal, union-means, mean-exactly}
-use Rattle.normal.specs.Size.{normalLength}
-use Rattle.normal.specs.Normal.{normalForm}
-use Rattle.normal.specs.Encodable.{Readable}
-use Rattle.normal.proofs.Lengths.{length-normal}
-use Rattle.normal.proofs.Minors.{minor-exactly, minor-else, minor-byte}
-use Rattle.normal.proofs.Back.{normal-injective}
+use Rattle.stock.specs.Uses.{normalLength}
+use Rattle.stock.specs.Form.{normalForm}
+use Rattle.stock.specs.Readable.{Readable}
+use Rattle.stock.proofs.Lengths.{length-normal}
+use Rattle.normal.proofs.Minors.{minor-exactly, minor-else}
+use Rattle.stock.proofs.Back.{normal-injective, minor-byte}
 use Rattle.link.specs.declared.Which.the-variants.{Union}
 use Rattle.joining.specs.Outcome.{written, refusal, encoded}
 use Rattle.link.specs.Outcome.{refusalOf, normalOf, linkOf}
@@ -42,7 +42,7 @@ form-of : (us : List (Entry Key)) → Readable us → normalEntries normalLength
 unfolding encoded
 form-of us r j =
     let m = form-means us r in
-    record { means = m; short = omega (arith, length-normal us, r .encodable .short); own = normal-of (normalForm us) us m ∙ ap (encoded refusal) j }
+    record { means = m; short = omega (arith, length-normal us, r .short); own = normal-of (normalForm us) us m ∙ ap (encoded refusal) j }
 
 module _ (a b : List ℕ) (A : List (Entry Key)) (m : Means a A) (h : normalOf (decode a) ≡ written b) where
   normal-joined : (normalEntries normalLength A ≡ joined (union A)) × (b ≡ normalForm (union A))

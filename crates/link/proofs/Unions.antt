@@ -2,7 +2,7 @@
 -- Assumes nothing.
 use mathlib.Core.Path.{_≡_, refl, sym, ap, _∙_}
 use mathlib.Core.Logic.{inl, inr}
-use mathlib.Core.List.{List, [], _∷_, _++_}
+use mathlib.Core.List.{List, [], _++_}
 use mathlib.Core.Option.{Option, none, some}
 use Prim.Native.Nat.{ℕ, zero, suc, _+_, _≤_, _<_}
 use native.Mathlib.Omega.{arith}
@@ -21,8 +21,7 @@ use Rattle.facts.specs.Facts.{In, keysOf}
 use Rattle.facts.specs.Union.{union}
 use Rattle.facts.specs.Conditions.{parentFrom, parentIn, climb, TooLong, Fine}
 use Rattle.facts.specs.Valid.{blank, entryAt, Valid}
-use Rattle.facts.specs.Link.{Grows}
-use Rattle.facts.proofs.Sets.{in-append, at-in, in-at, weigh}
+use Rattle.facts.proofs.Sets.{in-append, at-in, in-at}
 use Rattle.facts.proofs.Values.{not-some}
 use Rattle.facts.proofs.Said.{entry-key}
 use Rattle.facts.proofs.Unions.{for-descriptor}
@@ -30,11 +29,11 @@ use Rattle.facts.proofs.Valids.{resolved-parts, valid-agree}
 use Rattle.facts.proofs.Same.{own-entry}
 use Rattle.facts.proofs.Closed.{valid-few}
 use Rattle.facts.proofs.Links.{not-over}
-use Rattle.facts.proofs.Algebra.{Closed, union-valid, union-again, own-order, Rises, sum-grows}
-use Rattle.normal.specs.Size.{sum, entryLength, normalLength}
-use Rattle.normal.specs.Encodable.{Sound, Readable}
-use Rattle.normal.proofs.Sizes.{iid-same, open-shorter}
+use Rattle.facts.proofs.Algebra.{Closed, union-valid, union-again, own-order}
+use Rattle.normal.specs.Encodable.{Sound}
 use Rattle.normal.proofs.Anys.{in-all, all-in}
+use Rattle.stock.specs.Uses.{normalLength}
+use Rattle.stock.specs.Readable.{Readable}
 use Rattle.link.proofs.Sounds.{sound-union}
 
 -- ---- references
@@ -101,7 +100,7 @@ module _ (us : List (Entry Key)) (v : Valid us) where
   pub valid-readable : All Sound us → union us ≡ us → normalLength us ≤ 1048576 → Readable us
   valid-readable s own short =
       let o = valid-standing own in
-      record { encodable = record { few = v .few; short = short; each = s; closed = o .0 }; order = o .1; keys = o .2; chains = o .3 }
+      record { few = v .few; short = short; each = s; closed = o .0; order = o .1; keys = o .2; chains = o .3 }
 
 -- the union of sound entries of which none of the six conditions holds
 pub fine-readable : (es : List (Entry Key)) → All Sound es → Closed es → Fine normalLength es → Readable (union es)
@@ -114,18 +113,3 @@ valid-fine A v f = record { agree = valid-agree A v; few = valid-few A v; short 
 
 pub sound-both : (A B : List (Entry Key)) → All Sound A → All Sound B → All Sound (A ++ B)
 sound-both A B a b = all-in Sound (A ++ B) (λ e i. elim (in-append e A B i) [ inl m ↦ in-all Sound A a e m | inr m ↦ in-all Sound B b e m ])
-
--- ---- the size
-
-rises : Rises entryLength
-rises = record { iid = λ k i d. omega (arith, iid-same k 0 i d); descriptor = λ k i d. open-shorter k i i (some d) }
-
-sum-weighs : (es : List (Entry Key)) → sum entryLength es ≡ weigh entryLength es
-unfolding sum
-sum-weighs [] = refl
-sum-weighs (e ∷ es) = omega (arith, sum-weighs es)
-
--- the length of the normal form never falls when facts are added
-pub grows : Grows normalLength
-unfolding normalLength
-grows = sum-grows normalLength 36 entryLength rises (λ es. ap (λ (n : ℕ). 36 + n) (sum-weighs (union es)))

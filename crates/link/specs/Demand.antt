@@ -16,8 +16,8 @@ use Rattle.meaning.specs.Meaning.{meaning}
 use Rattle.facts.specs.Union.{union}
 use Rattle.facts.specs.Conditions.{Fine}
 use Rattle.facts.specs.Link.{StoppedBy, andThen}
-use Rattle.normal.specs.Size.{normalLength}
-use Rattle.normal.specs.Normal.{normalForm}
+use Rattle.stock.specs.Uses.{normalLength}
+use Rattle.stock.specs.Form.{normalForm}
 use Rattle.link.specs.declared.Which.the-variants.{Union}
 use Rattle.joining.specs.declared.Normalised.{Normalised}
 use Rattle.joining.specs.declared.Normalised.the-variants as normalised

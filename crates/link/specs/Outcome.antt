@@ -9,7 +9,7 @@ use Rattle.reader.specs.Values.{Typelib, entriesIn}
 use Rattle.reader.specs.Reader.{decode}
 use Rattle.meaning.specs.Meaning.{meaning}
 use Rattle.facts.specs.Link.{linkEntries, normalEntries}
-use Rattle.normal.specs.Size.{normalLength}
+use Rattle.stock.specs.Uses.{normalLength}
 use Rattle.joining.specs.declared.Normalised.{Normalised}
 use Rattle.joining.specs.Outcome.{Outcome, refused, written, refusal, encoded, inRoom, after, normalisedAs}
 use Rattle.link.specs.declared.Which.{Which}

@@ -2,8 +2,8 @@
 -- Assumes nothing.
 use mathlib.Core.Path.{_≡_}
 use mathlib.Core.Logic.{_⊎_, _↔_}
-use mathlib.Core.List.{List, _++_}
-use Prim.Native.Nat.{ℕ, _≤_}
+use mathlib.Core.List.{List, [], _++_}
+use Prim.Native.Nat.{ℕ, _≤_, _<_}
 use lib.ListN.{length, getD, take}
 use lib.Seq.{sets}
 use Rattle.number.specs.Limits.{fileLimit}
@@ -12,11 +12,16 @@ use Rattle.key.specs.Key.{Key}
 use Rattle.reader.specs.Values.{Entry}
 use Rattle.reader.specs.Records.{Bytes}
 use Rattle.reader.specs.Reader.{decode, checkOf}
+use Rattle.meaning.specs.Index.{keysOf, indexOf}
 use Rattle.facts.specs.Facts.{MeanSame, Within}
 use Rattle.facts.specs.Union.{union}
-use Rattle.normal.specs.Size.{normalLength}
+use Rattle.facts.specs.Link.{Grows}
+use Rattle.normal.specs.Size.{plainLength}
 use Rattle.normal.specs.Minor.{Occurs}
-use Rattle.normal.specs.Normal.{normalForm}
+use Rattle.normal.specs.Normal.{plainForm}
+use Rattle.stock.specs.Uses.{wordsOf, always, normalLength}
+use Rattle.stock.specs.Pool.{piecesOf, plainAt, onceAt}
+use Rattle.stock.specs.Form.{fileWith, normalForm}
 use Rattle.joining.specs.declared.Normalised.the-variants as normalised
 use Rattle.joining.specs.Outcome.{written}
 use Rattle.link.specs.declared.Linked.the-variants as linked
@@ -54,6 +59,26 @@ MinorForms = (us : List (Entry Key)) → ((getD (normalForm us) 17 0 ≡ 2) ↔ 
 pub record MinorWritten : Type 0 where
   pub normal : (a b : List ℕ) (A : List (Entry Key)) → Means a A → normalOf (decode a) ≡ written b → (getD b 17 0 ≡ 2) ↔ Occurs A
   pub linked : (a b c : List ℕ) (A B : List (Entry Key)) → Means a A → Means b B → linkOf (decode a) (decode b) ≡ written c → (getD c 17 0 ≡ 2) ↔ (Occurs A ⊎ Occurs B)
+
+-- ---- document 02, "Store each name once": the normal form beside document 01's plain one, which stores the name of every use
+
+-- of an accepted file that means A
+pub record Shortened (a : List ℕ) (A : List (Entry Key)) : Type 0 where
+  pub exists : normalOf (decode a) ≡ written (normalForm (union A))
+  pub shorter : length (normalForm (union A)) ≤ length (plainForm (union A))
+  pub normal : Means (normalForm (union A)) (union A)
+  pub plain : Means (plainForm (union A)) (union A)
+
+pub record OnceForms : Type 0 where
+  -- Where the plain form exists so does the normal form, which is never longer, and both are accepted files with the same meaning.
+  pub exists : (a : List ℕ) (A : List (Entry Key)) → Means a A → plainLength (union A) ≤ fileLimit → Shortened a A
+  -- The plain form is the file that differs only in what is stored and where uses point.
+  pub plain : (us : List (Entry Key)) → fileWith (indexOf (keysOf us)) (plainAt (piecesOf us)) always us ≡ plainForm us
+  -- Two uses point to one place exactly when they are of one name.
+  pub shared : (us : List (Entry Key)) (u v : ℕ) → u < length (wordsOf us) → v < length (wordsOf us)
+      → (onceAt (piecesOf us) u ≡ onceAt (piecesOf us) v) ↔ (getD (wordsOf us) u [] ≡ getD (wordsOf us) v [])
+  -- The length never shrinks when entries are added.
+  pub grows : Grows normalLength
 
 -- ---- the same of what the contracts cite: answers and buffers, whatever the buffers' lengths and contents
 

@@ -1,4 +1,4 @@
--- The normal form reads back.
+-- The plain form reads back.
 -- Assumes nothing.
 use mathlib.Core.Path.{_≡_, refl, sym, ap, _∙_, subst}
 use mathlib.Core.Bool.{true}
@@ -20,16 +20,16 @@ use Rattle.meaning.proofs.Alls.{all-both, all-map}
 use Rattle.meaning.proofs.Refs.{entry-then}
 use Rattle.meaning.proofs.Indexes.{index-range, length-renumbered, meaning-renumbered}
 use Rattle.meaning.proofs.Maps.{itself}
-use Rattle.normal.specs.Size.{normalLength}
+use Rattle.normal.specs.Size.{plainLength}
 use Rattle.normal.specs.Minor.{newEntry, minorOf}
-use Rattle.normal.specs.Normal.{normalHeader, fileBytes, normalForm, normalTypelib}
+use Rattle.normal.specs.Normal.{normalHeader, plainBytes, plainForm, normalTypelib}
 use Rattle.normal.specs.Ranged.{RangedEntry}
-use Rattle.normal.specs.Encodable.{Sound, Encodable, Readable}
-use Rattle.normal.proofs.Lengths.{length-normal}
+use Rattle.normal.specs.Encodable.{Sound, PlainEncodable, PlainReadable}
+use Rattle.normal.proofs.Lengths.{length-plain}
 use Rattle.normal.proofs.Files.{file-shows, directory-none, directory-at, header-count, header-pool, length-parts}
 use Rattle.normal.proofs.Minors.{minor-range, minor-serves, header-minor}
 use Rattle.normal.proofs.Small.{file-bytes}
-use Rattle.normal.proofs.Mapped.{normal-length, header-mapped, normal-file}
+use Rattle.normal.proofs.Mapped.{plain-length, header-mapped, plain-file}
 use Rattle.normal.proofs.Ranges.{ranged-entry}
 use Rattle.normal.proofs.Apart.{entry-apart-obeys}
 
@@ -106,41 +106,34 @@ module _ (us : List (Entry Key)) (len : ℕ) (few : length us ≤ 1024) (short :
 
 -- ---- what is written
 
-module _ (us : List (Entry Key)) (enc : Encodable us) where
-  pub encodable-rules : All (EntryRule (minorOf us) (length us)) (renumbered us)
-  encodable-rules = sound-rules us (enc .each) (enc .closed)
-
-  short-renumbered : normalLength (renumbered us) ≤ 1048576
+module _ (us : List (Entry Key)) (enc : PlainEncodable us) where
+  short-renumbered : plainLength (renumbered us) ≤ 1048576
   unfolding renumbered
-  short-renumbered = rw (normal-length (indexOf (keysOf us)) us) (enc .short)
+  short-renumbered = rw (plain-length (indexOf (keysOf us)) us) (enc .short)
 
   -- its bytes show the entries
-  pub shows-back : ShowsTypelib (normalForm us) (normalTypelib us)
-  shows-back =
+  pub shows-plain : ShowsTypelib (plainForm us) (normalTypelib us)
+  shows-plain =
       let few : length (renumbered us) ≤ 1024 = rw (length-renumbered us) (enc .few) in
-      rw (normal-file us) (shows-renumbered us (fileBytes itself (renumbered us))
+      rw (plain-file us) (shows-renumbered us (plainBytes itself (renumbered us))
       (file-shows (renumbered us) few short-renumbered (minorOf us) (ranged-renumbered us (enc .each) (enc .closed)) (rules-renumbered us (enc .each) (enc .closed))))
 
-  pub bytes-back : Bytes (normalForm us)
-  bytes-back = rw (normal-file us) (file-bytes (renumbered us) (minorOf us) (ranged-renumbered us (enc .each) (enc .closed)) (rules-renumbered us (enc .each) (enc .closed)))
+  pub bytes-plain : Bytes (plainForm us)
+  bytes-plain = rw (plain-file us) (file-bytes (renumbered us) (minorOf us) (ranged-renumbered us (enc .each) (enc .closed)) (rules-renumbered us (enc .each) (enc .closed)))
 
 -- ---- and read
 
-module _ (us : List (Entry Key)) (r : Readable us) where
-  pub read-back : decode (normalForm us) ≡ got (normalTypelib us) (length (normalForm us))
-  read-back =
+module _ (us : List (Entry Key)) (r : PlainReadable us) where
+  pub read-plain : decode (plainForm us) ≡ got (normalTypelib us) (length (plainForm us))
+  read-plain =
       let enc = r .encodable in
-      shown-read us (normalLength us) (enc .few) (enc .short) (omega (arith, length-parts us)) (enc .each) (enc .closed) (r .order) (r .keys) (r .chains)
-      (normalForm us) (length-normal us) (bytes-back us enc) (shows-back us enc)
+      shown-read us (plainLength us) (enc .few) (enc .short) (omega (arith, length-parts us)) (enc .each) (enc .closed) (r .order) (r .keys) (r .chains)
+      (plainForm us) (length-plain us) (bytes-plain us enc) (shows-plain us enc)
 
   -- with the meaning it was written for
-  pub means-back : meaning (entriesIn (normalTypelib us)) ≡ us
+  pub means-plain : meaning (entriesIn (normalTypelib us)) ≡ us
   unfolding normalTypelib entriesIn
-  means-back = meaning-renumbered us (r .encodable .closed)
-
-  -- what was written is its own normal form
-  pub own-normal : normalForm (meaning (entriesIn (normalTypelib us))) ≡ normalForm us
-  own-normal = ap normalForm means-back
+  means-plain = meaning-renumbered us (r .encodable .closed)
 
 -- the meaning of what was read
 meaningRead : Got Typelib → List (Entry Key)
@@ -151,7 +144,3 @@ meaningRead (bad n q) = []
 pub one-meaning : (a b : List ℕ) (s t : Typelib) (m n : ℕ) → decode a ≡ got s m → decode b ≡ got t n → a ≡ b → meaning (entriesIn s) ≡ meaning (entriesIn t)
 unfolding meaningRead
 one-meaning a b s t m n x y e = sym (ap meaningRead x) ∙ ap (λ (c : List ℕ). meaningRead (decode c)) e ∙ ap meaningRead y
-
--- two meanings, each in its order, have the same normal form only where they are equal
-pub normal-injective : (us vs : List (Entry Key)) → Readable us → Readable vs → normalForm us ≡ normalForm vs → us ≡ vs
-normal-injective us vs r q e = sym (means-back us r) ∙ one-meaning _ _ _ _ _ _ (read-back us r) (read-back vs q) e ∙ means-back vs q

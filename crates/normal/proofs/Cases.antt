@@ -1,9 +1,9 @@
--- P1, P2 and P3 meet what read-back asks, so each is accepted with the meaning whose normal form it is; an interface with a tag of minor 2 meets it too.
+-- P1, P2 and P3 meet what read-plain asks, so each is accepted with the meaning whose plain form it is; an interface with a tag of minor 2 meets it too.
 -- Assumes nothing.
 use mathlib.Core.Path.{_≡_, refl, sym}
 use mathlib.Core.Logic.{inl, inr}
 use mathlib.Core.List.{List, [], _∷_}
-use mathlib.Core.Option.{none, some}
+use mathlib.Core.Option.{none}
 use Prim.Native.Nat.{ℕ, zero, suc, _^_, _≤_}
 use native.Mathlib.Bridge.{le-by-compare, IsLe}
 use native.Mathlib.Omega.{arith}
@@ -21,11 +21,11 @@ use Rattle.meaning.specs.Chain.{parentRef}
 use Rattle.meaning.proofs.Indexes.{length-renumbered}
 use Rattle.meaning.proofs.Chains.{chains-end}
 use Rattle.facts.specs.Conditions.{anyOf}
-use Rattle.normal.specs.Size.{sum, typeSize, paramSize, methodSize, valueWidth, constantSize, descriptorSize, nameSize, methodNameSize, constantName, constantNameSize, namesSize, spaceSize, ownSize, entrySize, entryLength, normalLength}
+use Rattle.normal.specs.Size.{sum, typeSize, paramSize, methodSize, valueWidth, constantSize, descriptorSize, nameSize, methodNameSize, constantName, constantNameSize, namesSize, spaceSize, ownSize, entrySize, entryLength, plainLength}
 use Rattle.normal.specs.Minor.{prefixesOf, paramsOf, newTag, newPrefix, newType, newParam, newMethod, newDescriptor, newOwn, newEntry, minorOf}
 use Rattle.normal.specs.Normal.{normalTypelib}
-use Rattle.normal.specs.Encodable.{Sound, Encodable, Readable}
-use Rattle.normal.proofs.Back.{read-back}
+use Rattle.normal.specs.Encodable.{Sound, PlainEncodable, PlainReadable}
+use Rattle.normal.proofs.Back.{read-plain}
 use Rattle.reader.specs.Reader.Marked.{P1, P2, P3}
 use Rattle.normal.proofs.Examples.{tank, withConstant, withString, marked}
 
@@ -38,7 +38,7 @@ module _ (us : List (Entry Key)) (few : length us ≤ 1) where
   keys-one : UniqueKeys (renumbered us)
   keys-one i j l m e = absurd (omega (arith, length-renumbered us))
 
-  readable-one : (d : Entry Key) → ((i : ℕ) → parentRef (getD us i d) ≡ none) → Encodable us → Readable us
+  readable-one : (d : Entry Key) → ((i : ℕ) → parentRef (getD us i d) ≡ none) → PlainEncodable us → PlainReadable us
   readable-one d e enc = record {
     encodable = enc;
     order = order-one;
@@ -48,8 +48,8 @@ module _ (us : List (Entry Key)) (few : length us ≤ 1) where
 
 -- ---- the three meanings
 
-readable-none : Readable []
-unfolding normalLength sum tank parentRef
+readable-none : PlainReadable []
+unfolding plainLength sum tank parentRef
 readable-none = readable-one [] (omega arith) tank (λ i. refl) (record { few = omega arith; short = omega arith; each = tt; closed = tt })
 
 sound-tank : Sound tank
@@ -63,8 +63,8 @@ sound-tank = record {
   ranged = (le-by-compare 1 (256 ^ 16) tt, tt);
 }
 
-readable-tank : Readable (tank ∷ [])
-unfolding tank parentRef normalLength sum entryLength entrySize nameSize spaceSize ownSize
+readable-tank : PlainReadable (tank ∷ [])
+unfolding tank parentRef plainLength sum entryLength entrySize nameSize spaceSize ownSize
 readable-tank = readable-one (tank ∷ []) (omega arith) tank parents (record { few = omega arith; short = omega arith; each = (sound-tank, tt); closed = (tt, tt) })
   where
     parents : (i : ℕ) → parentRef (getD (tank ∷ []) i tank) ≡ none
@@ -95,8 +95,8 @@ sound-constant = record {
   ranged = (le-by-compare 2 (256 ^ 16) tt, (tt, (le-by-compare 0xffff 65536 tt, tt), omega arith));
 }
 
-readable-constant : Readable (withConstant ∷ [])
-unfolding withConstant parentRef parentOf normalLength sum entryLength entrySize nameSize spaceSize ownSize descriptorSize constantSize valueWidth namesSize methodNameSize constantNameSize constantName if_then_else_ _=?_
+readable-constant : PlainReadable (withConstant ∷ [])
+unfolding withConstant parentRef parentOf plainLength sum entryLength entrySize nameSize spaceSize ownSize descriptorSize constantSize valueWidth namesSize methodNameSize constantNameSize constantName if_then_else_ _=?_
 readable-constant = readable-one (withConstant ∷ []) (omega arith) withConstant parents (record { few = omega arith; short = omega arith; each = (sound-constant, tt); closed = ((tt, tt), tt) })
   where
     parents : (i : ℕ) → parentRef (getD (withConstant ∷ []) i withConstant) ≡ none
@@ -160,8 +160,8 @@ pub string-minor : minorOf (withString ∷ []) ≡ 2
 unfolding withString anyOf if_then_else_ _≤?_ entryDescriptor methodsOf paramType prefixesOf paramsOf newTag newPrefix newType newParam newMethod newDescriptor newOwn newEntry minorOf
 string-minor = refl
 
-pub readable-string : Readable (withString ∷ [])
-unfolding withString parentRef parentOf normalLength sum entryLength entrySize nameSize spaceSize ownSize descriptorSize methodSize paramSize typeSize namesSize methodNameSize methodName constantNameSize
+pub readable-string : PlainReadable (withString ∷ [])
+unfolding withString parentRef parentOf plainLength sum entryLength entrySize nameSize spaceSize ownSize descriptorSize methodSize paramSize typeSize namesSize methodNameSize methodName constantNameSize
 readable-string = readable-one (withString ∷ []) (omega arith) withString parents (record { few = omega arith; short = omega arith; each = (sound-string, tt); closed = ((tt, ((tt, tt), tt)), tt) })
   where
     parents : (i : ℕ) → parentRef (getD (withString ∷ []) i withString) ≡ none
@@ -171,10 +171,10 @@ readable-string = readable-one (withString ∷ []) (omega arith) withString pare
 -- ---- read back
 
 pub read-none : decode P1 ≡ got (normalTypelib []) (length P1)
-read-none = rw (← marked .0) (read-back [] readable-none)
+read-none = rw (← marked .0) (read-plain [] readable-none)
 
 pub read-tank : decode P2 ≡ got (normalTypelib (tank ∷ [])) (length P2)
-read-tank = rw (← marked .1) (read-back (tank ∷ []) readable-tank)
+read-tank = rw (← marked .1) (read-plain (tank ∷ []) readable-tank)
 
 pub read-constant : decode P3 ≡ got (normalTypelib (withConstant ∷ [])) (length P3)
-read-constant = rw (← marked .2) (read-back (withConstant ∷ []) readable-constant)
+read-constant = rw (← marked .2) (read-plain (withConstant ∷ []) readable-constant)

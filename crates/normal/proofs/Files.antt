@@ -13,8 +13,8 @@ use Rattle.reader.specs.Records.{magic, annotationLimit, poolOf, ShowsHeader, S
 use Rattle.reader.specs.Rules.{All, EntryRule}
 use Rattle.meaning.proofs.Maps.{itself}
 use Rattle.normal.specs.BigEndian.{bytesOf}
-use Rattle.normal.specs.Size.{sum, entrySize, normalLength}
-use Rattle.normal.specs.Normal.{poolBytes, directoryBytes, normalHeader, headerBytes, noteBytes, fileBytes}
+use Rattle.normal.specs.Size.{sum, entrySize, plainLength}
+use Rattle.normal.specs.Normal.{poolBytes, directoryBytes, normalHeader, headerBytes, noteBytes, plainBytes}
 use Rattle.normal.specs.Ranged.{RangedEntry}
 use Rattle.normal.proofs.Lengths.{length-bytes, length-header, length-directory, length-file, sum-entries}
 use Rattle.normal.proofs.From.{From, from-whole, from-at, from-head, from-tail, from-number, from-drop}
@@ -89,8 +89,8 @@ module _ {R : Type 0} (us : List (Entry R)) where
   header-pool = refl
 
   -- header, annotation, directory and pool
-  pub length-parts : normalLength us ≡ 36 + 28 * length us + sum entrySize us
-  unfolding normalLength
+  pub length-parts : plainLength us ≡ 36 + 28 * length us + sum entrySize us
+  unfolding plainLength
   length-parts = omega (arith, sum-entries us)
 
 -- ---- the file
@@ -123,10 +123,10 @@ parts-show us s dir rest len few size short long f each =
       },
     )
 
-pub file-shows : (us : List (Entry ℕ)) → length us ≤ 1024 → normalLength us ≤ 1048576 → (minor : ℕ) → All RangedEntry us → All (EntryRule minor (length us)) us
-    → ShowsTypelib (fileBytes itself us) (typelib (normalHeader us) (empty ∷ []) us)
-unfolding fileBytes
+pub file-shows : (us : List (Entry ℕ)) → length us ≤ 1024 → plainLength us ≤ 1048576 → (minor : ℕ) → All RangedEntry us → All (EntryRule minor (length us)) us
+    → ShowsTypelib (plainBytes itself us) (typelib (normalHeader us) (empty ∷ []) us)
+unfolding plainBytes
 file-shows us few short minor g r =
-    let s = fileBytes itself us in
-    parts-show us s (directoryBytes 1 us) (poolBytes itself 1 us) (normalLength us) few (length-file itself us) short (length-directory 1 us) (from-whole s)
+    let s = plainBytes itself us in
+    parts-show us s (directoryBytes 1 us) (poolBytes itself 1 us) (plainLength us) few (length-file itself us) short (length-directory 1 us) (from-whole s)
     (λ pool inner rows rest k l. entries-show s pool inner minor (length us) few us 1 36 g r (omega arith) rows rest k l)

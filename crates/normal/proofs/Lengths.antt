@@ -10,9 +10,9 @@ use Rattle.key.specs.Key.{Key, key}
 use Rattle.reader.specs.Values.{Ty, simple, interface, interfaceIs, array, sized, Param, param, Method, method, signature, methodName, Constant, constant, Descriptor, descriptor, Entry, entry, Header}
 use Rattle.meaning.specs.Index.{keysOf, indexOf}
 use Rattle.normal.specs.BigEndian.{bytesOf}
-use Rattle.normal.specs.Size.{sum, typeSize, paramSize, methodSize, valueWidth, constantSize, descriptorSize, nameSize, methodNameSize, constantName, constantNameSize, namesSize, spaceSize, ownSize, entrySize, entryLength, normalLength}
+use Rattle.normal.specs.Size.{sum, typeSize, paramSize, methodSize, valueWidth, constantSize, descriptorSize, nameSize, methodNameSize, constantName, constantNameSize, namesSize, spaceSize, ownSize, entrySize, entryLength, plainLength}
 use Rattle.normal.specs.Record.{run, typeBytes, paramBytes, methodBytes, nameAfter, methodsBytes, constantBytes, constantsBytes, parentNumber, constantsFrom, descriptorBytes, nameBytes, methodNameBytes, constantNameBytes, namesBytes}
-use Rattle.normal.specs.Normal.{ownFrom, namesFrom, spaceFrom, spaceBytes, ownBytes, entryPool, poolBytes, spacePointer, ownPointer, entryBytes, directoryBytes, normalHeader, headerBytes, noteBytes, fileBytes, normalForm}
+use Rattle.normal.specs.Normal.{ownFrom, namesFrom, spaceFrom, spaceBytes, ownBytes, entryPool, poolBytes, spacePointer, ownPointer, entryBytes, directoryBytes, normalHeader, headerBytes, noteBytes, plainBytes, plainForm}
 
 pub length-bytes : (k v : ℕ) → length (bytesOf k v) ≡ k
 unfolding bytesOf
@@ -130,11 +130,11 @@ unfolding sum entryLength
 sum-entries [] = refl
 sum-entries (u ∷ us) = omega (arith, sum-entries us)
 
-pub length-file : {R : Type 0} (f : R → ℕ) (us : List (Entry R)) → length (fileBytes f us) ≡ normalLength us
-unfolding fileBytes normalLength noteBytes
+pub length-file : {R : Type 0} (f : R → ℕ) (us : List (Entry R)) → length (plainBytes f us) ≡ plainLength us
+unfolding plainBytes plainLength noteBytes
 length-file f us =
     simp length-append (omega (arith, length-header (normalHeader us) (36 + sum entryLength us), length-directory 1 us, length-pool f 1 us, sum-entries us))
 
-pub length-normal : (us : List (Entry Key)) → length (normalForm us) ≡ normalLength us
-unfolding normalForm
-length-normal us = length-file (indexOf (keysOf us)) us
+pub length-plain : (us : List (Entry Key)) → length (plainForm us) ≡ plainLength us
+unfolding plainForm
+length-plain us = length-file (indexOf (keysOf us)) us

@@ -15,10 +15,10 @@ use Rattle.meaning.specs.Refs.{AllRefs, EntryRefs}
 use Rattle.meaning.proofs.Maps.{itself, descriptor-agrees, entry-agrees, entries-agree}
 use Rattle.facts.specs.Conditions.{anyOf}
 use Rattle.normal.specs.BigEndian.{bytesOf}
-use Rattle.normal.specs.Size.{sum, typeSize, paramSize, methodSize, constantSize, descriptorSize, methodNameSize, constantNameSize, namesSize, nameSize, spaceSize, ownSize, entrySize, entryLength, normalLength}
+use Rattle.normal.specs.Size.{sum, typeSize, paramSize, methodSize, constantSize, descriptorSize, methodNameSize, constantNameSize, namesSize, nameSize, spaceSize, ownSize, entrySize, entryLength, plainLength}
 use Rattle.normal.specs.Record.{run, typeBytes, paramBytes, methodBytes, nameAfter, methodsBytes, constantsBytes, parentNumber, constantsFrom, descriptorBytes, methodNameBytes, constantNameBytes, namesBytes, nameBytes}
 use Rattle.normal.specs.Minor.{prefixesOf, paramsOf, newPrefix, newType, newParam, newMethod, newDescriptor, newOwn, newEntry, minorOf}
-use Rattle.normal.specs.Normal.{ownFrom, namesFrom, spaceFrom, spaceBytes, ownBytes, entryPool, poolBytes, spacePointer, ownPointer, entryBytes, directoryBytes, normalHeader, headerBytes, noteBytes, fileBytes, normalForm}
+use Rattle.normal.specs.Normal.{ownFrom, namesFrom, spaceFrom, spaceBytes, ownBytes, entryPool, poolBytes, spacePointer, ownPointer, entryBytes, directoryBytes, normalHeader, headerBytes, noteBytes, plainBytes, plainForm}
 use Rattle.normal.proofs.Anys.{any-mapped}
 
 -- ---- lists
@@ -77,9 +77,9 @@ module _ {R S : Type 0} (g : R → S) where
   unfolding entrySize mapEntry
   entry-size (entry (key v w) j d) = λ i. nameSize w + spaceSize v + own-size d i
 
-  pub normal-length : (us : List (Entry R)) → normalLength (map (mapEntry g) us) ≡ normalLength us
-  unfolding normalLength entryLength
-  normal-length us = λ i. 36 + sum-mapped (mapEntry g) entryLength entryLength (λ u i. 28 + entry-size u i) us i
+  pub plain-length : (us : List (Entry R)) → plainLength (map (mapEntry g) us) ≡ plainLength us
+  unfolding plainLength entryLength
+  plain-length us = λ i. 36 + sum-mapped (mapEntry g) entryLength entryLength (λ u i. 28 + entry-size u i) us i
 
 -- ---- bytes
 
@@ -223,12 +223,12 @@ module _ {R S : Type 0} (g : R → S) where
       let n = length-map us (mapEntry g) in
       (λ i. record { minor = minor-mapped us i; count = n i; directory = if n i =? 0 then 0 else 36; pool = 36 + 28 * n i })
 
-pub file-mapped : {R S : Type 0} (f : S → ℕ) (g : R → S) (us : List (Entry R)) → fileBytes f (map (mapEntry g) us) ≡ fileBytes (λ r. f (g r)) us
-unfolding fileBytes
+pub file-mapped : {R S : Type 0} (f : S → ℕ) (g : R → S) (us : List (Entry R)) → plainBytes f (map (mapEntry g) us) ≡ plainBytes (λ r. f (g r)) us
+unfolding plainBytes
 file-mapped f g us = λ i.
-    headerBytes (header-mapped g us i) (normal-length g us i) ++ noteBytes ++ directory-bytes g 1 us i ++ pool-bytes f g 1 us i
+    headerBytes (header-mapped g us i) (plain-length g us i) ++ noteBytes ++ directory-bytes g 1 us i ++ pool-bytes f g 1 us i
 
--- the normal form is the file of the entries numbered anew
-pub normal-file : (us : List (Entry Key)) → normalForm us ≡ fileBytes itself (renumbered us)
-unfolding normalForm renumbered
-normal-file us = sym (file-mapped itself (indexOf (keysOf us)) us)
+-- the plain form is the file of the entries numbered anew
+pub plain-file : (us : List (Entry Key)) → plainForm us ≡ plainBytes itself (renumbered us)
+unfolding plainForm renumbered
+plain-file us = sym (file-mapped itself (indexOf (keysOf us)) us)

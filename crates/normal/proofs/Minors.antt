@@ -7,11 +7,10 @@ use mathlib.Core.List.{List, [], _∷_, _++_}
 use mathlib.Core.Option.{Option, none, some}
 use Prim.Native.Nat.{ℕ, _%_, _≤_, _<_}
 use native.Mathlib.Omega.{arith}
-use lib.ListN.{getD}
 use Rattle.number.specs.Choice.{_≤?_}
 use Rattle.number.proofs.Choice.{both, is-true, is-false, is-le, no-le, yes-le, from-yes-le}
 use Rattle.number.proofs.Scans.{clash}
-use Rattle.key.specs.Key.{Key, key}
+use Rattle.key.specs.Key.{key}
 use Rattle.reader.specs.Values.{Ty, simple, interface, interfaceIs, array, sized, Param, paramType, signature, Method, method, Descriptor, descriptor, methodsOf, Entry, entry, entryDescriptor}
 use Rattle.reader.specs.Records.{StringTag}
 use Rattle.reader.specs.Rules.{All, PrefixRule, TypeRule, ParamRule, ArgumentRule, MethodRule, DescriptorRule, EntryRule, newest}
@@ -20,7 +19,7 @@ use Rattle.facts.specs.Conditions.{anyOf}
 use Rattle.facts.proofs.Sets.{in-append}
 use Rattle.facts.proofs.Tests.{any-found}
 use Rattle.normal.specs.Minor.{prefixesOf, paramsOf, newTag, newPrefix, newType, newParam, newMethod, newDescriptor, newOwn, newEntry, minorOf, OccursIn, Occurs}
-use Rattle.normal.specs.Normal.{normalHeader, headerBytes, fileBytes, normalForm}
+use Rattle.normal.specs.Normal.{normalHeader}
 use Rattle.normal.proofs.Anys.{all-in, in-all, any-in, any-no}
 
 -- ---- tags
@@ -119,11 +118,6 @@ module _ {R : Type 0} (us : List (Entry R)) where
   pub header-minor : normalHeader us .minor ≡ minorOf us
   unfolding normalHeader
   header-minor = refl
-
--- which has it in byte 17
-pub minor-byte : (us : List (Entry Key)) → getD (normalForm us) 17 0 ≡ minorOf us
-unfolding normalForm fileBytes headerBytes
-minor-byte us = header-minor us
 
 -- ---- files of an older minor have none of the tags
 

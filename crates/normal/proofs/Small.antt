@@ -14,9 +14,9 @@ use Rattle.reader.specs.Rules.{All, Identifier, MethodRule, ConstantRule, Descr
 use Rattle.reader.specs.Reader.Laws.{identifier-bytes}
 use Rattle.meaning.proofs.Maps.{itself}
 use Rattle.normal.specs.BigEndian.{bytesOf}
-use Rattle.normal.specs.Size.{valueWidth, constantName, entrySize, normalLength}
+use Rattle.normal.specs.Size.{valueWidth, constantName, entrySize, plainLength}
 use Rattle.normal.specs.Record.{run, typeBytes, paramBytes, methodBytes, nameAfter, methodsBytes, constantBytes, constantsBytes, parentNumber, constantsFrom, descriptorBytes, nameBytes, methodNameBytes, constantNameBytes, namesBytes}
-use Rattle.normal.specs.Normal.{spaceFrom, ownFrom, namesFrom, spaceBytes, ownBytes, entryPool, poolBytes, spacePointer, ownPointer, entryBytes, directoryBytes, normalHeader, headerBytes, noteBytes, fileBytes}
+use Rattle.normal.specs.Normal.{spaceFrom, ownFrom, namesFrom, spaceBytes, ownBytes, entryPool, poolBytes, spacePointer, ownPointer, entryBytes, directoryBytes, normalHeader, headerBytes, noteBytes, plainBytes}
 use Rattle.normal.specs.Ranged.{RangedType, RangedParam, RangedMethod, Ranged, RangedOwn, RangedEntry}
 use Rattle.normal.proofs.Minors.{minor-range, header-minor}
 
@@ -173,6 +173,6 @@ small-note = cons-small 128 (omega arith) (cons-small 0 (omega arith) (cons-smal
 pub small-parts : {R : Type 0} (us : List (Entry R)) (len : ℕ) {dir rest : List ℕ} → Bytes dir → Bytes rest → Bytes (headerBytes (normalHeader us) len ++ noteBytes ++ dir ++ rest)
 small-parts us len x y = join (join (join (small-header (normalHeader us) len (omega (arith, header-minor us, minor-range us .1))) small-note) x) y
 
-pub file-bytes : (us : List (Entry ℕ)) (minor : ℕ) → All RangedEntry us → All (EntryRule minor (length us)) us → Bytes (fileBytes itself us)
-unfolding fileBytes
-file-bytes us minor g r = small-parts us (normalLength us) (small-directory 1 us) (small-pool minor (length us) 1 us g r)
+pub file-bytes : (us : List (Entry ℕ)) (minor : ℕ) → All RangedEntry us → All (EntryRule minor (length us)) us → Bytes (plainBytes itself us)
+unfolding plainBytes
+file-bytes us minor g r = small-parts us (plainLength us) (small-directory 1 us) (small-pool minor (length us) 1 us g r)

@@ -1,4 +1,4 @@
--- Entries that have a normal form.
+-- Entries that are sound, and those that have a plain form.
 -- Assumes nothing.
 use mathlib.Core.List.{List}
 use Prim.Native.Nat.{_≤_}
@@ -9,7 +9,7 @@ use Rattle.reader.specs.Values.{Descriptor, Entry}
 use Rattle.reader.specs.Rules.{All, DescriptorRule, EntryRule, InOrder, UniqueKeys, NoCycle, newest}
 use Rattle.meaning.specs.Meaning.{mapDescriptor, mapEntry}
 use Rattle.meaning.specs.Index.{renumbered, Closed}
-use Rattle.normal.specs.Size.{normalLength}
+use Rattle.normal.specs.Size.{plainLength}
 use Rattle.normal.specs.Ranged.{RangedEntry}
 
 -- all rules of the newest minor but those on indexes: each reference is read as the one entry of a directory
@@ -25,15 +25,15 @@ pub record Sound {R : Type 0} (u : Entry R) : Type 0 where
   pub ranged : RangedEntry u
 
 -- at most 1,024 entries and 1,048,576 bytes, each entry sound, and no reference to a key that is not there
-pub record Encodable (us : List (Entry Key)) : Type 0 where
+pub record PlainEncodable (us : List (Entry Key)) : Type 0 where
   pub few : length us ≤ entryLimit
-  pub short : normalLength us ≤ fileLimit
+  pub short : plainLength us ≤ fileLimit
   pub each : All Sound us
   pub closed : Closed us
 
 -- and may be read back: they stand in the order of a directory, no key is there twice, and every parent chain ends
-pub record Readable (us : List (Entry Key)) : Type 0 where
-  pub encodable : Encodable us
+pub record PlainReadable (us : List (Entry Key)) : Type 0 where
+  pub encodable : PlainEncodable us
   pub order : InOrder (renumbered us)
   pub keys : UniqueKeys (renumbered us)
   pub chains : NoCycle (renumbered us)

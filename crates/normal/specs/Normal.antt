@@ -1,4 +1,4 @@
--- Document 01, "Normal form", of entries that stand in its order.
+-- Document 01, "Normal form", of entries that stand in its order: the plain form, which stores the name of every use.
 -- Assumes nothing.
 use mathlib.Core.List.{List, [], _∷_, _++_}
 use mathlib.Core.Option.{Option, none, some}
@@ -11,7 +11,7 @@ use Rattle.reader.specs.Values.{Descriptor, Entry, entry, Header, empty, Typeli
 use Rattle.reader.specs.Records.{magic}
 use Rattle.meaning.specs.Index.{keysOf, indexOf, renumbered}
 use Rattle.normal.specs.BigEndian.{bytesOf}
-use Rattle.normal.specs.Size.{descriptorSize, spaceSize, entrySize, normalLength}
+use Rattle.normal.specs.Size.{descriptorSize, spaceSize, entrySize, plainLength}
 use Rattle.normal.specs.Record.{nameAfter, descriptorBytes, nameBytes, namesBytes}
 use Rattle.normal.specs.Minor.{minorOf}
 
@@ -88,13 +88,13 @@ headerBytes h len =
 unfoldable pub noteBytes : List ℕ
 noteBytes = 0x80 ∷ 0x00 ∷ 0x00 ∷ 0x00 ∷ []
 
--- the file of these entries, where f gives the index of a reference
-unfoldable pub fileBytes : {R : Type 0} → (R → ℕ) → List (Entry R) → List ℕ
-fileBytes f us = headerBytes (normalHeader us) (normalLength us) ++ noteBytes ++ directoryBytes 1 us ++ poolBytes f 1 us
+-- the plain file of these entries, where f gives the index of a reference
+unfoldable pub plainBytes : {R : Type 0} → (R → ℕ) → List (Entry R) → List ℕ
+plainBytes f us = headerBytes (normalHeader us) (plainLength us) ++ noteBytes ++ directoryBytes 1 us ++ poolBytes f 1 us
 
 -- references are written as indexes of its own directory
-unfoldable pub normalForm : List (Entry Key) → List ℕ
-normalForm us = fileBytes (indexOf (keysOf us)) us
+unfoldable pub plainForm : List (Entry Key) → List ℕ
+plainForm us = plainBytes (indexOf (keysOf us)) us
 
 -- what it shows
 unfoldable pub normalTypelib : List (Entry Key) → Typelib

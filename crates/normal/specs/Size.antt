@@ -1,4 +1,4 @@
--- How many bytes a record takes in the normal form, whatever its references.
+-- How many bytes a record takes in a normal form, whatever its references.
 -- Assumes nothing.
 use mathlib.Core.List.{List, [], _∷_}
 use mathlib.Core.Option.{Option, none, some}
@@ -78,6 +78,6 @@ entrySize (entry (key v w) i d) = nameSize w + spaceSize v + ownSize d
 unfoldable pub entryLength : {R : Type 0} → Entry R → ℕ
 entryLength u = entryWidth + entrySize u
 
--- of the normal form of these entries
-unfoldable pub normalLength : {R : Type 0} → List (Entry R) → ℕ
-normalLength us = 36 + sum entryLength us
+-- of the plain form of these entries
+unfoldable pub plainLength : {R : Type 0} → List (Entry R) → ℕ
+plainLength us = 36 + sum entryLength us

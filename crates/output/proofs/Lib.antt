@@ -1,7 +1,5 @@
 pub mod Areas
-pub mod Owns
-pub mod Rows
-pub mod Minors
-pub mod Entries
-pub mod Turns
-pub mod Unions
+pub mod Givens
+pub mod Lengths
+pub mod Tables
+pub mod Files

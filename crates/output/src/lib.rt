@@ -1,14 +1,18 @@
-// The normal form of the entries that tables tell of the rows of two files: its length and its bytes.
-// Where there are two files, a and b, each has its pool and its layout behind it.
-ghost use mathlib.Core.Path.{_≡_};
-
+// The normal form of the entries that tables tell of the rows of two files, each name once: its tables, its length and its bytes.
 pub mod file;
-mod keys;
-mod minor;
-mod own;
+pub mod leads;
+mod measure;
 
-fn index(x: u16) -> usize
-    ensures { λ r. ⌜ r ≡ x ⌝ }
-{
-    x as usize
+// How many uses of names there are, and the length of the file.
+pub struct Measured {
+    pub uses: usize,
+    pub size: usize,
+}
+
+pub enum Stored {
+    // Longer than a file may be.
+    Long,
+    // Longer than the buffer: so many bytes.
+    Short(usize),
+    Done(usize),
 }

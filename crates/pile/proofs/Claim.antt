@@ -18,8 +18,8 @@ use Rattle.facts.specs.Link.{joined, normalEntries}
 use Rattle.facts.proofs.Said.{within-sub, within-through}
 use Rattle.facts.proofs.Algebra.{union-says, union-again, normal-exactly}
 use Rattle.facts.proofs.Links.{not-over}
-use Rattle.normal.specs.Size.{normalLength}
-use Rattle.normal.proofs.Lengths.{length-normal}
+use Rattle.stock.specs.Uses.{normalLength}
+use Rattle.stock.proofs.Lengths.{length-normal}
 use Rattle.keyed.specs.Stays.{Stays}
 use Rattle.keyed.proofs.Stays.{file-stays}
 use Rattle.joining.specs.Outcome.{written, refusal, encoded}

@@ -12,7 +12,7 @@ use Rattle.reading.specs.declared.Verdict.the-variants as verdict
 use Rattle.reader.specs.Reader.{decode, checkOf}
 use Rattle.reader.specs.Reader.Laws.{refused-decodes}
 use Rattle.reader.specs.Reader.Marked.{P1}
-use Rattle.normal.proofs.Examples.{marked}
+use Rattle.stock.proofs.Examples.{marked}
 use Rattle.joining.specs.Outcome.{Outcome, refused, written, refusal, inRoom, after}
 use Rattle.link.specs.declared.Which.the-variants.{First, Union}
 use Rattle.link.specs.declared.LinkRefusal.{LinkRefusal}

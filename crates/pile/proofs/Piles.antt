@@ -24,12 +24,14 @@ use Rattle.facts.proofs.Unions.{union-ext}
 use Rattle.facts.proofs.Agrees.{agree-sound}
 use Rattle.facts.proofs.Groups.{fine-within}
 use Rattle.facts.proofs.Algebra.{Closed, closed-valid, closed-both, union-says, joined-exactly}
-use Rattle.normal.specs.Size.{sum, normalLength}
-use Rattle.normal.specs.Normal.{normalForm}
+use Rattle.normal.specs.Size.{sum}
 use Rattle.normal.specs.Encodable as normal
+use Rattle.stock.specs.Uses.{wordsOf, storedSize, stockSize, normalLength}
+use Rattle.stock.specs.Form.{normalForm}
+use Rattle.stock.proofs.Grows.{normal-grows}
 use Rattle.link.specs.Demand.{Means, Buffer, leftBy}
 use Rattle.link.proofs.Files.{accepted-valid, accepted-sound, form-means}
-use Rattle.link.proofs.Unions.{valid-readable, fine-readable, valid-fine, sound-both, grows}
+use Rattle.link.proofs.Unions.{valid-readable, fine-readable, valid-fine, sound-both}
 use Rattle.link.proofs.Answers.{formOf, left-by}
 use Rattle.pile.specs.declared.Added.the-variants.{Grown, Refused, Full}
 use Rattle.pile.specs.Pile.{pileLimit, emptyFile, noFiles, Turn, turn, added, ended, onward, addAll, piled, heldBy, leftOf, pile}
@@ -40,7 +42,7 @@ use Rattle.pile.proofs.Turns.{Stands, added-stands, next-links, first-t
 
 module _ (es fs : List (Entry Key)) (w : Within es fs) (v : Within fs es) where
   pub fine-same : Fine normalLength fs → Fine normalLength es
-  fine-same f = fine-within normalLength grows es fs w f
+  fine-same f = fine-within normalLength normal-grows es fs w f
 
   pub union-same : Fine normalLength fs → union es ≡ union fs
   union-same f = let s = agree-sound fs (f .agree) in union-ext es fs w v (s .iids) (s .descriptors)
@@ -137,7 +139,7 @@ module _ (f : List ℕ) (A : List (Entry Key)) (n : Means f A) where
       rw (x .2) (link-ended (heldBy p one other) E (g .says (heldBy p one other) refl) f A n (x .0) (x .1))
   next-ended k (turn (Refused y) one other) E s l h g = record {
     reached = λ b e. not-some e;
-    reaches = λ i. not-some (g .going (fine-within normalLength grows E (E ++ A) (within-sub E (E ++ A) (λ e j. in-left e E A j)) i) .1);
+    reaches = λ i. not-some (g .going (fine-within normalLength normal-grows E (E ++ A) (within-sub E (E ++ A) (λ e j. in-left e E A j)) i) .1);
   }
   next-ended k (turn Full one other) E s l h g = absurd s
 
@@ -176,11 +178,11 @@ unfolding union sort
 none-union = refl
 
 none-means : Means emptyFile []
-unfolding normalLength sum
+unfolding normalLength sum wordsOf stockSize storedSize
 none-means = form-means [] (valid-readable [] none-valid tt none-union (omega arith))
 
 none-fine : Fine normalLength []
-unfolding normalLength sum
+unfolding normalLength sum wordsOf stockSize storedSize
 none-fine = valid-fine [] none-valid (λ h. omega (arith, h, ap normalLength none-union))
 
 -- ---- the whole pile

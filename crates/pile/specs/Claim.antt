@@ -15,8 +15,8 @@ use Rattle.reader.specs.Reader.{decode}
 use Rattle.facts.specs.Facts.{In, Sub}
 use Rattle.facts.specs.Union.{union}
 use Rattle.facts.specs.Conditions.{Fine}
-use Rattle.normal.specs.Size.{normalLength}
-use Rattle.normal.specs.Normal.{normalForm}
+use Rattle.stock.specs.Uses.{normalLength}
+use Rattle.stock.specs.Form.{normalForm}
 use Rattle.keyed.specs.Stays.{Stays}
 use Rattle.link.specs.declared.Linked.{Linked}
 use Rattle.link.specs.declared.Linked.the-variants as linked

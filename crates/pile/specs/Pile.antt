@@ -8,7 +8,7 @@ use Rattle.number.specs.Choice.{if_then_else_, _<?_, _≤?_, _=?_}
 use Rattle.reading.specs.Got.{Got, got, bad}
 use Rattle.reader.specs.Values.{Typelib}
 use Rattle.reader.specs.Reader.{decode}
-use Rattle.normal.specs.Normal.{normalForm}
+use Rattle.stock.specs.Form.{normalForm}
 use Rattle.joining.specs.Outcome.{Outcome, refused, written, inRoom, after}
 use Rattle.link.specs.declared.Which.the-variants.{First, Union}
 use Rattle.link.specs.declared.LinkRefusal.{LinkRefusal}

@@ -16,7 +16,7 @@ use Rattle.reader.specs.Records.{Bytes}
 use Rattle.reader.specs.Reader.{decode}
 use Rattle.meaning.specs.Meaning.{meaning}
 use Rattle.facts.specs.Link.{normalEntries}
-use Rattle.normal.specs.Size.{normalLength}
+use Rattle.stock.specs.Uses.{normalLength}
 use Rattle.joining.specs.Outcome.{Outcome, refused, written, refusal, encoded, inRoom}
 use Rattle.link.specs.Outcome.{normalOf, normaliseIn}
 use Rattle.link.specs.Demand.{Means}

@@ -13,7 +13,7 @@ use Rattle.reading.specs.declared.Refusal.{Refusal}
 use Rattle.reader.specs.Values.{entriesIn}
 use Rattle.meaning.specs.Meaning.{meaning}
 use Rattle.facts.specs.Link.{normalEntries}
-use Rattle.normal.specs.Size.{normalLength}
+use Rattle.stock.specs.Uses.{normalLength}
 use Rattle.joining.specs.Outcome.{Outcome, refused, written, refusal, encoded, inRoom, after}
 use Rattle.mend.specs.Left.{Report, indexOf, numberOf, placeOf, Left, left, readLeft}
 use Rattle.salvage.specs.declared.Salvaged.{Salvaged}

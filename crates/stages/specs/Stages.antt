@@ -12,7 +12,7 @@ use Rattle.reader.specs.Records.{ShowsOwn}
 use Rattle.meaning.specs.Meaning.{meaning}
 use Rattle.facts.specs.Link as facts
 use Rattle.facts.specs.Link.{linkEntries}
-use Rattle.normal.specs.Size.{normalLength}
+use Rattle.stock.specs.Uses.{normalLength}
 use Rattle.rows.specs.Rows.{keyOfRow, iidOfRow, descriptorOfRow, aboveRow}
 use Rattle.iids.specs.Joined.{holder, held, joined, twoNumbers, sharedNumber}
 use Rattle.tables.specs.Chains.{endlessRow, upFirst}

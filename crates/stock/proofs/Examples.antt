@@ -20,14 +20,14 @@ use Rattle.normal.specs.Record.{run, typeBytes, paramBytes, methodBytes, consta
 use Rattle.normal.specs.Minor.{prefixesOf, paramsOf, newTag, newPrefix, newType, newParam, newMethod, newDescriptor, newOwn, newEntry, minorOf}
 use Rattle.normal.specs.Normal.{spacePointer, ownPointer, normalHeader, headerBytes, noteBytes}
 use Rattle.normal.proofs.Examples.{tank, withConstant}
-use Rattle.stock.specs.Uses.{namesOf, ownWords, spaceWords, keyWords, entryWords, wordsOf, firstUse, atFirst, keptSize, storedSize, stockSize, ownBody, bodyLength, onceLength}
+use Rattle.stock.specs.Uses.{namesOf, ownWords, spaceWords, keyWords, entryWords, wordsOf, firstUse, atFirst, keptSize, storedSize, stockSize, ownBody, bodyLength, normalLength}
 use Rattle.stock.specs.Pool.{ownPieces, entryPieces, piecesOf, wordsIn, poolSize, offset, onceAt}
-use Rattle.stock.specs.Form.{runFrom, methodsWith, constantsWith, descriptorWith, keptBytes, poolWith, ownAfter, entryWith, directoryWith, lengthWith, fileWith, onceForm}
+use Rattle.stock.specs.Form.{runFrom, methodsWith, constantsWith, descriptorWith, keptBytes, poolWith, ownAfter, entryWith, directoryWith, lengthWith, fileWith, normalForm}
 
 -- ---- the marked cases: no name is used twice
 
-pub marked : (onceForm [] ≡ P1) × (onceForm (tank ∷ []) ≡ P2) × (onceForm (withConstant ∷ []) ≡ P3)
-unfolding P1 P2 P3 tank withConstant if_then_else_ _<?_ _=?_ scan isSame compareWords thenBy compareKeys sameKey sameAs firstSame keysOf indexOf bytesOf sum valueWidth constantSize descriptorSize nameSize constantBytes parentNumber nameBytes constantName anyOf entryDescriptor methodsOf newDescriptor newOwn newEntry minorOf spacePointer ownPointer normalHeader headerBytes noteBytes namesOf ownWords spaceWords keyWords entryWords wordsOf firstUse atFirst keptSize storedSize ownPieces entryPieces piecesOf wordsIn poolSize offset onceAt runFrom methodsWith constantsWith descriptorWith keptBytes poolWith ownAfter entryWith directoryWith lengthWith fileWith onceForm
+pub marked : (normalForm [] ≡ P1) × (normalForm (tank ∷ []) ≡ P2) × (normalForm (withConstant ∷ []) ≡ P3)
+unfolding P1 P2 P3 tank withConstant if_then_else_ _<?_ _=?_ scan isSame compareWords thenBy compareKeys sameKey sameAs firstSame keysOf indexOf bytesOf sum valueWidth constantSize descriptorSize nameSize constantBytes parentNumber nameBytes constantName anyOf entryDescriptor methodsOf newDescriptor newOwn newEntry minorOf spacePointer ownPointer normalHeader headerBytes noteBytes namesOf ownWords spaceWords keyWords entryWords wordsOf firstUse atFirst keptSize storedSize ownPieces entryPieces piecesOf wordsIn poolSize offset onceAt runFrom methodsWith constantsWith descriptorWith keptBytes poolWith ownAfter entryWith directoryWith lengthWith fileWith normalForm
 marked = (refl, refl, refl)
 
 -- ---- names used several times
@@ -73,7 +73,7 @@ pub record Row : Type 0 where
   pub pointers : List ℕ
 
 pub rowOf : List (Entry Key) → Row
-rowOf us = record { long = onceLength us; pointers = pointersFrom (onceAt (piecesOf us)) 0 (wordsOf us) }
+rowOf us = record { long = normalLength us; pointers = pointersFrom (onceAt (piecesOf us)) 0 (wordsOf us) }
 
 pub table : map rowOf (oneName ∷ keyFirst ∷ methodsFirst ∷ crossed ∷ []) ≡
     record { long = 88; pointers = 1 ∷ 1 ∷ 1 ∷ 1 ∷ [] }
@@ -81,11 +81,11 @@ pub table : map rowOf (oneName ∷ keyFirst ∷ methodsFirst ∷ crossed ∷ [])
     ∷ record { long = 133; pointers = 1 ∷ 34 ∷ 34 ∷ 38 ∷ 34 ∷ 38 ∷ [] }
     ∷ record { long = 96; pointers = 1 ∷ 3 ∷ 3 ∷ 1 ∷ [] }
     ∷ []
-unfolding plainMethod oneName foo bar withMethods keyFirst methodsFirst crossed pointersFrom rowOf if_then_else_ _<?_ _=?_ scan isSame compareWords thenBy compareKeys sameKey sameAs firstSame sum typeSize paramSize methodSize valueWidth constantSize descriptorSize nameSize methodName constantName namesOf ownWords spaceWords keyWords entryWords wordsOf firstUse atFirst keptSize storedSize stockSize ownBody bodyLength onceLength ownPieces entryPieces piecesOf wordsIn offset onceAt
+unfolding plainMethod oneName foo bar withMethods keyFirst methodsFirst crossed pointersFrom rowOf if_then_else_ _<?_ _=?_ scan isSame compareWords thenBy compareKeys sameKey sameAs firstSame sum typeSize paramSize methodSize valueWidth constantSize descriptorSize nameSize methodName constantName namesOf ownWords spaceWords keyWords entryWords wordsOf firstUse atFirst keptSize storedSize stockSize ownBody bodyLength normalLength ownPieces entryPieces piecesOf wordsIn offset onceAt
 table = refl
 
 -- all bytes of the first
-pub bytes : onceForm oneName ≡ magic ++ (
+pub bytes : normalForm oneName ≡ magic ++ (
     0x01 ∷ 0x01 ∷ 0x00 ∷ 0x01 ∷ 0x00 ∷ 0x00 ∷ 0x00 ∷ 0x58 ∷ 0x00 ∷ 0x00 ∷ 0x00 ∷ 0x24 ∷ 0x00 ∷ 0x00 ∷ 0x00 ∷ 0x40
     ∷ 0x80 ∷ 0x00 ∷ 0x00 ∷ 0x00
     ∷ 0x00 ∷ 0x00 ∷ 0x00 ∷ 0x00 ∷ 0x00 ∷ 0x00 ∷ 0x00 ∷ 0x00 ∷ 0x00 ∷ 0x00 ∷ 0x00 ∷ 0x00 ∷ 0x00 ∷ 0x00 ∷ 0x00 ∷ 0x01
@@ -93,5 +93,5 @@ pub bytes : onceForm oneName ≡ magic ++ (
     ∷ 0x41 ∷ 0x00
     ∷ 0x00 ∷ 0x00 ∷ 0x00 ∷ 0x01 ∷ 0x00 ∷ 0x00 ∷ 0x00 ∷ 0x00 ∷ 0x01 ∷ 0x00 ∷ 0x00 ∷ 0x06
     ∷ 0x00 ∷ 0x01 ∷ 0x00 ∷ 0x00 ∷ 0x00 ∷ 0x01 ∷ 0x01 ∷ 0x00 ∷ 0x05 ∷ 0x80 ∷ [])
-unfolding plainMethod oneName if_then_else_ _<?_ _≤?_ _=?_ scan isSame compareWords thenBy compareKeys sameKey sameAs firstSame keysOf indexOf bytesOf sum typeSize paramSize methodSize valueWidth constantSize descriptorSize nameSize run typeBytes paramBytes methodBytes constantBytes parentNumber nameBytes methodName constantName paramType anyOf entryDescriptor methodsOf prefixesOf paramsOf newTag newPrefix newType newParam newMethod newDescriptor newOwn newEntry minorOf spacePointer ownPointer normalHeader headerBytes noteBytes namesOf ownWords spaceWords keyWords entryWords wordsOf firstUse atFirst keptSize storedSize ownPieces entryPieces piecesOf wordsIn poolSize offset onceAt runFrom methodsWith constantsWith descriptorWith keptBytes poolWith ownAfter entryWith directoryWith lengthWith fileWith onceForm
+unfolding plainMethod oneName if_then_else_ _<?_ _≤?_ _=?_ scan isSame compareWords thenBy compareKeys sameKey sameAs firstSame keysOf indexOf bytesOf sum typeSize paramSize methodSize valueWidth constantSize descriptorSize nameSize run typeBytes paramBytes methodBytes constantBytes parentNumber nameBytes methodName constantName paramType anyOf entryDescriptor methodsOf prefixesOf paramsOf newTag newPrefix newType newParam newMethod newDescriptor newOwn newEntry minorOf spacePointer ownPointer normalHeader headerBytes noteBytes namesOf ownWords spaceWords keyWords entryWords wordsOf firstUse atFirst keptSize storedSize ownPieces entryPieces piecesOf wordsIn poolSize offset onceAt runFrom methodsWith constantsWith descriptorWith keptBytes poolWith ownAfter entryWith directoryWith lengthWith fileWith normalForm
 bytes = refl

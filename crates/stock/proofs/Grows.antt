@@ -1,4 +1,4 @@
--- The length of a form that stores each name once: never longer than the form that stores each use, and never less when facts are added.
+-- The length of the normal form: never more than that of the plain form, and never less when facts are added.
 -- Assumes nothing.
 use mathlib.Core.Path.{_≡_, refl}
 use mathlib.Core.Logic.{inl, inr}
@@ -16,8 +16,8 @@ use Rattle.facts.proofs.Sets.{in-left, in-right, in-append, weigh}
 use Rattle.facts.proofs.Unions.{descriptor-more, made, made-for}
 use Rattle.facts.proofs.Agrees.{agree-sound}
 use Rattle.facts.proofs.Algebra.{Rises, sum-grows}
-use Rattle.normal.specs.Size.{sum, nameSize, methodNameSize, constantNameSize, namesSize, spaceSize, ownSize, entrySize, entryLength, normalLength}
-use Rattle.stock.specs.Uses.{namesOf, ownWords, spaceWords, keyWords, entryWords, wordsOf, ownBody, bodyLength, onceLength}
+use Rattle.normal.specs.Size.{sum, nameSize, methodNameSize, constantNameSize, namesSize, spaceSize, ownSize, entrySize, entryLength, plainLength}
+use Rattle.stock.specs.Uses.{namesOf, ownWords, spaceWords, keyWords, entryWords, wordsOf, ownBody, bodyLength, normalLength}
 use Rattle.stock.proofs.Stock.{stock-grows, stock-shorter}
 
 -- ---- never longer
@@ -52,8 +52,8 @@ module _ {R : Type 0} where
   words-weigh [] = refl
   words-weigh (u ∷ us) = omega (arith, weigh-append (entryWords u) (wordsOf us), entry-weighs u, words-weigh us)
 
-  pub once-shorter : (us : List (Entry R)) → onceLength us ≤ normalLength us
-  unfolding onceLength normalLength
+  pub once-shorter : (us : List (Entry R)) → normalLength us ≤ plainLength us
+  unfolding normalLength plainLength
   once-shorter us = omega (arith, words-weigh us, stock-shorter (wordsOf us))
 
 -- ---- which words are used
@@ -106,6 +106,6 @@ sum-weighs (e ∷ es) = omega (arith, sum-weighs es)
 bodies-grow : Grows (λ us. sum bodyLength us)
 bodies-grow = sum-grows (λ us. sum bodyLength us) 0 bodyLength rises (λ es. omega (arith, sum-weighs (union es)))
 
-pub once-grows : Grows onceLength
-unfolding onceLength
-once-grows es fs v a b = omega (arith, bodies-grow es fs v a b, stock-grows (wordsOf (union es)) (wordsOf (union fs)) (words-more es fs v b))
+pub normal-grows : Grows normalLength
+unfolding normalLength
+normal-grows es fs v a b = omega (arith, bodies-grow es fs v a b, stock-grows (wordsOf (union es)) (wordsOf (union fs)) (words-more es fs v b))

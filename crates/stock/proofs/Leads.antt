@@ -22,21 +22,21 @@ use Rattle.stock.proofs.Pools.{words-pieces, kept-size, kept-bytes}
 use Rattle.stock.proofs.Lengths.{length-kept, length-descriptor}
 
 -- from its pool pointer on, the pool s has the bytes of the word and a zero byte; u is the first use
-abbrev pub Led : List ℕ → (ℕ → ℕ) → ℕ → List (List ℕ) → Type 0
-Led s at u [] = Unit {0}
-Led s at u (w ∷ ws) = (1 ≤ at u) × From s (at u - 1) (nameBytes w) × Led s at (u + 1) ws
+abbrev pub LeadsAll : List ℕ → (ℕ → ℕ) → ℕ → List (List ℕ) → Type 0
+LeadsAll s at u [] = Unit {0}
+LeadsAll s at u (w ∷ ws) = (1 ≤ at u) × From s (at u - 1) (nameBytes w) × LeadsAll s at (u + 1) ws
 
 module _ (s : List ℕ) (at : ℕ → ℕ) where
-  pub led-at : (u v : ℕ) (ws : List (List ℕ)) → u ≡ v → Led s at u ws → Led s at v ws
+  pub led-at : (u v : ℕ) (ws : List (List ℕ)) → u ≡ v → LeadsAll s at u ws → LeadsAll s at v ws
   led-at u v ws e h = rw (← e) h
 
-  pub led-append : (u : ℕ) (vs ws : List (List ℕ)) → Led s at u (vs ++ ws) → Led s at u vs × Led s at (u + length vs) ws
+  pub led-append : (u : ℕ) (vs ws : List (List ℕ)) → LeadsAll s at u (vs ++ ws) → LeadsAll s at u vs × LeadsAll s at (u + length vs) ws
   led-append u [] ws h = (tt, led-at u (u + 0) ws (omega arith) h)
   led-append u (v ∷ vs) ws h =
       let r = led-append (u + 1) vs ws (h .2) in
       ((h .0, h .1, r .0), led-at (u + 1 + length vs) (u + length (v ∷ vs)) ws (omega arith) (r .1))
 
-  led-all : (u : ℕ) (ws : List (List ℕ)) → ((k : ℕ) → k < length ws → (1 ≤ at (u + k)) × From s (at (u + k) - 1) (nameBytes (getD ws k []))) → Led s at u ws
+  led-all : (u : ℕ) (ws : List (List ℕ)) → ((k : ℕ) → k < length ws → (1 ≤ at (u + k)) × From s (at (u + k) - 1) (nameBytes (getD ws k []))) → LeadsAll s at u ws
   led-all u [] h = tt
   led-all u (w ∷ ws) h =
       let z : u + 0 ≡ u = omega arith in
@@ -101,7 +101,7 @@ module _ {R : Type 0} (ps : List (Piece R)) where
   abbrev W : List (List ℕ)
   W = wordsIn ps
 
-  pub once-led : (f : R → ℕ) (at : ℕ → ℕ) (s : List ℕ) → From s 0 (poolWith f at (atFirst W) 0 ps) → Led s (onceAt ps) 0 W
+  pub once-led : (f : R → ℕ) (at : ℕ → ℕ) (s : List ℕ) → From s 0 (poolWith f at (atFirst W) 0 ps) → LeadsAll s (onceAt ps) 0 W
   unfolding onceAt
   once-led f at s h = led-all s (onceAt ps) 0 W (λ u l.
       let e : 0 + u ≡ u = omega arith in

@@ -14,10 +14,10 @@ use Rattle.normal.specs.Size.{sum, methodSize, constantSize, descriptorSize, na
 use Rattle.normal.specs.Record.{methodBytes, constantBytes, parentNumber, nameBytes}
 use Rattle.normal.specs.Normal.{spacePointer, ownPointer, normalHeader, noteBytes}
 use Rattle.normal.proofs.Lengths.{length-bytes, length-name, length-method, length-constant, length-header}
-use Rattle.stock.specs.Uses.{entryWords, wordsOf, atFirst, keptSize, onceLength}
+use Rattle.stock.specs.Uses.{entryWords, wordsOf, atFirst, keptSize, normalLength}
 use Rattle.stock.specs.Pool.{Piece, word, body, entryPieces, piecesOf, poolSize, onceAt}
-use Rattle.stock.specs.Form.{runFrom, methodsWith, constantsWith, descriptorWith, keptBytes, poolWith, ownAfter, entryWith, directoryWith, lengthWith, fileWith, onceForm}
-use Rattle.stock.proofs.Pools.{once-length}
+use Rattle.stock.specs.Form.{runFrom, methodsWith, constantsWith, descriptorWith, keptBytes, poolWith, ownAfter, entryWith, directoryWith, lengthWith, fileWith, normalForm}
+use Rattle.stock.proofs.Pools.{normal-length}
 
 length-from : {X : Type 0} (one : ℕ → X → List ℕ) (size : X → ℕ) → ((u : ℕ) (x : X) → length (one u x) ≡ size x) → (u : ℕ) (xs : List X) → length (runFrom one u xs) ≡ sum size xs
 unfolding runFrom sum
@@ -72,6 +72,6 @@ module _ {R : Type 0} (at : ℕ → ℕ) (kept : ℕ → Bool) where
       simp length-append (omega (arith, length-header (normalHeader us) (36 + 28 * length us + poolSize kept 0 (piecesOf us)), length-directory 0 1 us, length-pool f at kept 0 (piecesOf us)))
 
 -- 26 and 27 count the bytes that are written
-pub length-once : (us : List (Entry Key)) → length (onceForm us) ≡ onceLength us
-unfolding onceForm
-length-once us = length-file (onceAt (piecesOf us)) (atFirst (wordsOf us)) (indexOf (keysOf us)) us ∙ once-length us
+pub length-normal : (us : List (Entry Key)) → length (normalForm us) ≡ normalLength us
+unfolding normalForm
+length-normal us = length-file (onceAt (piecesOf us)) (atFirst (wordsOf us)) (indexOf (keysOf us)) us ∙ normal-length us

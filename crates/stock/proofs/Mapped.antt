@@ -17,10 +17,10 @@ use Rattle.normal.specs.Size.{descriptorSize}
 use Rattle.normal.specs.Record.{methodBytes}
 use Rattle.normal.specs.Normal.{spacePointer, headerBytes, noteBytes}
 use Rattle.normal.proofs.Mapped.{name-mapped, descriptor-size, method-bytes, parent-number, own-pointer, header-mapped}
-use Rattle.stock.specs.Uses.{namesOf, keyWords, entryWords, wordsOf, firstUse, atFirst, keptSize}
+use Rattle.stock.specs.Uses.{namesOf, keyWords, entryWords, wordsOf, firstUse, atFirst, keptSize, normalLength}
 use Rattle.stock.specs.Pool.{Piece, word, body, ownPieces, entryPieces, piecesOf, wordsIn, poolSize, offset, onceAt}
-use Rattle.stock.specs.Form.{runFrom, methodsWith, constantsWith, descriptorWith, keptBytes, poolWith, ownAfter, entryWith, directoryWith, lengthWith, fileWith, onceForm}
-use Rattle.stock.proofs.Pools.{entry-words, words-pieces}
+use Rattle.stock.specs.Form.{runFrom, methodsWith, constantsWith, descriptorWith, keptBytes, poolWith, ownAfter, entryWith, directoryWith, lengthWith, fileWith, fileBytes, normalForm}
+use Rattle.stock.proofs.Pools.{entry-words, words-pieces, normal-length}
 
 module _ {R S : Type 0} (g : R → S) where
   mapPiece : Piece R → Piece S
@@ -89,8 +89,13 @@ module _ {R S : Type 0} (g : R → S) where
   unfolding onceAt
   once-at ps = λ i u. (ap (λ (ws : List (List ℕ)). 1 + offset (atFirst ws) 0 0 (map mapPiece ps) (firstUse ws u)) (words-in ps) ∙ ap (λ (n : ℕ). 1 + n) (offset-mapped (atFirst (wordsIn ps)) 0 0 ps (firstUse (wordsIn ps) u))) i
 
-  pub once-mapped : (us : List (Entry R)) → onceAt (piecesOf (map (mapEntry g) us)) ≡ onceAt (piecesOf us)
+  once-mapped : (us : List (Entry R)) → onceAt (piecesOf (map (mapEntry g) us)) ≡ onceAt (piecesOf us)
   once-mapped us = ap onceAt (pieces-mapped us) ∙ once-at (piecesOf us)
+
+  pub normal-mapped : (us : List (Entry R)) → normalLength (map (mapEntry g) us) ≡ normalLength us
+  normal-mapped us =
+      sym (normal-length (map (mapEntry g) us)) ∙ ap (λ (ws : List (List ℕ)). lengthWith (atFirst ws) (map (mapEntry g) us)) (words-mapped us)
+      ∙ length-mapped (atFirst (wordsOf us)) us ∙ normal-length us
 
 -- ---- bytes
 
@@ -103,7 +108,7 @@ module _ {R S : Type 0} (f : S → ℕ) (g : R → S) (at : ℕ → ℕ) where
   abbrev after : R → ℕ
   after r = f (g r)
 
-  descriptor-mapped : (u : ℕ) (d : Descriptor R) → descriptorWith f at u (mapDescriptor g d) ≡ descriptorWith after at u d
+  pub descriptor-mapped : (u : ℕ) (d : Descriptor R) → descriptorWith f at u (mapDescriptor g d) ≡ descriptorWith after at u d
   unfolding descriptorWith methodsWith mapDescriptor
   descriptor-mapped u (descriptor up ms ks h) = λ i.
       bytesOf 2 (parent-number f g up i)
@@ -134,17 +139,19 @@ module _ {R S : Type 0} (g : R → S) (at : ℕ → ℕ) (kept : ℕ → Bool) w
       = (λ i. directoryWith at kept (u + length (v i)) (q + z i) (map (mapEntry g) us)) ∙ directory-mapped (u + length (entryWords e)) (q + poolSize kept u (entryPieces e)) us in
       λ i. row-mapped u q e i ++ a i
 
-file-mapped : {R S : Type 0} (f : S → ℕ) (g : R → S) (at : ℕ → ℕ) (kept : ℕ → Bool) (us : List (Entry R)) → fileWith f at kept (map (mapEntry g) us) ≡ fileWith (λ r. f (g r)) at kept us
+with-mapped : {R S : Type 0} (f : S → ℕ) (g : R → S) (at : ℕ → ℕ) (kept : ℕ → Bool) (us : List (Entry R)) → fileWith f at kept (map (mapEntry g) us) ≡ fileWith (λ r. f (g r)) at kept us
 unfolding fileWith
-file-mapped f g at kept us =
+with-mapped f g at kept us =
     let a = ap (poolWith f at kept 0) (pieces-mapped g us) ∙ pool-mapped f g at kept 0 (piecesOf us) in
     λ i. headerBytes (header-mapped g us i) (length-mapped g kept us i) ++ noteBytes ++ directory-mapped g at kept 0 1 us i ++ a i
 
--- the form is the file of the entries numbered anew
-pub once-file : (us : List (Entry Key)) → onceForm us ≡ fileWith itself (onceAt (piecesOf (renumbered us))) (atFirst (wordsOf (renumbered us))) (renumbered us)
-unfolding onceForm renumbered
-once-file us =
-    let ix = indexOf (keysOf us) in
-    let a = once-mapped ix us in
-    let w = words-mapped ix us in
-    sym ((λ i. fileWith itself (a i) (atFirst (w i)) (map (mapEntry ix) us)) ∙ file-mapped itself ix (onceAt (piecesOf us)) (atFirst (wordsOf us)) us)
+pub file-mapped : {R S : Type 0} (f : S → ℕ) (g : R → S) (us : List (Entry R)) → fileBytes f (map (mapEntry g) us) ≡ fileBytes (λ r. f (g r)) us
+file-mapped f g us =
+    let a = once-mapped g us in
+    let w = words-mapped g us in
+    (λ i. fileWith f (a i) (atFirst (w i)) (map (mapEntry g) us)) ∙ with-mapped f g (onceAt (piecesOf us)) (atFirst (wordsOf us)) us
+
+-- the normal form is the file of the entries numbered anew
+pub normal-file : (us : List (Entry Key)) → normalForm us ≡ fileBytes itself (renumbered us)
+unfolding normalForm renumbered
+normal-file us = sym (file-mapped itself (indexOf (keysOf us)) us)

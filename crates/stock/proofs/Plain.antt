@@ -1,4 +1,4 @@
--- The form that stores the name of every use is document 01's normal form.
+-- A file that stores the name of every use is document 01's plain form.
 -- Assumes nothing.
 use mathlib.Core.Path.{_≡_, refl, sym, ap, _∙_}
 use mathlib.Core.List.{List, [], _∷_, _++_, map, map-append, append-nil}
@@ -13,11 +13,11 @@ use Rattle.meaning.specs.Index.{keysOf, indexOf}
 use Rattle.normal.specs.BigEndian.{bytesOf}
 use Rattle.normal.specs.Size.{descriptorSize, nameSize, methodNameSize, entrySize, entryLength}
 use Rattle.normal.specs.Record.{run, methodBytes, nameAfter, methodsBytes, constantBytes, constantsBytes, parentNumber, constantsFrom, descriptorBytes, nameBytes, methodNameBytes, constantNameBytes, namesBytes}
-use Rattle.normal.specs.Normal.{spaceFrom, ownFrom, namesFrom, spaceBytes, ownBytes, entryPool, poolBytes, spacePointer, ownPointer, entryBytes, directoryBytes, normalHeader, headerBytes, noteBytes, fileBytes, normalForm}
+use Rattle.normal.specs.Normal.{spaceFrom, ownFrom, namesFrom, spaceBytes, ownBytes, entryPool, poolBytes, spacePointer, ownPointer, entryBytes, directoryBytes, normalHeader, headerBytes, noteBytes, plainBytes, plainForm}
 use Rattle.normal.proofs.Appends.{run-append}
 use Rattle.stock.specs.Uses.{namesOf, spaceWords, keyWords, entryWords, always, keptSize, storedSize}
 use Rattle.stock.specs.Pool.{Piece, word, body, ownPieces, entryPieces, piecesOf, wordsIn, poolSize, offset, plainAt}
-use Rattle.stock.specs.Form.{runFrom, methodsWith, constantsWith, descriptorWith, keptBytes, poolWith, ownAfter, entryWith, directoryWith, fileWith, plainForm}
+use Rattle.stock.specs.Form.{runFrom, methodsWith, constantsWith, descriptorWith, keptBytes, poolWith, ownAfter, entryWith, directoryWith, fileWith}
 use Rattle.stock.proofs.Pools.{words-map, entry-words, size-words, entry-size, pool-append, kept-bytes, always-size, always-stored, plain-length}
 use Rattle.stock.proofs.Grows.{weigh-names, space-weighs, entry-weighs}
 
@@ -183,8 +183,8 @@ module _ {R : Type 0} (at : ℕ → ℕ) where
 
 -- ---- the file
 
-pub plain-file : {R : Type 0} (f : R → ℕ) (us : List (Entry R)) → fileWith f (plainAt (piecesOf us)) always us ≡ fileBytes f us
-unfolding fileWith fileBytes
+pub plain-file : {R : Type 0} (f : R → ℕ) (us : List (Entry R)) → fileWith f (plainAt (piecesOf us)) always us ≡ plainBytes f us
+unfolding fileWith plainBytes
 plain-file f us =
     let h = plain-placed (piecesOf us) in
     let a = plain-length us in
@@ -192,6 +192,6 @@ plain-file f us =
     let c = pool-plain f (plainAt (piecesOf us)) 0 1 us h in
     λ i. headerBytes (normalHeader us) (a i) ++ noteBytes ++ b i ++ c i
 
-pub plain-same : (us : List (Entry Key)) → plainForm us ≡ normalForm us
-unfolding plainForm normalForm
+pub plain-same : (us : List (Entry Key)) → fileWith (indexOf (keysOf us)) (plainAt (piecesOf us)) always us ≡ plainForm us
+unfolding plainForm
 plain-same us = plain-file (indexOf (keysOf us)) us

@@ -10,9 +10,9 @@ use lib.ListN.{length}
 use Rattle.number.proofs.Choice.{is-true}
 use Rattle.reader.specs.Values.{Descriptor, Entry, entry}
 use Rattle.facts.proofs.Sets.{weigh}
-use Rattle.normal.specs.Size.{sum, descriptorSize, nameSize, normalLength}
+use Rattle.normal.specs.Size.{sum, descriptorSize, nameSize, plainLength}
 use Rattle.normal.specs.Record.{nameBytes}
-use Rattle.stock.specs.Uses.{namesOf, ownWords, keyWords, entryWords, wordsOf, always, atFirst, keptSize, storedSize, stockSize, ownBody, bodyLength, onceLength}
+use Rattle.stock.specs.Uses.{namesOf, ownWords, keyWords, entryWords, wordsOf, always, atFirst, keptSize, storedSize, stockSize, ownBody, bodyLength, normalLength}
 use Rattle.stock.specs.Pool.{Piece, word, body, ownPieces, entryPieces, piecesOf, wordsIn, poolSize}
 use Rattle.stock.specs.Form.{descriptorWith, keptBytes, poolWith, lengthWith}
 use Rattle.stock.proofs.Grows.{words-weigh}
@@ -123,12 +123,12 @@ always-stored u [] = refl
 always-stored u (w ∷ ws) = omega (arith, always-size u w, always-stored (u + 1) ws)
 
 module _ {R : Type 0} where
-  pub once-length : (us : List (Entry R)) → lengthWith (atFirst (wordsOf us)) us ≡ onceLength us
-  unfolding onceLength stockSize
-  once-length us = length-uses (atFirst (wordsOf us)) us
+  pub normal-length : (us : List (Entry R)) → lengthWith (atFirst (wordsOf us)) us ≡ normalLength us
+  unfolding normalLength stockSize
+  normal-length us = length-uses (atFirst (wordsOf us)) us
 
-  pub plain-length : (us : List (Entry R)) → lengthWith always us ≡ normalLength us
-  unfolding normalLength
+  pub plain-length : (us : List (Entry R)) → lengthWith always us ≡ plainLength us
+  unfolding plainLength
   plain-length us = omega (arith, length-uses always us, always-stored 0 (wordsOf us), words-weigh us)
 
 -- ---- bytes

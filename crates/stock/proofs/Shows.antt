@@ -28,14 +28,14 @@ use Rattle.stock.specs.Pool.{Piece, word, ownPieces, entryPieces, pieces
 use Rattle.stock.specs.Form.{runFrom, methodsWith, constantsWith, descriptorWith, poolWith, ownAfter, entryWith, directoryWith, lengthWith, fileWith}
 use Rattle.stock.proofs.Pools.{words-map, entry-words, size-words, pool-append}
 use Rattle.stock.proofs.Lengths.{length-methods, length-constants, length-pool, length-entry, length-directory, length-file}
-use Rattle.stock.proofs.Leads.{Led, led-at, led-append}
+use Rattle.stock.proofs.Leads.{LeadsAll, led-at, led-append}
 
 -- ---- descriptors
 
 module _ (s : List ℕ) (at : ℕ → ℕ) where
   run-led : {X : Type 0} (P : ℕ → X → ℕ → Type 0) (W : X → Type 0) (one : ℕ → X → List ℕ) (size : X → ℕ) (name : X → List ℕ) → ((u : ℕ) (x : X) → length (one u x) ≡ size x)
       → ((x : X) (u p e : ℕ) → W x → 1 ≤ at u → e ≡ p + size x → From s p (one u x) → From s (at u - 1) (nameBytes (name x)) → P p x e)
-      → (xs : List X) (u p e : ℕ) → All W xs → Led s at u (map name xs) → e ≡ p + sum size xs → From s p (runFrom one u xs) → Run P p xs e
+      → (xs : List X) (u p e : ℕ) → All W xs → LeadsAll s at u (map name xs) → e ≡ p + sum size xs → From s p (runFrom one u xs) → Run P p xs e
   unfolding runFrom sum
   run-led P W one size name long shows [] u p e a l q h = omega arith
   run-led P W one size name long shows (x ∷ xs) u p e a l q h =
@@ -46,7 +46,7 @@ module _ (s : List ℕ) (at : ℕ → ℕ) where
       )
 
   module _ (small : length s ≤ 1048576) (minor n : ℕ) (few : n ≤ 1024) where
-    descriptor-led : (d : Descriptor ℕ) (u p : ℕ) → Ranged d → DescriptorRule minor n d → Led s at u (namesOf d) → From s p (descriptorWith itself at u d) → ShowsDescriptor s p d (p + descriptorSize d)
+    descriptor-led : (d : Descriptor ℕ) (u p : ℕ) → Ranged d → DescriptorRule minor n d → LeadsAll s at u (namesOf d) → From s p (descriptorWith itself at u d) → ShowsDescriptor s p d (p + descriptorSize d)
     unfolding namesOf descriptorWith methodsWith constantsWith methodNameBytes constantNameBytes
     descriptor-led (descriptor up ms ks f) u p g r l h =
         let good = good-methods minor n up ms ks f g r in
@@ -61,7 +61,7 @@ module _ (s : List ℕ) (at : ℕ → ℕ) where
 
 -- ---- entries
 
-space-led : (pool : List ℕ) → length pool ≤ 1048576 → (at : ℕ → ℕ) (u : ℕ) (v : List ℕ) → Led pool at u (spaceWords v) → ShowsSpace pool (spacePointer (at u) v) v × (spacePointer (at u) v < 256 ^ 4)
+space-led : (pool : List ℕ) → length pool ≤ 1048576 → (at : ℕ → ℕ) (u : ℕ) (v : List ℕ) → LeadsAll pool at u (spaceWords v) → ShowsSpace pool (spacePointer (at u) v) v × (spacePointer (at u) v < 256 ^ 4)
 unfolding spaceWords spacePointer
 space-led pool small at u [] l = (inl (refl, refl), omega arith)
 space-led pool small at u (b ∷ v) l =
@@ -72,18 +72,18 @@ module _ (s pool : List ℕ) (small : length pool ≤ 1048576) (at : ℕ → ℕ
   abbrev written : ℕ → List (Piece ℕ) → List ℕ
   written u ps = poolWith itself at kept u ps
 
-  own-led : (i : ℕ) (d : Option (Descriptor ℕ)) (u q : ℕ) → RangedOwn d → OwnRule minor n i d → Led pool at u (ownWords d) → 1 ≤ q → From pool (q - 1) (written u (ownPieces d)) → ShowsOwn pool (ownPointer q d) d
+  own-led : (i : ℕ) (d : Option (Descriptor ℕ)) (u q : ℕ) → RangedOwn d → OwnRule minor n i d → LeadsAll pool at u (ownWords d) → 1 ≤ q → From pool (q - 1) (written u (ownPieces d)) → ShowsOwn pool (ownPointer q d) d
   unfolding ownWords ownPieces poolWith ownPointer
   own-led i none u q g r l m h = refl
   own-led i (some d) u q g r l m h =
       (m, (q - 1 + descriptorSize d, descriptor-led pool at small minor n few d u (q - 1) g (r .1) l (from-left pool (q - 1) (descriptorWith itself at u d) (written u (map word (namesOf d))) h)))
 
-  entry-led : (e : Entry ℕ) (u q p : ℕ) → RangedEntry e → EntryRule minor n e → Led pool at u (entryWords e) → 1 ≤ q → From s p (entryWith at kept u q e) → From pool (q - 1) (written u (entryPieces e)) → ShowsEntry s pool p e
+  entry-led : (e : Entry ℕ) (u q p : ℕ) → RangedEntry e → EntryRule minor n e → LeadsAll pool at u (entryWords e) → 1 ≤ q → From s p (entryWith at kept u q e) → From pool (q - 1) (written u (entryPieces e)) → ShowsEntry s pool p e
   unfolding entryWords entryPieces entryWith ownAfter
   entry-led (entry (key v w) i d) u q p g r l m h k =
       let ws = keyWords (key v w) in
       let names = led-append pool at u ws (ownWords d) l in
-      let first : Led pool at u (w ∷ spaceWords v) = unfold keyWords in names .0 in
+      let first : LeadsAll pool at u (w ∷ spaceWords v) = unfold keyWords in names .0 in
       let q2 = q + storedSize kept u ws in
       let long : length (written u (map word ws)) ≡ storedSize kept u ws = length-pool itself at kept u (map word ws) ∙ size-words kept ℕ u ws in
       let count : u + length (wordsIn {R = ℕ} (map word ws)) ≡ u + length ws = ap (λ (x : List (List ℕ)). u + length x) (words-map ℕ ws) in
@@ -97,7 +97,7 @@ module _ (s pool : List ℕ) (small : length pool ≤ 1048576) (at : ℕ → ℕ
 
   -- what lies where: uses, rows of the directory and pieces of the pool
   abbrev Laid : ℕ → ℕ → ℕ → List (List ℕ) → List ℕ → List (Piece ℕ) → Type 0
-  Laid u q p ws rows ps = Led pool at u ws × From s p rows × From pool (q - 1) (written u ps)
+  Laid u q p ws rows ps = LeadsAll pool at u ws × From s p rows × From pool (q - 1) (written u ps)
 
   laid-cut : (e : Entry ℕ) (us : List (Entry ℕ)) (u q p : ℕ) → 1 ≤ q → Laid u q p (wordsOf (e ∷ us)) (directoryWith at kept u q (e ∷ us)) (piecesOf (e ∷ us))
       → Laid u q p (entryWords e) (entryWith at kept u q e) (entryPieces e)
@@ -126,7 +126,7 @@ module _ (s pool : List ℕ) (small : length pool ≤ 1048576) (at : ℕ → ℕ
 -- ---- the file
 
 pub file-led : (us : List (Entry ℕ)) (at : ℕ → ℕ) (kept : ℕ → Bool) → length us ≤ 1024 → lengthWith kept us ≤ 1048576 → (minor : ℕ) → All RangedEntry us → All (EntryRule minor (length us)) us
-    → ((pool : List ℕ) → From pool 0 (poolWith itself at kept 0 (piecesOf us)) → Led pool at 0 (wordsOf us))
+    → ((pool : List ℕ) → From pool 0 (poolWith itself at kept 0 (piecesOf us)) → LeadsAll pool at 0 (wordsOf us))
     → ShowsTypelib (fileWith itself at kept us) (typelib (normalHeader us) (empty ∷ []) us)
 unfolding fileWith
 file-led us at kept few short minor g r led =

@@ -1,5 +1,5 @@
 -- A file of entries, over where each use of a name points (`at`) and which words are stored (`kept`); `f` gives the index of a reference.
--- Records count uses: u is the number of a record's first use.
+-- Records count uses: u is the first of a record.
 -- Assumes nothing.
 use mathlib.Core.Bool.{Bool}
 use mathlib.Core.List.{List, [], _∷_, _++_}
@@ -13,8 +13,8 @@ use Rattle.meaning.specs.Index.{keysOf, indexOf}
 use Rattle.normal.specs.BigEndian.{bytesOf}
 use Rattle.normal.specs.Record.{methodBytes, constantBytes, parentNumber, nameBytes}
 use Rattle.normal.specs.Normal.{spacePointer, ownPointer, normalHeader, headerBytes, noteBytes}
-use Rattle.stock.specs.Uses.{keyWords, entryWords, wordsOf, always, atFirst, storedSize}
-use Rattle.stock.specs.Pool.{Piece, word, body, entryPieces, piecesOf, poolSize, plainAt, onceAt}
+use Rattle.stock.specs.Uses.{keyWords, entryWords, wordsOf, atFirst, storedSize}
+use Rattle.stock.specs.Pool.{Piece, word, body, entryPieces, piecesOf, poolSize, onceAt}
 
 -- ---- descriptors
 
@@ -71,10 +71,10 @@ lengthWith kept us = 36 + entryWidth * length us + poolSize kept 0 (piecesOf us)
 unfoldable pub fileWith : {R : Type 0} → (R → ℕ) → (ℕ → ℕ) → (ℕ → Bool) → List (Entry R) → List ℕ
 fileWith f at kept us = headerBytes (normalHeader us) (lengthWith kept us) ++ noteBytes ++ directoryWith at kept 0 1 us ++ poolWith f at kept 0 (piecesOf us)
 
--- references are written as indexes of its own directory: the form that stores the name of every use
-unfoldable pub plainForm : List (Entry Key) → List ℕ
-plainForm us = fileWith (indexOf (keysOf us)) (plainAt (piecesOf us)) always us
+-- document 02: each name is stored once, at its first use, and later uses point to it
+abbrev pub fileBytes : {R : Type 0} → (R → ℕ) → List (Entry R) → List ℕ
+fileBytes f us = fileWith f (onceAt (piecesOf us)) (atFirst (wordsOf us)) us
 
--- and the one that stores each name once, at its first use
-unfoldable pub onceForm : List (Entry Key) → List ℕ
-onceForm us = fileWith (indexOf (keysOf us)) (onceAt (piecesOf us)) (atFirst (wordsOf us)) us
+-- references are written as indexes of its own directory
+unfoldable pub normalForm : List (Entry Key) → List ℕ
+normalForm us = fileBytes (indexOf (keysOf us)) us

@@ -2,4 +2,3 @@ pub mod Uses
 pub mod Pool
 pub mod Form
 pub mod Readable
-pub mod Theorems

@@ -80,6 +80,6 @@ ownBody (some d) = descriptorSize d
 unfoldable pub bodyLength : {R : Type 0} → Entry R → ℕ
 bodyLength (entry k i d) = entryWidth + ownBody d
 
--- of the form of these entries that stores each name once
-unfoldable pub onceLength : {R : Type 0} → List (Entry R) → ℕ
-onceLength us = 36 + sum bodyLength us + stockSize (wordsOf us)
+-- of the normal form of these entries
+unfoldable pub normalLength : {R : Type 0} → List (Entry R) → ℕ
+normalLength us = 36 + sum bodyLength us + stockSize (wordsOf us)

@@ -1,1 +1,1 @@
-// No code: the normal form that holds each name once stands in specs, and that it reads back in proofs.
+// No code: the normal form, which stores each name once, stands in specs, and that it reads back in proofs.

@@ -5,6 +5,5 @@ pub mod Words
 pub mod Sources
 pub mod Turns
 pub mod Sizes
-pub mod Names
 pub mod Types
 pub mod Methods

@@ -8,23 +8,24 @@ use lib.ListN.{length, length-append}
 use lib.Seq.{sets}
 use Rattle.number.specs.Number.{be}
 use Rattle.number.specs.Part.{part}
-use Rattle.reader.specs.Values.{Param, Method, method, signature, methodName, argumentCount, Constant, constant}
+use Rattle.reader.specs.Values.{Param, Method, method, signature, argumentCount, Constant, constant}
 use Rattle.reader.specs.Records.{Bytes, ShowsParam, ShowsMethod, ShowsConstant}
 use Rattle.reader.specs.Layout.{Ends, Tells, Rows}
 use Rattle.meaning.specs.Refs.{ParamRefs}
 use Rattle.normal.specs.BigEndian.{bytesOf}
-use Rattle.normal.specs.Size.{sum, paramSize, methodSize, methodNameSize, valueWidth, constantSize, constantName, constantNameSize}
-use Rattle.normal.specs.Record.{run, paramBytes, methodBytes, nameAfter, methodsBytes, constantBytes, constantsBytes}
+use Rattle.normal.specs.Size.{sum, paramSize, methodSize, valueWidth, constantSize}
+use Rattle.normal.specs.Record.{run, paramBytes, methodBytes, constantBytes}
+use Rattle.stock.specs.Form.{runFrom, methodsWith, constantsWith}
 use Rattle.normal.proofs.Lengths.{length-bytes, length-run, length-param, length-method, length-constant}
 use Rattle.normal.proofs.Numbers.{bytes-read}
-use Rattle.writing.specs.Source.{Known, Named, MethodFit, InTable}
+use Rattle.writing.specs.Source.{Known, MethodFit, InTable}
 use Rattle.writing.specs.Wrote.{Room, Wrote}
 use Rattle.decimal.proofs.Stores.{chain}
 use Rattle.writing.proofs.Copies.{one-byte, more-bytes}
 use Rattle.writing.proofs.Lent.{rest, back, lent-after}
 use Rattle.writing.proofs.Sources.{rows-known}
 use Rattle.writing.proofs.Sizes as sizes
-use Rattle.writing.proofs.Turns.{Writes, wrote-ends}
+use Rattle.writing.proofs.Turns.{Writes}
 
 -- ---- methods
 
@@ -43,8 +44,8 @@ module _ (s : List ℕ) (shift p : ℕ) where
       let k = h .shown .3 in
       let z = sizes.run-end (ShowsParam s) paramSize (sizes.param-end s) (p + 6) ps (k .0) (k .1) in
       record {
-        arguments = rw (← z) (rows-known (ShowsParam s) (ParamRefs (InTable shift)) c (p + 6) ps (k .0) (t .each (method g w (signature ps r)) e (h .shown)) (k .1) (h .fact .1 .0));
-        result = rw (← z) (record { shown = k .2; fact = h .fact .1 .1 });
+        arguments = rw (← z) (rows-known (ShowsParam s) (ParamRefs (InTable shift)) c (p + 6) ps (k .0) (t .each (method g w (signature ps r)) e (h .shown)) (k .1) (h .fact .0));
+        result = rw (← z) (record { shown = k .2; fact = h .fact .1 });
       }
 
   module _ (n : ℕ) (h : Room (Known (ShowsMethod s) (MethodFit shift) p) methodSize n) where
@@ -102,19 +103,9 @@ module _ (s : List ℕ) (shift p : ℕ) where
           let s₄ : l₄ ≡ sets l 0 (head ++ run (paramBytes f) ps) = e₄ ∙ lent-after l l₃ y₄ head (run (paramBytes f) ps) 6 s₃ (sym lh) (a .1) in
           (omega (arith, length-append (head ++ run (paramBytes f) ps) (paramBytes f r), b .0), lent-after l l₄ y₅ (head ++ run (paramBytes f) ps) (paramBytes f r) (6 + j) s₄ (sym la) (b .1))
 
-pub methods-how : (f : ℕ → ℕ) → Writes (methodBytes f) (λ (q : ℕ) (m : Method ℕ). nameAfter q (methodName m)) (methodsBytes f) methodSize
-unfolding methodsBytes
-methods-how f = record { none = λ q. refl; more = λ q m ms. refl; each = λ q m. length-method f q m }
-
--- a method that was written ends where its bytes do, and the next name lies after its own
-module _ {s : List ℕ} {p r : ℕ} where
-  pub method-wrote-ends : {l ys : List ℕ} (shift : ℕ) (f : ℕ → ℕ) (q p₁ : ℕ) → Wrote (Known (ShowsMethod s) (MethodFit shift) p) (methodBytes f q) l r ys → p₁ ≡ p + r → Ends (Known (ShowsMethod s) (MethodFit shift) p) p₁
-  method-wrote-ends shift f q p₁ w z = wrote-ends methodSize w p p₁ (λ x e h. sizes.method-end s p x e (h .shown)) (length-method f q) z
-
-  pub next-method-name : (shift q : ℕ) → Tells (Known (ShowsMethod s) (Named methodName) p) methodNameSize r
-      → Tells (Known (ShowsMethod s) (MethodFit shift) p) (λ (m : Method ℕ). nameAfter q (methodName m)) (q + r)
-  unfolding nameAfter methodNameSize
-  next-method-name shift q t = record { each = λ m e h. ap (λ (n : ℕ). q + n) (t .each m e (record { shown = h .shown; fact = h .fact .0 })) }
+pub methods-how : (s : List ℕ) (shift : ℕ) (f at : ℕ → ℕ) → Writes (Known (ShowsMethod s) (MethodFit shift)) (λ (u : ℕ). methodBytes f (at u)) (methodsWith f at) methodSize
+unfolding methodsWith runFrom
+methods-how s shift f at = record { none = λ u. refl; more = λ u m ms. refl; long = λ u m. length-method f (at u) m; ended = λ p m e h. sizes.method-end s p m e (h .shown) }
 
 -- ---- constants
 
@@ -155,19 +146,6 @@ module _ (s : List ℕ) (p r : ℕ) (d : Ends (ShowsConstant s p) (p + 5 + r)) w
           let long : length (bytesOf 4 q ++ (k ∷ bytesOf (valueWidth k) v)) ≡ 4 + m = omega (arith, length-append (bytesOf 4 q) (k ∷ bytesOf (valueWidth k) v), length-bytes 4 q, length-bytes (valueWidth k) v, x, a .0) in
           (sym long ∙ ap length whole, lent-after l l₁ ys (bytesOf 4 q) (k ∷ bytesOf (valueWidth k) v) 4 e₁ (sym (length-bytes 4 q)) (a .1 ∙ ap (sets (rest l₁ 4) 0) bytes) ∙ ap (sets l 0) whole)
 
-pub constants-how : Writes constantBytes (λ (q : ℕ) (c : Constant). nameAfter q (constantName c)) constantsBytes constantSize
-unfolding constantsBytes
-constants-how = record { none = λ q. refl; more = λ q c cs. refl; each = length-constant }
-
-module _ {s : List ℕ} {p r : ℕ} {l ys : List ℕ} where
-  -- the same of a constant whose name is known
-  pub constant-wrote-known : (q : ℕ) → Wrote (ShowsConstant s p) (constantBytes q) l r ys → Wrote (Known (ShowsConstant s) (Named constantName) p) (constantBytes q) l r ys
-  constant-wrote-known q w = record { each = λ c e h. w .each c e (h .shown) }
-
-  pub constant-wrote-ends : (q p₁ : ℕ) → Wrote (ShowsConstant s p) (constantBytes q) l r ys → p₁ ≡ p + r → Ends (Known (ShowsConstant s) (Named constantName) p) p₁
-  constant-wrote-ends q p₁ w z = wrote-ends constantSize (constant-wrote-known q w) p p₁ (λ x e h. sizes.constant-end s p x e (h .shown)) (length-constant q) z
-
-pub next-constant-name : {s : List ℕ} {p r : ℕ} (q : ℕ) → Tells (Known (ShowsConstant s) (Named constantName) p) constantNameSize r
-    → Tells (Known (ShowsConstant s) (Named constantName) p) (λ (c : Constant). nameAfter q (constantName c)) (q + r)
-unfolding nameAfter constantNameSize
-next-constant-name q t = record { each = λ c e h. ap (λ (n : ℕ). q + n) (t .each c e h) }
+pub constants-how : (s : List ℕ) (at : ℕ → ℕ) → Writes (ShowsConstant s) (λ (u : ℕ). constantBytes (at u)) (constantsWith at) constantSize
+unfolding constantsWith runFrom
+constants-how s at = record { none = λ u. refl; more = λ u c cs. refl; long = λ u c. length-constant (at u) c; ended = sizes.constant-end s }

@@ -7,7 +7,7 @@ use native.Mathlib.Omega.{arith}
 use lib.ListN.{length}
 use Rattle.reader.specs.Records.{Run}
 use Rattle.reader.specs.Rules.{All}
-use Rattle.reader.specs.Layout.{Stands, Ends, Rows}
+use Rattle.reader.specs.Layout.{Stands, Rows}
 use Rattle.writing.specs.Source.{Known}
 use Rattle.writing.specs.Wrote.{Room}
 use Rattle.writing.proofs.Lent.{rest, length-rest}
@@ -16,21 +16,9 @@ use Rattle.writing.proofs.Lent.{rest, length-rest}
 pub room-stands : {X : Type 0} {P : X → ℕ → Type 0} {size : X → ℕ} {n : ℕ} → Room P size n → Stands P
 room-stands r = record { value = r .value; end = r .end; shown = r .shown }
 
-module _ {X : Type 0} {P : ℕ → X → ℕ → Type 0} {Q : X → Type 0} {p : ℕ} where
-  -- what is known is shown
-  pub known-stands : Stands (Known P Q p) → Stands (P p)
-  known-stands s = record { value = s .value; end = s .end; shown = s .shown .shown }
-
-  pub ends-known : {r : ℕ} → Ends (P p) r → Ends (Known P Q p) r
-  ends-known d = record { each = λ x e h. d .each x e (h .shown) }
-
--- a fact that follows from another
-module _ {X : Type 0} {P : ℕ → X → ℕ → Type 0} (Q : X → Type 0) {S : X → Type 0} (less : (x : X) → Q x → S x) where
-  pub less-known : {p : ℕ} {x : X} {e : ℕ} → Known P Q p x e → Known P S p x e
-  less-known {p} {x} h = record { shown = h .shown; fact = less x (h .fact) }
-
-  pub less-stands : {p : ℕ} → Stands (Known P Q p) → Stands (Known P S p)
-  less-stands s = record { value = s .value; end = s .end; shown = less-known (s .shown) }
+-- what is known is shown
+pub known-stands : {X : Type 0} {P : ℕ → X → ℕ → Type 0} {Q : X → Type 0} {p : ℕ} → Stands (Known P Q p) → Stands (P p)
+known-stands s = record { value = s .value; end = s .end; shown = s .shown .shown }
 
 -- records in turn, each with its fact
 module _ {X : Type 0} (P : ℕ → X → ℕ → Type 0) (Q : X → Type 0) where
@@ -48,6 +36,3 @@ room-less n l r = record { value = r .value; end = r .end; shown = r .shown; roo
 -- in the part of l from k on
 pub room-lent : {X : Type 0} {P : X → ℕ → Type 0} {size : X → ℕ} {m : ℕ} (l : List ℕ) (k : ℕ) → m + k ≤ length l → Room P size m → Room P size (length (rest l k))
 room-lent l k h r = room-less (length (rest l k)) (rw (length-rest l k) (omega arith)) r
-
-pub room-known : {X : Type 0} {P : ℕ → X → ℕ → Type 0} {Q : X → Type 0} {p : ℕ} {size : X → ℕ} {n : ℕ} → Room (Known P Q p) size n → Room (P p) size n
-room-known r = record { value = r .value; end = r .end; shown = r .shown .shown; room = r .room }

@@ -6,29 +6,17 @@ use Prim.Native.Nat.{ℕ, suc, _+_, _-_, _≤_, _<_}
 use native.Mathlib.Omega.{arith}
 use lib.ListN.{length, length-append}
 use lib.Seq.{sets, length-sets}
-use Rattle.reader.specs.Layout.{Stands, Ends, Tells, Rows}
+use Rattle.reader.specs.Layout.{Rows}
 use Rattle.normal.specs.Size.{sum}
-use Rattle.normal.specs.Record.{run}
 use Rattle.writing.specs.Wrote.{Room, Wrote}
-use Rattle.writing.proofs.Lent.{rest, back, lent-after, length-rest}
+use Rattle.writing.proofs.Lent.{rest, back, lent, lent-after, length-rest}
 
--- `all q` writes each record x by `one q x`, where q becomes `next q x` for those after x; x has `size x` bytes
-pub record Writes {X : Type 0} (one : ℕ → X → List ℕ) (next : ℕ → X → ℕ) (all : ℕ → List X → List ℕ) (size : X → ℕ) : Type 0 where
-  pub none : (q : ℕ) → all q [] ≡ []
-  pub more : (q : ℕ) (x : X) (xs : List X) → all q (x ∷ xs) ≡ one q x ++ all (next q x) xs
-  pub each : (q : ℕ) (x : X) → length (one q x) ≡ size x
-
--- records without such a q
-pub run-writes : {X : Type 0} (f : X → List ℕ) (size : X → ℕ) → ((x : X) → length (f x) ≡ size x) → Writes (λ q. f) (λ q x. q) (λ q. run f) size
-unfolding run
-run-writes f size h = record { none = λ q. refl; more = λ q x xs. refl; each = λ q x. h x }
-
-pub total : {X : Type 0} {one : ℕ → X → List ℕ} {next : ℕ → X → ℕ} {all : ℕ → List X → List ℕ} {size : X → ℕ} → Writes one next all size
-    → (q : ℕ) (xs : List X) → length (all q xs) ≡ sum size xs
-unfolding sum
-total w q [] = ap length (w .none q)
-total {X} {one} {next} {all} {size} w q (x ∷ xs) =
-    ap length (w .more q x xs) ∙ length-append (one q x) (all (next q x) xs) ∙ omega (arith, w .each q x, total w (next q x) xs)
+-- `all u` writes records that P shows: the first by `one u`, those after it by `all (u + 1)`. Where it is shown and where it is written, x has `size x` bytes
+pub record Writes {X : Type 0} (P : ℕ → X → ℕ → Type 0) (one : ℕ → X → List ℕ) (all : ℕ → List X → List ℕ) (size : X → ℕ) : Type 0 where
+  pub none : (u : ℕ) → all u [] ≡ []
+  pub more : (u : ℕ) (x : X) (xs : List X) → all u (x ∷ xs) ≡ one u x ++ all (u + 1) xs
+  pub long : (u : ℕ) (x : X) → length (one u x) ≡ size x
+  pub ended : (p : ℕ) (x : X) (e : ℕ) → P p x e → e ≡ p + size x
 
 module _ {X : Type 0} (P : ℕ → X → ℕ → Type 0) where
   -- the first of one or more records, and those after it
@@ -48,140 +36,106 @@ module _ {X : Type 0} (P : ℕ → X → ℕ → Type 0) where
   empty m p [] e z r = refl
   empty m p (x ∷ xs) e z r = absurd (omega (arith, r .count))
 
-  module _ (all : ℕ → List X → List ℕ) where
-    -- m records are left, from p on to e, the first with q; w bytes are written
-    pub record Turn (m p q w : ℕ) (whole before after : List ℕ) (e : ℕ) : Type 0 where
-      pub tail : List X
-      pub rows : Rows P m p tail e
-      pub done : List ℕ
-      pub bytes : whole ≡ done ++ all q tail
-      pub count : w ≡ length done
-      pub stored : after ≡ sets before 0 done
+module _ {X : Type 0} (P : ℕ → X → ℕ → Type 0) (one : ℕ → X → List ℕ) (all : ℕ → List X → List ℕ) (size : X → ℕ) where
+  -- m records are left, from p on to e, the first with u; w bytes are written
+  pub record Turn (m p u w : ℕ) (whole before after : List ℕ) (e : ℕ) : Type 0 where
+    pub tail : List X
+    pub rows : Rows P m p tail e
+    pub done : List ℕ
+    pub bytes : whole ≡ done ++ all u tail
+    pub count : w ≡ length done
+    pub stored : after ≡ sets before 0 done
 
-    -- of n records from `at` on, the first with q₀, k are written
-    pub record Writing (n at q₀ : ℕ) (before : List ℕ) (k p q w : ℕ) (after : List ℕ) : Type 0 where
-      pub few : k ≤ n
-      pub each : (xs : List X) (e : ℕ) → Rows P n at xs e → Turn (n - k) p q w (all q₀ xs) before after e
+  -- of n records from `at` on, the first with u, k are written in w bytes, and the others have room
+  pub record Writing (n at u : ℕ) (before : List ℕ) (k w : ℕ) (after : List ℕ) : Type 0 where
+    pub how : Writes P one all size
+    pub few : k ≤ n
+    pub kept : length after ≡ length before
+    pub within : w ≤ length after
+    pub left : Room (Rows P (n - k) (at + w)) (sum size) (length after - w)
+    pub each : (xs : List X) (e : ℕ) → Rows P n at xs e → Turn (n - k) (at + w) (u + k) w (all u xs) before after e
 
-module _ {X : Type 0} {P : ℕ → X → ℕ → Type 0} {one : ℕ → X → List ℕ} {next : ℕ → X → ℕ} {all : ℕ → List X → List ℕ} {size : X → ℕ} (how : Writes one next all size) where
-  pub writing-start : {n at p q : ℕ} {l : List ℕ} → p ≡ at → Writing P all n at q l 0 p q 0 l
-  writing-start {n} e =
+module _ {X : Type 0} {P : ℕ → X → ℕ → Type 0} {one : ℕ → X → List ℕ} {all : ℕ → List X → List ℕ} {size : X → ℕ} where
+  pub writing-start : {n at u : ℕ} {l : List ℕ} → Writes P one all size → Room (Rows P n at) (sum size) (length l) → Writing P one all size n at u l 0 0 l
+  writing-start {n} {at} {u} {l} how room =
       let z : n - 0 ≡ n = omega arith in
-      record { few = omega arith; each = λ xs e₁ r. record { tail = xs; rows = rw (z, e) r; done = []; bytes = refl; count = refl; stored = refl } }
+      let y : at + 0 ≡ at = omega arith in
+      let x : u ≡ u + 0 = omega arith in
+      record {
+        how = how;
+        few = omega arith;
+        kept = refl;
+        within = omega arith;
+        left = record { value = room .value; end = room .end; shown = rw (z, y) (room .shown); room = omega (arith, room .room) };
+        each = λ xs e r. record { tail = xs; rows = rw (z, y) r; done = []; bytes = ap (λ (j : ℕ). all j xs) x; count = refl; stored = refl };
+      }
 
-  module _ {n at q₀ : ℕ} {before : List ℕ} {k p q w : ℕ} {after : List ℕ} (h : Writing P all n at q₀ before k p q w after) where
-    opened : k < n → (xs : List X) (e : ℕ) → Rows P (n - k) p xs e → First P (n - (k + 1)) p xs e
-    opened l xs e r = let z : n - k ≡ suc (n - (k + 1)) = omega arith in first P (n - (k + 1)) p xs e (rw (← z) r)
+  module _ {n at u : ℕ} {before : List ℕ} {k w : ℕ} {after : List ℕ} (h : Writing P one all size n at u before k w after) where
+    module _ (l : k < n) where
+      opened : (xs : List X) (e : ℕ) → Rows P (n - k) (at + w) xs e → First P (n - (k + 1)) (at + w) xs e
+      opened xs e r = let z : n - k ≡ suc (n - (k + 1)) = omega arith in first P (n - (k + 1)) (at + w) xs e (rw (← z) r)
 
-    module _ (room : Room (Rows P n at) (sum size) (length before)) where
-      turn : Turn P all (n - k) p q w (all q₀ (room .value)) before after (room .end)
-      turn = h .each (room .value) (room .end) (room .shown)
+      next : First P (n - (k + 1)) (at + w) (h .left .value) (h .left .end)
+      next = opened (h .left .value) (h .left .end) (h .left .shown)
 
-      pub writing-kept : length after ≡ length before
-      writing-kept = ap length (turn .stored) ∙ length-sets before 0 (turn .done)
+      next-room : size (next .head) + sum size (next .tail) ≤ length after - w
+      unfolding sum
+      next-room = let s : sum size (h .left .value) ≡ size (next .head) + sum size (next .tail) = ap (sum size) (next .is) in omega (arith, h .left .room, s)
 
-      -- what is left has room
-      left-room : w + sum size (turn .tail) ≤ length after
-      left-room =
-          let a = ap length (turn .bytes) ∙ length-append (turn .done) (all q (turn .tail)) in
-          omega (arith, a, total how q₀ (room .value), total how q (turn .tail), turn .count, writing-kept, room .room)
+      pub writing-first : Room (P (at + w)) size (length (rest after w))
+      writing-first = record { value = next .head; end = next .mid; shown = next .shown; room = rw (length-rest after w) (omega (arith, next-room)) }
 
-      pub writing-within : w ≤ length after
-      writing-within = omega (arith, left-room)
+      module _ {r : ℕ} (ys : List ℕ) (wrote : Wrote (P (at + w)) (one (u + k)) (rest after w) r ys) where
+        size-is : (x : X) (e : ℕ) → P (at + w) x e → r ≡ size x
+        size-is x e s = wrote .each x e s .0 ∙ h .how .long (u + k) x
 
-      module _ (l : k < n) where
-        pub writing-first : Room (P p) size (length (rest after w))
-        unfolding sum
-        writing-first =
-            let f = opened l (turn .tail) (room .end) (turn .rows) in
-            let s : sum size (turn .tail) ≡ size (f .head) + sum size (f .tail) = ap (sum size) (f .is) in
-            record { value = f .head; end = f .mid; shown = f .shown; room = rw (length-rest after w) (omega (arith, left-room, s)) }
+        ends-at : (x : X) (e : ℕ) → P (at + w) x e → at + (w + r) ≡ e
+        ends-at x e s = omega (arith, size-is x e s, h .how .ended (at + w) x e s)
 
-        pub writing-sum : {r : ℕ} {ys : List ℕ} → Wrote (P p) (one q) (rest after w) r ys → w + r ≤ length after
-        writing-sum {r} wrote =
-            let f = writing-first in
-            omega (arith, wrote .each (f .value) (f .end) (f .shown) .0, how .each q (f .value), f .room, length-rest after w, writing-within)
+        same-length : length (back after w ys) ≡ length after
+        same-length =
+            let x = next .head in
+            ap length (lent after ys (one (u + k) x) w (wrote .each x (next .mid) (next .shown) .1)) ∙ length-sets after w (one (u + k) x)
 
-    pub writing-next : k < n → (ys : List ℕ) (p₁ q₁ r w₁ : ℕ) → Wrote (P p) (one q) (rest after w) r ys → Ends (P p) p₁ → Tells (P p) (next q) q₁ → w₁ ≡ w + r
-        → Writing P all n at q₀ before (k + 1) p₁ q₁ w₁ (back after w ys)
-    writing-next l ys p₁ q₁ r w₁ wrote ends tells sum₁ = record { few = omega arith; each = on }
-      where
-        on : (xs : List X) (e : ℕ) → Rows P n at xs e → Turn P all (n - (k + 1)) p₁ q₁ w₁ (all q₀ xs) before (back after w ys) e
-        on xs e rows =
-            let t = h .each xs e rows in
-            let f = opened l (t .tail) e (t .rows) in
-            let x = f .head in
-            let b = wrote .each x (f .mid) (f .shown) in
-            let split : all q (t .tail) ≡ one q x ++ all q₁ (f .tail) =
-            ap (all q) (f .is) ∙ how .more q x (f .tail) ∙ ap (λ (j : ℕ). one q x ++ all j (f .tail)) (sym (tells .each x (f .mid) (f .shown))) in
+        pub writing-next : Writing P one all size n at u before (k + 1) (w + r) (back after w ys)
+        writing-next =
+            let z = size-is (next .head) (next .mid) (next .shown) in
             record {
-              tail = f .tail;
-              rows = rw (ends .each x (f .mid) (f .shown)) (f .rows);
-              done = t .done ++ one q x;
-              bytes = t .bytes ∙ ap (λ (z : List ℕ). t .done ++ z) split ∙ sym (append-assoc (t .done) (one q x) (all q₁ (f .tail)));
-              count = omega (arith, sum₁, t .count, b .0, length-append (t .done) (one q x));
-              stored = lent-after before after ys (t .done) (one q x) w (t .stored) (t .count) (b .1);
+              how = h .how;
+              few = omega arith;
+              kept = same-length ∙ h .kept;
+              within = omega (arith, z, next-room, same-length, h .within);
+              left = record { value = next .tail; end = h .left .end; shown = rw (ends-at (next .head) (next .mid) (next .shown)) (next .rows); room = omega (arith, z, next-room, same-length) };
+              each = on;
             }
+          where
+            on : (xs : List X) (e : ℕ) → Rows P n at xs e → Turn P one all size (n - (k + 1)) (at + (w + r)) (u + (k + 1)) (w + r) (all u xs) before (back after w ys) e
+            on xs e rows =
+                let t = h .each xs e rows in
+                let f = opened (t .tail) e (t .rows) in
+                let x = f .head in
+                let b = wrote .each x (f .mid) (f .shown) in
+                let z : u + k + 1 ≡ u + (k + 1) = omega arith in
+                let split : all (u + k) (t .tail) ≡ one (u + k) x ++ all (u + (k + 1)) (f .tail) =
+                ap (all (u + k)) (f .is) ∙ h .how .more (u + k) x (f .tail) ∙ ap (λ (j : ℕ). one (u + k) x ++ all j (f .tail)) z in
+                record {
+                  tail = f .tail;
+                  rows = rw (ends-at x (f .mid) (f .shown)) (f .rows);
+                  done = t .done ++ one (u + k) x;
+                  bytes = t .bytes ∙ ap (λ (v : List ℕ). t .done ++ v) split ∙ sym (append-assoc (t .done) (one (u + k) x) (all (u + (k + 1)) (f .tail)));
+                  count = omega (arith, t .count, b .0, length-append (t .done) (one (u + k) x));
+                  stored = lent-after before after ys (t .done) (one (u + k) x) w (t .stored) (t .count) (b .1);
+                }
 
-    pub writing-done : n ≤ k → Wrote (Rows P n at) (all q₀) before w after
+    pub writing-done : n ≤ k → Wrote (Rows P n at) (all u) before w after
     writing-done l = record { each = on }
       where
-        on : (xs : List X) (e : ℕ) → Rows P n at xs e → (w ≡ length (all q₀ xs)) × (after ≡ sets before 0 (all q₀ xs))
+        on : (xs : List X) (e : ℕ) → Rows P n at xs e → (w ≡ length (all u xs)) × (after ≡ sets before 0 (all u xs))
         on xs e rows =
             let t = h .each xs e rows in
-            let z = empty P (n - k) p (t .tail) e (omega arith) (t .rows) in
-            let d : all q₀ xs ≡ t .done = t .bytes ∙ ap (λ (z : List X). t .done ++ all q z) z ∙ ap (λ (z : List ℕ). t .done ++ z) (how .none q) ∙ append-nil (t .done) in
+            let z = empty P (n - k) (at + w) (t .tail) e (omega arith) (t .rows) in
+            let d : all u xs ≡ t .done = t .bytes ∙ ap (λ (v : List X). t .done ++ all (u + k) v) z ∙ ap (λ (v : List ℕ). t .done ++ v) (h .how .none (u + k)) ∙ append-nil (t .done) in
             (t .count ∙ ap length (sym d), t .stored ∙ ap (sets before 0) (sym d))
-
--- a record that was written ends where its bytes do
-pub wrote-ends : {X : Type 0} {P : X → ℕ → Type 0} {one : X → List ℕ} {l l₁ : List ℕ} {r : ℕ} (size : X → ℕ) → Wrote P one l r l₁
-    → (p p₁ : ℕ) → ((x : X) (e : ℕ) → P x e → e ≡ p + size x) → ((x : X) → length (one x) ≡ size x) → p₁ ≡ p + r → Ends P p₁
-wrote-ends size w p p₁ sized len z = record { each = λ x e h. omega (arith, z, sized x e h, len x, w .each x e h .0) }
-
--- ---- the sizes of records in turn
-
-module _ {X : Type 0} (P : ℕ → X → ℕ → Type 0) (size : X → ℕ) where
-  -- the first k of n records from `at` on have r bytes, and the next stands at p
-  pub record Counting (n at k p r : ℕ) : Type 0 where
-    pub few : k ≤ n
-    pub stands : Stands (Rows P (n - k) p)
-    pub each : (xs : List X) (e : ℕ) → Rows P n at xs e → (ys : List X) × Rows P (n - k) p ys e × (sum size xs ≡ r + sum size ys)
-
-module _ {X : Type 0} {P : ℕ → X → ℕ → Type 0} {size : X → ℕ} {n at : ℕ} where
-  pub counting-start : Stands (Rows P n at) → Counting P size n at 0 at 0
-  counting-start s = let z : n - 0 ≡ n = omega arith in record { few = omega arith; stands = rw z s; each = λ xs e r. (xs, rw z r, omega arith) }
-
-  module _ {k p r : ℕ} (h : Counting P size n at k p r) where
-    split : k < n → (xs : List X) (e : ℕ) → Rows P (n - k) p xs e → First P (n - (k + 1)) p xs e
-    split l xs e r = let z : n - k ≡ suc (n - (k + 1)) = omega arith in first P (n - (k + 1)) p xs e (rw (← z) r)
-
-    pub counting-first : k < n → Stands (P p)
-    counting-first l = let f = split l _ _ (h .stands .shown) in record { value = f .head; end = f .mid; shown = f .shown }
-
-    pub counting-next : k < n → (p₁ r₁ : ℕ) → Ends (P p) p₁ → Tells (P p) size r₁ → Counting P size n at (k + 1) p₁ (r + r₁)
-    unfolding sum
-    counting-next l p₁ r₁ ends tells = record {
-      few = omega arith;
-      stands = let f = split l _ _ (h .stands .shown) in record { value = f .tail; end = h .stands .end; shown = rw (ends .each (f .head) (f .mid) (f .shown)) (f .rows) };
-      each = on;
-    }
-      where
-        on : (xs : List X) (e : ℕ) → Rows P n at xs e → (ys : List X) × Rows P (n - (k + 1)) p₁ ys e × (sum size xs ≡ r + r₁ + sum size ys)
-        on xs e rows =
-            let t = h .each xs e rows in
-            let f = split l (t .0) e (t .1) in
-            let s : sum size (t .0) ≡ size (f .head) + sum size (f .tail) = ap (sum size) (f .is) in
-            (f .tail, rw (ends .each (f .head) (f .mid) (f .shown)) (f .rows), omega (arith, s, t .2, tells .each (f .head) (f .mid) (f .shown)))
-
-    pub counting-done : n ≤ k → Tells (Rows P n at) (sum size) r
-    unfolding sum
-    counting-done l = record { each = on }
-      where
-        on : (xs : List X) (e : ℕ) → Rows P n at xs e → r ≡ sum size xs
-        on xs e rows =
-            let t = h .each xs e rows in
-            let z : sum size (t .0) ≡ 0 = ap (sum size) (empty P (n - k) p (t .0) e (omega arith) (t .1)) in
-            omega (arith, z, t .2)
 
 -- what was written had room
 pub wrote-most : {X : Type 0} {P : X → ℕ → Type 0} {one : X → List ℕ} {l l₁ : List ℕ} {r n : ℕ} {size : X → ℕ} → Wrote P one l r l₁ → ((x : X) → length (one x) ≡ size x) → Room P size n → r ≤ n

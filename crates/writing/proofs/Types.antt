@@ -1,6 +1,6 @@
 -- Types and parameters: their room, and their bytes.
 -- Assumes nothing.
-use mathlib.Core.Path.{_≡_, ap, _∙_}
+use mathlib.Core.Path.{_≡_, refl, ap, _∙_}
 use mathlib.Core.List.{List, [], _∷_, _++_}
 use Prim.Native.Nat.{ℕ, _+_, _-_, _≤_}
 use native.Mathlib.Omega.{arith}
@@ -14,7 +14,6 @@ use Rattle.reader.specs.Records.{ShowsType, ShowsParam}
 use Rattle.reader.specs.declared.record.Form.{Form}
 use Rattle.reader.specs.declared.record.Form.the-variants.{Simple, Interface, InterfaceIs, Array, Sized}
 use Rattle.reader.specs.Form.{typeForm, formOf}
-use Rattle.reader.specs.Layout.{Ends}
 use Rattle.reader.proofs.Shown.{by-form, of-form}
 use Rattle.meaning.specs.Refs.{TypeRefs, ParamRefs}
 use Rattle.normal.specs.BigEndian.{bytesOf}
@@ -26,7 +25,7 @@ use Rattle.writing.specs.Wrote.{Room, Wrote}
 use Rattle.writing.proofs.Copies.{one-byte, two-bytes, three-bytes}
 use Rattle.writing.proofs.Lent.{rest, back, lent-after}
 use Rattle.writing.proofs.Sizes as sizes
-use Rattle.writing.proofs.Turns.{Writes, run-writes, wrote-ends}
+use Rattle.writing.proofs.Turns.{Writes}
 
 module _ (s : List ℕ) (shift p n : ℕ) (h : Room (Known (ShowsType s) (TypeRefs (InTable shift)) p) typeSize n) where
   -- every type has its prefix
@@ -121,10 +120,6 @@ module _ (s : List ℕ) (shift p : ℕ) where
           (omega (arith, a .0, z .0), lent-after l l₁ ys (g ∷ []) (typeBytes f t) n (a .1 ∙ ap (sets l 0) (one-byte s p g (k .0))) (a .0) (z .1))
 
 -- how several are written
-pub params-how : (f : ℕ → ℕ) → Writes (λ (q : ℕ). paramBytes f) (λ (q : ℕ) (x : Param ℕ). q) (λ (q : ℕ). run (paramBytes f)) paramSize
-params-how f = run-writes (paramBytes f) paramSize (length-param f)
-
--- a parameter that was written ends where its bytes do
-pub param-wrote-ends : {s : List ℕ} {p r : ℕ} {l ys : List ℕ} (shift : ℕ) (f : ℕ → ℕ) (p₁ : ℕ) → Wrote (Known (ShowsParam s) (ParamRefs (InTable shift)) p) (paramBytes f) l r ys → p₁ ≡ p + r
-    → Ends (Known (ShowsParam s) (ParamRefs (InTable shift)) p) p₁
-param-wrote-ends {s} {p} shift f p₁ w z = wrote-ends paramSize w p p₁ (λ x e h. sizes.param-end s p x e (h .shown)) (length-param f) z
+pub params-how : (s : List ℕ) (shift : ℕ) (f : ℕ → ℕ) → Writes (Known (ShowsParam s) (ParamRefs (InTable shift))) (λ (u : ℕ). paramBytes f) (λ (u : ℕ). run (paramBytes f)) paramSize
+unfolding run
+params-how s shift f = record { none = λ u. refl; more = λ u x xs. refl; long = λ u x. length-param f x; ended = λ p x e h. sizes.param-end s p x e (h .shown) }

@@ -1,19 +1,16 @@
--- What the writers are given: records that a pool shows, whose references the table of places knows, and whose names are identifiers.
+-- What the writers are given: records that a pool shows, whose references the table of places knows.
 -- Assumes nothing.
 use mathlib.Core.List.{List}
 use Prim.Native.Nat.{ℕ, _+_, _-_, _≤_}
 use lib.ListN.{getD}
 use Rattle.number.specs.Limits.{rowLimit}
-use Rattle.reader.specs.Values.{Method, methodName}
-use Rattle.reader.specs.Rules.{Identifier}
+use Rattle.reader.specs.Values.{Method}
 use Rattle.meaning.specs.Refs.{MethodRefs}
 
 -- a record that is shown, and of which Q holds
 pub record Known {X : Type 0} (P : ℕ → X → ℕ → Type 0) (Q : X → Type 0) (p : ℕ) (x : X) (e : ℕ) : Type 0 where
   pub shown : P p x e
   pub fact : Q x
-
--- ---- references
 
 -- the index that the reference r becomes: the table of places has `shift` entries before those of r's file
 unfoldable pub renumber : List ℕ → ℕ → ℕ → ℕ
@@ -23,13 +20,5 @@ renumber place shift r = getD place (shift + r - 1) 0
 abbrev pub InTable : ℕ → ℕ → Type 0
 InTable shift r = (1 ≤ r) × (shift + r ≤ rowLimit)
 
--- ---- names
-
--- the name, which f gives, is an identifier
-abbrev pub Named : {X : Type 0} → (X → List ℕ) → X → Type 0
-Named f x = Identifier (f x)
-
--- ---- both
-
 abbrev pub MethodFit : ℕ → Method ℕ → Type 0
-MethodFit shift m = Named methodName m × MethodRefs (InTable shift) m
+MethodFit shift = MethodRefs (InTable shift)

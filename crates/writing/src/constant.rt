@@ -1,24 +1,25 @@
-// Constants and their names.
-ghost use Prim.Native.Nat.{_+_, _*_, _≤_, _<_};
+// Constants.
+ghost use Prim.Native.Nat.{_+_, _≤_};
 ghost use lib.ListN.{length};
 ghost use Rattle.number.specs.Limits.{fileLimit};
+ghost use Rattle.iids.specs.Cells.{cell};
+ghost use Rattle.names.specs.Uses.{useLimit};
 ghost use Rattle.reader.specs.Records.{ShowsConstant};
-ghost use Rattle.reader.specs.Layout.{Stands, Ends, Tells, Rows};
-ghost use Rattle.normal.specs.Size.{sum, constantSize, constantName, constantNameSize};
-ghost use Rattle.normal.specs.Record.{run, constantBytes, constantsBytes, constantNameBytes};
-ghost use Rattle.writing.specs.Source.{Known, Named};
+ghost use Rattle.reader.specs.Layout.{Stands, Ends, Rows};
+ghost use Rattle.normal.specs.Size.{sum, constantSize};
+ghost use Rattle.normal.specs.Record.{constantBytes};
+ghost use Rattle.stock.specs.Form.{constantsWith};
 ghost use Rattle.writing.specs.Wrote.{Room, Wrote};
 use crate::field::copy;
 use crate::field::put_u32;
-use crate::word::name_size;
-use crate::word::put_name;
+use names::USE_LIMIT;
 
 // The constant at `at`, whose name is to lie at the pool pointer q: name pointer; type byte and value as they are.
-pub fn put_constant(pool: &[u8], at: usize, q: usize, out: &mut [u8]) -> usize
-    requires { ⌜ Room (ShowsConstant (now pool) at) constantSize (length (now out)) × ((q < 4294967296) × (length (now pool) ≤ fileLimit)) ⌝ }
+pub fn put_constant(pool: &[u8], at: usize, q: u32, out: &mut [u8]) -> usize
+    requires { ⌜ Room (ShowsConstant (now pool) at) constantSize (length (now out)) × (length (now pool) ≤ fileLimit) ⌝ }
     ensures { λ r. ⌜ Wrote (ShowsConstant (now (pool .entry)) at) (constantBytes q) (now (out .entry)) r (now (out .exit)) ⌝ }
 {
-    put_u32(out, 0, q as u32);
+    put_u32(out, 0, q);
     4
         + copy(
             pool,
@@ -28,26 +29,23 @@ pub fn put_constant(pool: &[u8], at: usize, q: usize, out: &mut [u8]) -> usize
         )
 }
 
-// The bytes of the name of the constant at `at`, and of its zero byte.
-fn constant_name_size(pool: &[u8], at: usize) -> usize
-    requires { ⌜ Stands (Known (ShowsConstant (now pool)) (Named constantName) at) × (length (now pool) ≤ fileLimit) ⌝ }
-    ensures { λ r. ⌜ Tells (Known (ShowsConstant (now (pool .entry))) (Named constantName) at) constantNameSize r × (r ≤ 256) ⌝ }
-{
-    name_size(pool, reader::record::constant_name(pool, at))
-}
-
-// n constants from `at` on; the first name is to lie at q, and each other right after the one before.
-pub fn put_constants(pool: &[u8], n: usize, at: usize, q: usize, out: &mut [u8]) -> usize
-    requires { ⌜ Room (Rows (Known (ShowsConstant (now pool)) (Named constantName)) n at) (sum constantSize) (length (now out)) × ((q + 256 * n < 4294967296) × (length (now pool) ≤ fileLimit)) ⌝ }
-    ensures { λ r. ⌜ Wrote (Rows (Known (ShowsConstant (now (pool .entry))) (Named constantName)) n at) (constantsBytes q) (now (out .entry)) r (now (out .exit)) ⌝ }
+// n constants from `at` on; the name of the first is use u.
+pub fn put_constants(
+    pool: &[u8],
+    n: usize,
+    at: usize,
+    u: usize,
+    places: &[u32; USE_LIMIT],
+    out: &mut [u8],
+) -> usize
+    requires { ⌜ Room (Rows (ShowsConstant (now pool)) n at) (sum constantSize) (length (now out)) × ((u + n ≤ useLimit) × (length (now pool) ≤ fileLimit)) ⌝ }
+    ensures { λ r. ⌜ Wrote (Rows (ShowsConstant (now (pool .entry))) n at) (constantsWith (cell (now (places .entry))) u) (now (out .entry)) r (now (out .exit)) ⌝ }
 {
     let mut k: usize = 0;
     let mut w: usize = 0;
-    let mut name = q;
     while k < n {
-        let p = at + w;
-        w += put_constant(pool, p, name, &mut out[w..]);
-        name += constant_name_size(pool, p);
+        let q = places[u + k];
+        w += put_constant(pool, at + w, q, &mut out[w..]);
         k += 1;
     }
     w
@@ -65,37 +63,4 @@ pub fn constants_end(pool: &[u8], n: usize, at: usize) -> usize
         k += 1;
     }
     p
-}
-
-// The bytes of the names of n constants from `at` on.
-pub fn constant_names_size(pool: &[u8], n: usize, at: usize) -> usize
-    requires { ⌜ Stands (Rows (Known (ShowsConstant (now pool)) (Named constantName)) n at) × ((n ≤ 65535) × (length (now pool) ≤ fileLimit)) ⌝ }
-    ensures { λ r. ⌜ Tells (Rows (Known (ShowsConstant (now (pool .entry))) (Named constantName)) n at) (sum constantNameSize) r × (r ≤ 256 * n) ⌝ }
-{
-    let mut k: usize = 0;
-    let mut p = at;
-    let mut r: usize = 0;
-    while k < n {
-        r += constant_name_size(pool, p);
-        p = reader::record::constant_end(pool, p);
-        k += 1;
-    }
-    r
-}
-
-// The names of n constants from `at` on.
-pub fn put_constant_names(pool: &[u8], n: usize, at: usize, out: &mut [u8]) -> usize
-    requires { ⌜ Room (Rows (Known (ShowsConstant (now pool)) (Named constantName)) n at) (sum constantNameSize) (length (now out)) × (length (now pool) ≤ fileLimit) ⌝ }
-    ensures { λ r. ⌜ Wrote (Rows (Known (ShowsConstant (now (pool .entry))) (Named constantName)) n at) (run constantNameBytes) (now (out .entry)) r (now (out .exit)) ⌝ }
-{
-    let mut k: usize = 0;
-    let mut p = at;
-    let mut w: usize = 0;
-    while k < n {
-        let name = reader::record::constant_name(pool, p);
-        w += put_name(pool, name, &mut out[w..]);
-        p = reader::record::constant_end(pool, p);
-        k += 1;
-    }
-    w
 }

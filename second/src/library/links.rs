@@ -2,7 +2,8 @@
 //! linking.
 
 use super::{cases::Asked, Session, OWN};
-use crate::making::{builder::Typelib, damage, generate, hostile, model, pairs, rng::Rng, shape};
+use crate::making::builder::{Sharing, Typelib};
+use crate::making::{damage, generate, hostile, model, pairs, rng::Rng, shape};
 use crate::program::{check::check, link::LinkRefusal, refusal, Refusal, MAX_FILE};
 use crate::tally::{hash, numbered, Came, LINK, REFUSAL};
 use std::collections::HashMap;
@@ -137,10 +138,19 @@ impl<'s> Run<'s> {
         if other != own || out_then != out || copies != bytes {
             self.session.found(about, asked, &bytes);
         }
-        own.map(|length| {
+        let written = own.map(|length| {
             out.truncate(GUARD + length);
             out.split_off(GUARD)
-        })
+        });
+        if let Ok(form) = &written {
+            let Some(uses) = shape::uses(form) else {
+                println!("a name stands twice, or not where it is used first");
+                self.session.found(about, asked, &bytes);
+            };
+            let came = together(files);
+            uses.into_iter().for_each(|(first, then)| self.came(first, then, came));
+        }
+        written
     }
 
     /// Counts a law of linking that holds. Files of which it does not are told of: both programs
@@ -230,6 +240,9 @@ impl<'s> Run<'s> {
                 self.law("swapping", one == two, "swapping: length and bytes", &[a, b], came);
                 // What a link wrote is accepted, and its own normal form.
                 let file = File::new(one.unwrap_or_default());
+                let alone = [a, b].map(|file| OWN.write(&[&file.bytes], &mut self.scratch));
+                let grows = alone.iter().all(|own| own.is_ok_and(|own| own <= file.bytes.len()));
+                self.law("growing", grows, "no shorter than either's", &[a, b], came);
                 let same = self.call(&[&file], file.bytes.len()).as_ref() == Ok(&file.bytes);
                 let alone = together(&[&file]);
                 self.law("reading back", same, "its own normal form", &[a, b], alone);
@@ -293,6 +306,15 @@ impl<'s> Run<'s> {
         let same = model::same_meaning(first, second);
         let what = if same { "same meaning, same bytes" } else { "other meaning, other bytes" };
         self.law("meaning", (one == two) == same, what, &[a, b], together(&[a, b]));
+        let (form, came) = (model::read(one), together(&[a]));
+        let same = model::same_meaning(first, &form);
+        self.law("writing", same, "a form means the same", &[a], came);
+        let same = model::form(&form, Sharing::Equal) == *one;
+        self.law("names", same, "as built with each name once", &[a], came);
+        let before = model::form(&form, Sharing::None).len();
+        let is_shorter = one.len() < before;
+        let what = if is_shorter { "shorter than before" } else { "as long as before" };
+        self.law("length", one.len() <= before, what, &[a], came);
     }
 
     /// A file's normal form, with several buffers.
@@ -365,10 +387,15 @@ fn edges(run: &mut Run, rng: &mut Rng) {
         run.self_and_empty(&a);
         run.self_and_empty(&b);
     }
-    // Little bytes, a long normal form.
-    for n in 2..6 {
+    // Little bytes, a long normal form: 69 descriptors are too long, for all that they have one name.
+    for n in [2, 5, 66, 67, 68, 69, 70, 71, 72] {
         let file = run.file("records that many share", hostile::long_listing(n));
         run.normal(&file, &all);
+    }
+    for (made, files) in pairs::ends() {
+        let [a, b] = files.map(|lib| run.file(made, lib.bytes()));
+        run.pair(made, &a, &b);
+        run.normal(&a, &[short(rng), wide(rng), ROOMS[7]]);
     }
     for (made, files) in pairs::edge_triples() {
         let [a, b, c] = files.each_ref().map(|lib| File::new(lib.bytes()));

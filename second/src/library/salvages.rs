@@ -4,7 +4,8 @@
 use super::cases::{noise, Asked};
 use super::links::{lent, short, wide};
 use super::{Program, Salvaged, Session, OWN};
-use crate::making::{builder::*, damage, generate, hostile::round, hostile::sharing, rng::Rng};
+use crate::making::hostile::{round, sharing};
+use crate::making::{builder::*, damage, generate, rng::Rng, shape};
 use crate::program::{check::word, refusal, Refusal, ENTRY, MAX_FILE, MAX_INTERFACES};
 use crate::tally::{hash, Came, NUMBER, REFUSAL};
 use std::fmt;
@@ -122,6 +123,7 @@ impl Run<'_> {
         self.law("what is left is accepted", (other.check)(left).is_ok(), file);
         let is_form = (other.normalise)(left, &mut out) == Ok(left.len()) && out == left;
         self.law("it is its own normal form", is_form, file);
+        self.law("it has each name once", shape::uses(left).is_some(), file);
         let again = call(&other, left, [MAX_INTERFACES; 3], left.len());
         self.law("it comes out as it is", again.answer == Ok((left.len(), 0)), file);
         let is_accepted = (other.check)(file).is_ok();
@@ -224,14 +226,15 @@ pub fn run(session: &mut Session) {
     for count in [1, 2, 3, 40, MAX_INTERFACES - 1, MAX_INTERFACES] {
         run.file("one cycle", &round(count).bytes());
     }
-    // A normal form over the greatest size: descriptors of 100 entries, one bad, that were one's.
+    // A normal form about the greatest size: descriptors of many entries, one bad, that were one's. 127
+    // are not too long, 128 are.
     let d = Descriptor::of(vec![Method::plain(0, b"m"); MAX_METHODS]);
-    for bad in 0..3 {
-        let built = sharing(150 + bad, d.clone()).build();
+    for (bad, count) in [127, 128, 129, 130, 150].into_iter().enumerate() {
+        let built = sharing(count, d.clone()).build();
         let mut bytes = built.bytes.clone();
         let field = built.entry(bad) + 24;
         bytes[field..field + 4].fill(0xff);
-        run.file("over the greatest size", &bytes);
+        run.file("about the greatest size", &bytes);
     }
     let mut counter = run.rng.below(97);
     damage::everything(seed, &mut |made| {

@@ -29,6 +29,7 @@ pub fn good(rng: &mut Rng) -> Vec<u8> {
         6..9 => generate::random(rng, generate::MEDIUM).bytes(),
         9 => generate::random(rng, generate::LARGE).bytes(),
         10 => pairs::empty(rng).bytes(),
+        11..14 => generate::one_stock(rng).bytes(),
         _ => generate::family(rng).bytes(),
     }
 }
@@ -577,6 +578,7 @@ pub fn large(rng: &mut Rng) -> Vec<Named> {
         ("of a long listing", hostile::long_listing(8)),
         ("of a normal form of 1,048,576", pairs::of_normal_length(MAX_FILE, 'd').bytes()),
         ("of a normal form of 1,048,577", pairs::of_normal_length(MAX_FILE + 1, 'c').bytes()),
+        ("of a longer normal form", pairs::of_normal_length(MAX_FILE + 90_000, 'c').bytes()),
     ]);
     files
 }

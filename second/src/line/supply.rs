@@ -20,7 +20,7 @@ impl Supply {
         let rng = &mut Rng::new(seed);
         let mut checked = sampled(seed);
         rng.shuffle(&mut checked);
-        let mut made = [pairs::wide(rng), pairs::long()].concat();
+        let mut made = [pairs::wide(rng), pairs::long(), pairs::ends()].concat();
         rng.shuffle(&mut made);
         let pair = |(_, files): pairs::Pair| {
             let files = files.map(|lib| Bytes::from(lib.bytes()));

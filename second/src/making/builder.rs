@@ -24,7 +24,7 @@ impl Entry {
         Entry { iid, name: name.into(), namespace: None, descriptor: None }
     }
 
-    fn names(&self) -> Vec<&[u8]> {
+    pub fn names(&self) -> Vec<&[u8]> {
         [&self.name].into_iter().chain(&self.namespace).map(|name| &name[..]).collect()
     }
 

@@ -326,17 +326,50 @@ fn near_words(rng: &mut Rng) -> Vec<Vec<u8>> {
     words
 }
 
+/// Words of which most are tails of others.
+fn tails(rng: &mut Rng) -> Vec<Vec<u8>> {
+    let letter = |rng: &mut Rng| match rng.percent(85) {
+        true => char::from(*rng.pick(LETTERS)),
+        false => *rng.pick(CHARACTERS),
+    };
+    let word: Vec<char> = (0..rng.range(4, 7)).map(|_| letter(rng)).collect();
+    let start = &word[..word.len() - 1];
+    let parts = (0..word.len()).map(|from| &word[from..]).chain([start]);
+    let mut words: Vec<_> = parts.map(|part| String::from_iter(part).into_bytes()).collect();
+    words.retain(|word| word != b"-");
+    if rng.percent(20) {
+        let long = vec![b'x'; MAX_IDENTIFIER];
+        words.extend([long[1..].to_vec(), long]);
+    }
+    words
+}
+
 /// Interfaces that inherit from one another over several levels, with few words for the names of
 /// all methods and constants; chains that end and chains that meet an unresolved entry.
 pub fn family(rng: &mut Rng) -> Typelib {
+    family_of(rng, |rng| {
+        let words = [near_words(rng), near_words(rng)].concat();
+        [words, near_words(rng), near_words(rng)]
+    })
+}
+
+/// As a family, with the same few words for names of every role, most of them tails of others.
+pub fn one_stock(rng: &mut Rng) -> Typelib {
+    family_of(rng, |rng| {
+        let words = tails(rng);
+        [words.clone(), words.clone(), words]
+    })
+}
+
+/// The words are for methods and constants, for the names of interfaces and for namespaces.
+fn family_of(rng: &mut Rng, words: fn(&mut Rng) -> [Vec<Vec<u8>>; 3]) -> Typelib {
     let size = Size { entries: 0, methods: 4, arguments: 2, constants: 3, name: 6 };
     let minor = minor(rng);
     let n = rng.range(1, 16);
     let zeros = if rng.percent(60) { 0 } else { rng.range(0, n / 2) };
     let incomplete = if rng.percent(40) { 0 } else { 25 };
     let mut lib = layout(rng, minor);
-    let words = [near_words(rng), near_words(rng)].concat();
-    let (names, spaces) = (near_words(rng), near_words(rng));
+    let [words, names, spaces] = words(rng);
 
     let key = |rng: &mut Rng| {
         let namespace = rng.percent(60).then(|| rng.pick(&spaces).clone());
@@ -514,9 +547,10 @@ pub fn chain(count: usize, upward: bool) -> Typelib {
 
 /// A file of which descriptors are bad, some entries' own, and parents lead anywhere.
 pub fn wrecked(rng: &mut Rng) -> Vec<u8> {
-    let lib = match rng.below(3) {
+    let lib = match rng.below(4) {
         0 => random(rng, MEDIUM),
         1 => wide(rng, 40),
+        2 => one_stock(rng),
         _ => family(rng),
     };
     let lib = Typelib { sharing: Sharing::None, ..lib };

@@ -23,6 +23,9 @@ pub fn cases() -> Vec<Case> {
         ("g: an ordinary file", ordinary()),
         ("h: descriptors that overlap, accessors", overlapping(false).bytes),
         ("i: 240,000 references to a key of 510 bytes", shared_descriptor(true).bytes),
+        ("n: 71,680 uses of 2,000 names with a long common start", near_stock(70, 2_000).bytes()),
+        ("o: 148,480 uses of four names with a long common start", near_stock(145, 4).bytes()),
+        ("p: 94,208 names, each used once", many_names()),
     ];
     let case = |(name, bytes): (&'static str, Vec<u8>)| {
         let n = usize::from(u16::from_be_bytes([bytes[18], bytes[19]]));
@@ -185,22 +188,50 @@ fn near_keys(namespace: usize) -> Typelib {
     lib
 }
 
+/// Entries with as many constants as can be.
+fn of_constants(count: usize, name: impl Fn(usize) -> Vec<u8>) -> Typelib {
+    let mut lib = Typelib { sharing: Sharing::Equal, ..Typelib::plain(count) };
+    for i in 0..count {
+        let numbers = MAX_CONSTANTS * i..MAX_CONSTANTS * (i + 1);
+        let constants = numbers.map(|number| Constant::new(&name(number), 1, 7)).collect();
+        lib.resolve(i, Descriptor { constants, ..Descriptor::default() });
+    }
+    lib
+}
+
+/// (n) and (o) Names with 253 letters in common, used in turns: as many as there is room for beside
+/// half of the uses, and few with as many uses as can be.
+fn near_stock(count: usize, names: usize) -> Typelib {
+    of_constants(count, |number| long_name(number % names))
+}
+
+/// (p) About as many different names as a normal form can have.
+fn many_names() -> Vec<u8> {
+    let letter = |number: usize| LETTERS[number % 63];
+    of_constants(92, |number| [number / 63 / 63, number / 63, number].map(letter).to_vec()).bytes()
+}
+
 /// Two good files that are hard on a link, with what is hard about them.
-pub fn linked() -> [(&'static str, [Vec<u8>; 2]); 2] {
+pub fn linked() -> [(&'static str, [Vec<u8>; 2]); 3] {
     // As many entries as can be, none in common: nothing before 25 ends the link.
     let mut others = near_keys(1);
     for (i, entry) in others.entries.iter_mut().enumerate() {
         entry.iid = iid((MAX_INTERFACES + i + 1) as u64);
     }
-    // Every step up leads from what one file resolves to what the other does.
-    let half = |left_out: usize| {
-        let mut lib = chain(MAX_INTERFACES, true);
-        lib.entries.iter_mut().skip(left_out).step_by(2).for_each(|entry| entry.descriptor = None);
-        lib.bytes()
+    // Each resolves every other entry.
+    let halves = |lib: Typelib| {
+        [1, 0].map(|left_out| {
+            let mut lib = lib.clone();
+            let others = lib.entries.iter_mut().skip(left_out).step_by(2);
+            others.for_each(|entry| entry.descriptor = None);
+            lib.bytes()
+        })
     };
     [
         ("j: 2,048 keys with a long common start", [near_keys(0).bytes(), others.bytes()]),
-        ("k: a chain of 1,024 parents, in turns", [half(1), half(0)]),
+        // Every step up leads from what one file resolves to what the other does.
+        ("k: a chain of 1,024 parents, in turns", halves(chain(MAX_INTERFACES, true))),
+        ("q: 71,680 uses of 2,000 names, in turns", halves(near_stock(70, 2_000))),
     ]
 }
 

@@ -62,6 +62,13 @@ fn parameter(take: &mut impl FnMut(usize) -> usize) -> Parameter {
     }
 }
 
+/// The normal form of a model that was read from one, by the builder: with each name once, or, as
+/// it was before, with equal names repeated.
+pub fn form(lib: &Typelib, sharing: Sharing) -> Vec<u8> {
+    let pool_gap = if lib.entries.is_empty() { 3 } else { 0 };
+    Typelib { sharing, pool_gap, ..lib.clone() }.bytes()
+}
+
 /// A chain upward: its resolved entries by index, and the unresolved one that ends it, if any.
 pub fn chain(lib: &Typelib, index: usize) -> (Vec<usize>, Option<usize>) {
     let mut resolved = Vec::new();

@@ -1,7 +1,8 @@
 //! Files to be linked. Those of one world agree with one another; then conflicts are put in.
 
+use super::generate::{self, both, index_tail};
 use super::model::{descriptor, index_of, key, least_minor, references, renumbered};
-use super::{builder::*, generate, generate::index_tail, hostile::sharing, rng::Rng};
+use super::{builder::*, hostile::sharing, rng::Rng};
 use crate::program::check::check;
 use crate::tally::numbered;
 use std::collections::HashMap;
@@ -29,9 +30,13 @@ pub fn sorted(lib: &Typelib) -> Typelib {
     reordered(lib, &order)
 }
 
-/// All that the files of one world may hold: every key with its IID and its descriptor.
+/// All that the files of one world may hold: every key with its IID and its descriptor. At times
+/// all names are of one stock.
 pub fn world(rng: &mut Rng) -> Typelib {
-    let mut lib = generate::family(rng);
+    let mut lib = match rng.percent(30) {
+        true => generate::one_stock(rng),
+        false => generate::family(rng),
+    };
     let n = lib.entries.len();
     for d in &mut lib.descriptors {
         for method in &mut d.methods {
@@ -249,10 +254,10 @@ pub fn edge_triples() -> Vec<(&'static str, [Typelib; 3])> {
         ("1,025 entries in the end", [part(0, 600), part(300, 1_000), part(900, 1_025)]),
         ("1,025 entries at once", [part(0, 1_024), part(1_000, 1_025), part(0, 10)]),
     ];
-    // The headers of all but one fall away.
+    // The headers of all but one fall away, and so does the name that the methods of all have.
     let third = MAX_FILE / 3;
     for (over, made) in [(0, "1,048,576 bytes in the end"), (1, "1,048,577 bytes in the end")] {
-        let last = MAX_FILE + over + 2 * 36 - 2 * third;
+        let last = MAX_FILE + over + 2 * (36 + MAX_IDENTIFIER + 1) - 2 * third;
         let long = [(third, 'a'), (third, 'b'), (last, 'c')];
         triples.push((made, long.map(|(length, letter)| of_own_length(length, letter))));
     }
@@ -439,17 +444,18 @@ fn near(name: &[u8]) -> Vec<u8> {
     name.into_bytes()
 }
 
-/// A file whose normal form has this length: entries that share a descriptor, then unresolved
-/// ones whose keys end in the letter.
+/// A file whose normal form has this length: entries that share a descriptor of long methods, all
+/// of one name of the greatest length, then unresolved ones whose keys end in the letter.
 pub fn of_normal_length(length: usize, letter: char) -> Typelib {
-    let methods = vec![Method::plain(0, &[b'm'; MAX_IDENTIFIER]); 300];
-    let d = Descriptor::of(methods);
-    let each = d.size() + 256 * d.methods.len();
-    let count = (length / each).min(12);
-    let mut lib = sharing(count, d);
+    // The last argument is the size of all others.
+    let deep = Type::nested(MAX_ARRAYS, 9, POINTER | SIZED_STRING, [9, 9, 0]);
+    let mut arguments = vec![Parameter::new(IN, deep); 9];
+    arguments.push(Parameter::simple(IN, UINT32));
+    let method = Method::new(0, &[b'm'; MAX_IDENTIFIER], arguments, Parameter::simple(0, VOID));
+    let d = Descriptor::of(vec![method; 300]);
+    let mut lib = sharing((length / d.size()).min(12), d);
     // An unresolved entry takes 29 bytes and its name.
-    let mut missing = length - (36 + lib.entries.iter().map(|e| 29 + e.name.len()).sum::<usize>());
-    missing -= count * each;
+    let mut missing = length - resolved_length(&lib);
     let mut number = u64::from(u32::from(letter)) << 32;
     while missing > 0 {
         let part = match missing {
@@ -463,6 +469,14 @@ pub fn of_normal_length(length: usize, letter: char) -> Typelib {
         missing -= part;
     }
     lib
+}
+
+/// The length of the normal form of such a file's resolved entries.
+fn resolved_length(lib: &Typelib) -> usize {
+    let size = lib.descriptors[0].size();
+    let resolved = lib.entries.iter().filter(|entry| entry.descriptor.is_some());
+    let each = resolved.map(|entry| 29 + entry.name.len() + size);
+    36 + each.sum::<usize>() + MAX_IDENTIFIER + 1
 }
 
 type Two = [Typelib; 2];
@@ -514,9 +528,7 @@ pub fn long() -> Vec<Pair> {
     let mut pairs = Vec::new();
     // Two files that have their resolved entries in common.
     let first = of_normal_length(MAX_FILE - 70_000, 'a');
-    let shared: usize = 36
-        + first.entries[..12].iter().map(|e| 29 + e.name.len()).sum::<usize>()
-        + 12 * (first.descriptors[0].size() + 256 * 300);
+    let shared = resolved_length(&first);
     for over in [-1_000, -1, 0, 1, 2, 3, 284, 900, 40_000] {
         let made = match over {
             ..-1 => "normal form well below the limit",
@@ -542,5 +554,55 @@ pub fn long() -> Vec<Pair> {
     let most = of_normal_length(MAX_FILE, 'd');
     let others = [Typelib::default(), most.clone()];
     pairs.extend(others.map(|other| ("normal form of 1,048,576", [most.clone(), other])));
+    pairs
+}
+
+/// Pairs whose union's normal form ends about the limit in a record of each kind, which the second
+/// file brings. All its other names stand in the first already; in every other pair the first has
+/// all.
+pub fn ends() -> Vec<Pair> {
+    const ENDS: [&str; 5] = [
+        "a name at the limit",
+        "a namespace at the limit",
+        "a descriptor at the limit",
+        "a method's name at the limit",
+        "a constant's name at the limit",
+    ];
+    let first = of_normal_length(MAX_FILE - 200, 'e');
+    let mut pairs = Vec::new();
+    for ((end, made), over) in both(ENDS.into_iter().enumerate(), [-1, 0, 1]) {
+        // Without the entry's own bytes.
+        let left = (200 - ENTRY as isize + over) as usize;
+        let new = |others: usize| vec![b'z'; left - others - 1];
+        let mut entry = Entry::new(u64::MAX, "E0");
+        entry.set_key("E1", "E0");
+        let mut d = Descriptor::default();
+        match end {
+            0 => entry.name = new(0),
+            1 => entry.namespace = Some(new(0)),
+            2 => {
+                // An argument takes two bytes, so that there must be a constant at times.
+                let mut missing = left - d.size();
+                if missing % 2 == 1 {
+                    d.constants.push(Constant::new(b"E2", 1, 7));
+                    missing -= 7;
+                }
+                d.methods.push(Method::plain(0, b"E0"));
+                d.methods[0].arguments = vec![Parameter::simple(IN, UINT32); (missing - 8) / 2];
+            }
+            3 => d.methods.push(Method::plain(0, &new(d.size() + 8))),
+            _ => d.constants.push(Constant::new(&new(d.size() + 7), 1, 7)),
+        }
+        let with = |mut lib: Typelib| {
+            lib.entries.push(entry.clone());
+            if end > 1 {
+                lib.resolve(lib.entries.len() - 1, d.clone());
+            }
+            lib
+        };
+        let second = with(Typelib::default());
+        pairs.push((made, [first.clone(), second.clone()]));
+        pairs.push((made, [with(first.clone()), second]));
+    }
     pairs
 }

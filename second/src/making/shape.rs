@@ -191,6 +191,72 @@ fn overlap(records: &[&Record]) -> bool {
     records.windows(2).any(|pair| pair[0].to > pair[1].from)
 }
 
+/// By roles: names of interfaces, namespaces, names of methods and of constants.
+const FIRST: [&str; 4] =
+    ["first a name", "first a namespace", "first a method", "first a constant"];
+const THEN: [&str; 4] = ["then a name", "then a namespace", "then a method", "then a constant"];
+
+/// The roles in which identifiers of a normal form are used first and then again. Nothing where its
+/// pool is not as it must be: records one after another in the order of their first use, each
+/// identifier once.
+pub fn uses(form: &[u8]) -> Option<BTreeSet<(&'static str, &'static str)>> {
+    let lib = accept(form).ok()?;
+    let mut stock = Stock { end: lib.pool, ..Stock::default() };
+    for index in 1..=lib.n {
+        let entry = lib.directory + ENTRY * (index - 1);
+        let pointers = [16, 20].map(|at| word(form, entry + at)).into_iter().enumerate();
+        let keys: Vec<_> = pointers.filter(|(_, p)| *p > 0).collect();
+        let mut is_so = keys.into_iter().all(|(role, p)| stock.is_so(&lib, role, lib.pool + p - 1));
+        if let Some(start) = lib.descriptor(index) {
+            let mut walk = lib.walk(start);
+            let mut names: Vec<_> = (0..walk.pair()).map(|_| (2, walk.method().1)).collect();
+            names.extend((0..walk.pair()).map(|_| (3, walk.constant().0)));
+            is_so &= start == stock.end;
+            stock.end = walk.at + 1;
+            is_so &= names.into_iter().all(|(role, place)| stock.is_so(&lib, role, place));
+        }
+        if !is_so {
+            return None;
+        }
+    }
+    (stock.end == form.len()).then_some(stock.again)
+}
+
+/// What was met of a pool.
+#[derive(Default)]
+struct Stock<'a> {
+    /// Where the records end.
+    end: usize,
+    /// Where each identifier stands, and the role in which it was used first.
+    met: HashMap<&'a [u8], (usize, usize)>,
+    again: BTreeSet<(&'static str, &'static str)>,
+}
+
+impl<'a> Stock<'a> {
+    /// Whether an identifier that is used stands where it was used first, or, if it is new, behind
+    /// all before it.
+    fn is_so(&mut self, lib: &Accepted<'a>, role: usize, place: usize) -> bool {
+        let name = lib.walk(place).identifier(place);
+        if let Some((stands, first)) = self.met.get(name) {
+            self.again.insert((FIRST[*first], THEN[role]));
+            return *stands == place;
+        }
+        self.met.insert(name, (place, role));
+        self.end += name.len() + 1;
+        self.end == place + name.len() + 1
+    }
+}
+
+/// The names and namespaces of a file's keys.
+fn in_keys(lib: &Typelib) -> HashSet<&[u8]> {
+    lib.entries.iter().flat_map(Entry::names).collect()
+}
+
+/// The names of its methods and constants.
+fn in_descriptors(lib: &Typelib) -> HashSet<&[u8]> {
+    lib.descriptors.iter().flat_map(Descriptor::names).collect()
+}
+
 /// What two accepted files that link have to do with each other.
 pub fn between(first: &Typelib, second: &Typelib) -> Vec<&'static str> {
     let mut all = Shapes::default();
@@ -209,6 +275,9 @@ pub fn between(first: &Typelib, second: &Typelib) -> Vec<&'static str> {
     let has = |lib: &Typelib| model::least_minor(lib) == 2;
     all.add(has(first) != has(second), "tags of minor 2 in one file");
     all.add(has(first) && has(second), "tags of minor 2 in both files");
+    let [(a, c), (b, d)] = [first, second].map(|lib| (in_keys(lib), in_descriptors(lib)));
+    all.add(!c.is_disjoint(&d), "a method or constant named alike");
+    all.add(!a.is_disjoint(&d) || !b.is_disjoint(&c), "a name in other roles");
     all.add(common == 0 && n > 0 && m > 0, "no key in common");
     all.add(common > 0 && common < n && common < m, "keys in one file only, and in both");
     for index in 1..=n {

@@ -2,8 +2,9 @@
 
 use super::accepted::{pair, Accepted, Key};
 use super::check::accept;
-use super::format::{refusal, refused, Refusal, ENTRY, MAGIC, MAX_FILE};
+use super::format::{refusal, refuse_if, refused, Refusal, ENTRY, MAGIC, MAX_FILE};
 use super::Answer;
+use std::collections::HashMap;
 
 /// Writes the normal form and gives its length; the rest of the buffer keeps its bytes, on a
 /// refusal all of it.
@@ -51,124 +52,88 @@ pub(crate) struct Item<'a> {
 const DIRECTORY: usize = 36;
 
 /// Writes the normal form of these entries, which come in order: 26, then 27.
-pub(crate) fn write(sources: &[Source], items: &[Item], out: &mut [u8]) -> Answer {
-    let n = items.len();
-    let pool = DIRECTORY + ENTRY * n;
-    let Some((length, sizes, minor)) = lengths(sources, items, pool) else {
-        return refused(refusal::FORM_SIZE, 0);
-    };
+pub(crate) fn write<'a>(sources: &[Source<'_, 'a>], items: &[Item<'a>], out: &mut [u8]) -> Answer {
+    let head = DIRECTORY + ENTRY * items.len();
+    let mut directory = Vec::with_capacity(ENTRY * items.len());
+    let mut pool = Pool::default();
+    for item in items {
+        let (namespace, name) = item.key;
+        let name = pool.name(name);
+        let namespace = if namespace.is_empty() { 0 } else { pool.name(namespace) };
+        let put = |(source, start): (usize, usize)| pool.descriptor(&sources[source], start);
+        let descriptor = item.descriptor.map_or(0, put);
+        // Descriptors are never shared: up to here little is read, however much the sources share.
+        refuse_if(head + pool.bytes.len() > MAX_FILE, refusal::FORM_SIZE, 0)?;
+        directory.extend(item.iid.to_be_bytes());
+        directory.extend([name, namespace, descriptor].map(u32::to_be_bytes).as_flattened());
+    }
+    let length = head + pool.bytes.len();
     let Some(out) = out.get_mut(..length) else {
         return refused(refusal::BUFFER, length);
     };
-    let (head, pool_bytes) = out.split_at_mut(pool);
-    let (header, directory) = head.split_at_mut(DIRECTORY);
-    let words = [length, if n == 0 { 0 } else { DIRECTORY }, pool].map(|word| word as u32);
-    header[..18].copy_from_slice(&[&MAGIC[..], &[1, minor]].concat());
-    header[18..20].copy_from_slice(&(n as u16).to_be_bytes());
-    header[20..32].copy_from_slice(words.map(u32::to_be_bytes).as_flattened());
-    header[32..].copy_from_slice(&[0x80, 0, 0, 0]);
-    let mut writer = Writer { bytes: pool_bytes, at: 0 };
-    let mut sizes = sizes.into_iter();
-    for (item, entry) in items.iter().zip(directory.chunks_exact_mut(ENTRY)) {
-        let (namespace, name) = item.key;
-        let name = writer.name(name);
-        let namespace = if namespace.is_empty() { 0 } else { writer.name(namespace) };
-        let descriptor = item.descriptor.zip(sizes.next()).map_or(0, |((source, start), size)| {
-            writer.descriptor(&sources[source], start, size as usize)
-        });
-        entry[..16].copy_from_slice(&item.iid.to_be_bytes());
-        for (field, pointer) in entry[16..].chunks_exact_mut(4).zip([name, namespace, descriptor]) {
-            field.copy_from_slice(&pointer.to_be_bytes());
-        }
-    }
+    let count = (items.len() as u16).to_be_bytes();
+    let words = [length, if items.is_empty() { 0 } else { DIRECTORY }, head];
+    let words = words.map(|word| (word as u32).to_be_bytes());
+    let minor = 1 + u8::from(pool.has_newer);
+    let header = [&MAGIC[..], &[1, minor], &count, words.as_flattened(), &[0x80, 0, 0, 0]];
+    let (before_pool, rest) = out.split_at_mut(head);
+    before_pool.copy_from_slice(&[header.concat(), directory].concat());
+    rest.copy_from_slice(&pool.bytes);
     Ok(length)
 }
 
-/// The length of the whole, the bytes of each entry's descriptor without its names (0 where there
-/// is none), and the minor version that is needed, 1 or 2; nothing if it is over the limit. As nothing is shared in a normal form, what
-/// is read up to there is little, however much the sources share.
-fn lengths(sources: &[Source], items: &[Item], pool: usize) -> Option<(usize, Vec<u32>, u8)> {
-    let mut length = pool;
-    let mut sizes = Vec::with_capacity(items.len());
-    let mut minor = 1;
-    for item in items {
-        let (namespace, name) = item.key;
-        length += name.len() + 1;
-        if !namespace.is_empty() {
-            length += namespace.len() + 1;
-        }
-        let mut size = 0;
-        if let Some((source, start)) = item.descriptor {
-            let mut names = 0;
-            let mut walk = sources[source].lib.walk(start);
-            for _ in 0..walk.pair() {
-                let (_, name, _) = walk.method();
-                names += walk.identifier(name).len() + 1;
-            }
-            for _ in 0..walk.pair() {
-                let (name, ..) = walk.constant();
-                names += walk.identifier(name).len() + 1;
-            }
-            size = walk.at + 1 - start;
-            minor = if walk.has_newer { 2 } else { minor };
-            length += size + names;
-        }
-        if length > MAX_FILE {
-            return None;
-        }
-        sizes.push(size as u32);
-    }
-    Some((length, sizes, minor))
+/// A pool, whose records stand one after another: descriptors, and each identifier once.
+#[derive(Default)]
+struct Pool<'a> {
+    bytes: Vec<u8>,
+    /// The pointers to the identifiers that are there, in whatever role they were used first.
+    stock: HashMap<&'a [u8], u32>,
+    /// Whether a tag of minor 2 is there.
+    has_newer: bool,
 }
 
-/// Writes records into a pool, one after another.
-struct Writer<'o> {
-    bytes: &'o mut [u8],
-    at: usize,
-}
-
-impl Writer<'_> {
-    /// Gives the pointer to the name.
-    fn name(&mut self, name: &[u8]) -> u32 {
-        let at = self.at;
-        let end = at + name.len();
-        self.bytes[at..end].copy_from_slice(name);
-        self.bytes[end] = 0;
-        self.at = end + 1;
-        at as u32 + 1
+impl<'a> Pool<'a> {
+    /// The pointer to an identifier, which is put at the end where this is its first use.
+    fn name(&mut self, name: &'a [u8]) -> u32 {
+        let Pool { bytes, stock, .. } = self;
+        *stock.entry(name).or_insert_with(|| {
+            let pointer = bytes.len() as u32 + 1;
+            bytes.extend_from_slice(name);
+            bytes.push(0);
+            pointer
+        })
     }
 
-    /// Gives the pointer to the descriptor.
-    fn descriptor(&mut self, source: &Source, start: usize, size: usize) -> u32 {
-        let at = self.at;
-        let lib = source.lib;
-        // All bytes as they are; then other pointers and indexes over them.
-        self.bytes[at..at + size].copy_from_slice(&lib.file[start..start + size]);
-        self.at += size;
-        let renumbered = |index: u16| source.renumbered[usize::from(index)].to_be_bytes();
-        self.bytes[at..at + 2].copy_from_slice(&renumbered(pair(lib.file, start)));
+    /// The pointer to a descriptor, which is put at the end; then those of its names that are new:
+    /// of methods, then of constants.
+    fn descriptor(&mut self, source: &Source<'_, 'a>, start: usize) -> u32 {
+        let Source { lib, renumbered } = source;
+        // Where names and indexes stand in the source, with the places of the names and the indexes.
+        let mut names = Vec::new();
+        let mut references = vec![(start, pair(lib.file, start))];
         let mut walk = lib.walk(start);
-        // From a place in the source to the place here.
-        let here = |place: usize| place - start + at;
         for _ in 0..walk.pair() {
             walk.at += 1;
-            let field = here(walk.at);
-            let name = walk.pointer();
-            let pointer = self.name(walk.identifier(name));
-            self.bytes[field..field + 4].copy_from_slice(&pointer.to_be_bytes());
+            names.push((walk.at, walk.pointer()));
             for _ in 0..=walk.byte() {
                 walk.at += 1;
-                if let Some((field, index)) = walk.reference() {
-                    let field = here(field);
-                    self.bytes[field..field + 2].copy_from_slice(&renumbered(index));
-                }
+                references.extend(walk.reference());
             }
         }
         for _ in 0..walk.pair() {
-            let field = here(walk.at);
-            let (name, ..) = walk.constant();
-            let pointer = self.name(walk.identifier(name));
-            self.bytes[field..field + 4].copy_from_slice(&pointer.to_be_bytes());
+            names.push((walk.at, walk.constant().0));
+        }
+        self.has_newer |= walk.has_newer;
+        // All bytes as they are; then other indexes and pointers over them.
+        let at = self.bytes.len();
+        self.bytes.extend_from_slice(&lib.file[start..=walk.at]);
+        for (field, index) in references {
+            let index = renumbered[usize::from(index)].to_be_bytes();
+            self.bytes[field - start + at..][..2].copy_from_slice(&index);
+        }
+        for (field, place) in names {
+            let pointer = self.name(walk.identifier(place)).to_be_bytes();
+            self.bytes[field - start + at..][..4].copy_from_slice(&pointer);
         }
         at as u32 + 1
     }

@@ -44,7 +44,6 @@ pub put-constant-spec : {M : Type 1} → statement M
 put-constant-spec =
     tie.close
     (tie.spec
-    (λ c. search needs)
     put-u32-requires
     add-copy
     value-size-requires

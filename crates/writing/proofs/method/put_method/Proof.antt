@@ -56,7 +56,7 @@ add-w : tie.Need-add-w
 add-w c =
     let known = c .before .before .before .before .before .before .before .before .before .before .before .before .before .before .before .before .before .before .before .pre in
     let r = laws.result-room _ _ _ _ (known .0) _ (c .before .before .before .before .argument-count .ensures) _ _ _ _ (c .before .before .put-params .ensures) in
-    omega (arith, param-room _ _ _ _ (r .1) .0, known .1 .1 .0)
+    omega (arith, param-room _ _ _ _ (r .1) .0, known .1 .0)
 
 add-put-param : tie.Need-add-put-param
 add-put-param c =
@@ -79,7 +79,7 @@ put-param-requires c κs =
     let l3 = back (c .before .before .before .before .before .before .before .before .before .before .before .before .put-u32 .last .0) 5 (c .before .before .before .before .before .before .before .before .copy2 .last .1 .1 .1 .0) in
     let put-params = c .before .before .before .put-params in
     let r = laws.result-room _ _ _ _ (known .0) _ (c .before .before .before .before .before .argument-count .ensures) _ _ _ _ (put-params .ensures) in
-    (room-lent (back l3 6 (put-params .last .1 .1 .1 .1 .1 .0)) (6 + put-params .result) (omega arith) (r .1), (known .1 .1 .0, known .1 .1 .1))
+    (room-lent (back l3 6 (put-params .last .1 .1 .1 .1 .1 .0)) (6 + put-params .result) (omega arith) (r .1), (known .1 .0, known .1 .1))
 
 add-result : tie.Need-add-result
 add-result c =
@@ -104,7 +104,6 @@ put-method-spec =
     tie.close
     (tie.spec
     copy-requires
-    (λ c. search needs)
     put-u32-requires
     add-copy
     sub-copy

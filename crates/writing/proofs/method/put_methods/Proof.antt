@@ -1,72 +1,47 @@
 -- `writing::method::put_methods` meets its contract.
 -- Assumes nothing.
-use Rattle.number.proofs.Tools.{needs, arith, refl, _+_, _-_, _*_, _≤_}
+use Rattle.number.proofs.Tools.{needs, arith, ℕ, _-_}
+use Rattle.iids.specs.Cells.{cell}
 use Rattle.reader.specs.Records.{ShowsMethod}
-use Rattle.normal.specs.Record.{methodsBytes}
+use Rattle.normal.specs.Size.{methodSize}
+use Rattle.normal.specs.Record.{methodBytes}
+use Rattle.stock.specs.Form.{methodsWith}
 use Rattle.writing.specs.Source.{Known, MethodFit, renumber}
-use Rattle.writing.proofs.Sources.{room-stands, less-stands}
 use Rattle.writing.proofs.Methods as laws
 use Rattle.writing.proofs.Turns as turns
 use Rattle.writing.proofs.method.put_methods.Statement.{statement}
 use Rattle.writing.proofs.method.put_methods.Tie as tie
 
 abbrev Inv-loop : tie.InvT-loop
-Inv-loop pool n at q place shift out₀ k₀ w₀ name₀ out k w name = turns.Writing (Known (ShowsMethod pool) (MethodFit shift)) (methodsBytes (renumber place shift)) n at q out₀ k (at + w) name w out × (name ≤ q + 256 * k)
+Inv-loop pool n at u places place shift out₀ k₀ w₀ out k w = turns.Writing (Known (ShowsMethod pool) (MethodFit shift)) (λ (j : ℕ). methodBytes (renumber place shift) (cell places j)) (methodsWith (renumber place shift) (cell places)) methodSize n at u out₀ k w out
 
 abbrev μ-loop : tie.MeasureT-loop
-μ-loop pool n at q place shift out₀ k₀ w₀ name₀ out k w name = n - k
+μ-loop pool n at u places place shift out₀ k₀ w₀ out k w = n - k
 
 loop-holds : tie.Need-loop-holds Inv-loop μ-loop
-loop-holds c =
-    let a = c .before .before .args in
-    (turns.writing-start (laws.methods-how (renumber (a .place .now) (a .shift))) (omega arith), omega arith)
+loop-holds c = turns.writing-start (laws.methods-how _ _ _ _) (c .before .before .pre .0)
 
-add-p : tie.Need-add-p Inv-loop μ-loop
-add-p c =
-    let start = c .before .before .before .before in
-    omega (arith, laws.method-front _ _ _ _ (turns.writing-first (laws.methods-how (renumber (start .args .place .now) (start .args .shift))) (c .before .loop .inv .0) (start .pre .0) (omega arith)) .0)
-
-sub-put-method : tie.Need-sub-put-method Inv-loop μ-loop
-sub-put-method c =
-    let start = c .before .before .before .before in
-    turns.writing-within (laws.methods-how (renumber (start .args .place .now) (start .args .shift))) (c .before .loop .inv .0) (start .pre .0)
-
-part-put-method-start : tie.Need-part-put-method-start Inv-loop μ-loop
-part-put-method-start c =
-    let start = c .before .before .before .before in
-    turns.writing-within (laws.methods-how (renumber (start .args .place .now) (start .args .shift))) (c .before .loop .inv .0) (start .pre .0)
+add-put-method : tie.Need-add-put-method Inv-loop μ-loop
+add-put-method c = omega (arith, laws.method-front _ _ _ _ (turns.writing-first (c .before .before .loop .inv) (omega arith)) .0)
 
 put-method-requires : tie.Need-put-method-requires Inv-loop μ-loop
-put-method-requires c κs =
-    let start = c .before .before .before .before .before in
-    (turns.writing-first (laws.methods-how (renumber (start .args .place .now) (start .args .shift))) (c .before .before .loop .inv .0) (start .pre .0) (omega arith), (omega arith, (omega arith, omega arith)))
+put-method-requires c κs = (turns.writing-first (c .before .before .before .loop .inv) (omega arith), (omega arith, omega arith))
 
 add-w : tie.Need-add-w Inv-loop μ-loop
+unfolding cell
 add-w c =
-    let start = c .before .before .before .before .before .before .before .before in
-    let loop = c .before .before .before .before .before .loop in
-    omega (arith, turns.writing-sum (laws.methods-how (renumber (start .args .place .now) (start .args .shift))) (loop .inv .0) (start .pre .0) (omega arith) (c .before .before .put-method .ensures), turns.writing-kept (laws.methods-how (renumber (start .args .place .now) (start .args .shift))) (loop .inv .0) (start .pre .0))
-
-method-name-size-requires : tie.Need-method-name-size-requires Inv-loop μ-loop
-method-name-size-requires c κs =
-    let start = c .before .before .before .before .before .before .before .before in
-    (less-stands (MethodFit (start .args .shift)) (λ x f. f .0) (room-stands (turns.writing-first (laws.methods-how (renumber (start .args .place .now) (start .args .shift))) (c .before .before .before .before .before .loop .inv .0) (start .pre .0) (omega arith))), omega arith)
+    let p = c .before .before .put-method in
+    let v = turns.writing-next (c .before .before .before .before .before .before .loop .inv) (omega arith) (p .last .1 .1 .1 .1 .1 .0) (p .ensures) in
+    omega (arith, v .within, v .kept)
 
 loop-again : tie.Need-loop-again Inv-loop μ-loop
+unfolding cell
 loop-again c =
-    let a = c .before .before .before .before .before .before .before .before .before .args in
-    let p = c .before .before .before .put-method in
-    (turns.writing-next (laws.methods-how (renumber (a .place .now) (a .shift))) (c .before .before .before .before .before .before .loop .inv .0) (omega arith) (p .last .1 .1 .1 .1 .1 .0) _ _ _ _ (p .ensures) (laws.method-wrote-ends _ (renumber (a .place .now) (a .shift)) _ _ (p .ensures) (omega arith)) (laws.next-method-name _ _ (c .method-name-size .ensures .0)) refl, omega arith)
-
-same-length : tie.Need-same-length Inv-loop μ-loop
-same-length c =
-    let start = c .before .before .before .before in
-    turns.writing-kept (laws.methods-how (renumber (start .args .place .now) (start .args .shift))) (c .before .loop .inv .0) (start .pre .0)
+    let p = c .before .before .put-method in
+    turns.writing-next (c .before .before .before .before .before .before .loop .inv) (omega arith) (p .last .1 .1 .1 .1 .1 .0) (p .ensures)
 
 returns : tie.Need-returns Inv-loop μ-loop
-returns c =
-    let a = c .before .before .before .before .args in
-    turns.writing-done (laws.methods-how (renumber (a .place .now) (a .shift))) (c .before .loop .inv .0) (omega arith)
+returns c = turns.writing-done (c .before .loop .inv) (omega arith)
 
 pub put-methods-spec : {M : Type 1} → statement M
 put-methods-spec =
@@ -75,16 +50,17 @@ put-methods-spec =
     Inv-loop
     μ-loop
     loop-holds
-    add-p
-    sub-put-method
-    part-put-method-start
+    (λ c. omega arith)
+    (λ c. omega arith)
+    (λ c. omega arith)
+    add-put-method
+    (λ c. c .before .before .loop .inv .within)
+    (λ c. c .before .before .loop .inv .within)
     (λ c. search needs)
     put-method-requires
     add-w
-    method-name-size-requires
-    (λ c. omega arith)
     (λ c. omega arith)
     (λ c. omega arith)
     loop-again
-    same-length
+    (λ c. c .before .loop .inv .kept)
     returns)

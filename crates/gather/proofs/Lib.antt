@@ -1,0 +1,10 @@
+pub mod Words
+pub mod Walks
+pub mod Descriptors
+pub mod Keys
+pub mod Owns
+pub mod Leads
+pub mod Entries
+pub mod Turns
+pub mod Named
+pub mod Views

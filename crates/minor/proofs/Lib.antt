@@ -1,0 +1,3 @@
+pub mod Owns
+pub mod Rows
+pub mod Minors

@@ -1,1 +1,0 @@
-// No code: what the form that stores each name once is of accepted files stands in specs.

@@ -1,0 +1,5 @@
+pub mod Sums
+pub mod Uses
+pub mod Outs
+pub mod Pieces
+pub mod Once

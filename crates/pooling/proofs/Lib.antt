@@ -1,0 +1,4 @@
+pub mod Come
+pub mod Cuts
+pub mod Turns
+pub mod Owns
