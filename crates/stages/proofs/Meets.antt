@@ -22,7 +22,7 @@ use Rattle.facts.specs.Equal.{sameDescriptor}
 use Rattle.facts.proofs.Tests.{same-descriptors}
 use Rattle.normal.proofs.Apart.{refs-in}
 use Rattle.rows.specs.Rows.{keyOfRow, descriptorOfRow, referenceIn}
-use Rattle.iids.specs.Cells.{cell}
+use Rattle.iids.specs.Cells.{cell, AtMost}
 use Rattle.tables.proofs.MateLaws.{mates-across}
 use Rattle.bridge.specs.Written.{keyMeant, meantOf, differing, twoMeanings}
 use Rattle.bridge.proofs.Rows.{row-first, row-second, reference-first, reference-second}
@@ -106,6 +106,12 @@ module _ (s pool : List ℕ) (l : Layout) (s2 pool2 : List ℕ) (l2 : Layout) (f
 
   abbrev Two : ℕ → Pair → Bool
   Two i x = twoMeanings (x .first) (x .second) (cell mates) i
+
+  pub mates-most : Known Both Meet → {i : ℕ} → i < l .count → Given Both → AtMost mates i 2048
+  mates-most m {i} low g =
+      let x = g .value in
+      let a = mates-across (keyOfRow (x .first) (x .second)) (l .count) N mates (m .each x (g .shown) .paired) in
+      record { each = λ r b. omega (arith, a .high r (omega arith), given-few g) }
 
   module _ (m : Known Both Meet) {i k : ℕ} (low : i < l .count) (e : k ≡ getD mates i 0) where
     -- a row without a mate
