@@ -124,6 +124,9 @@ module _ (s t : List ℕ) (b p q : ℕ) (r : Ready s t (HasType s 0) (HasType t 
   pub both-here : (p < length s) × (q < length t)
   both-here = (type-here s 0 p (r .one), type-here t b q (r .two))
 
+  pub both-few : (p < 1048576) × (q < 1048576)
+  both-few = omega (arith, r .small, r .small-other, both-here)
+
   module _ (e : getD s p 0 ≡ getD t q 0) (f : Form) (l : formOf (getD s p 0) ≡ f) where
     one : Seen s 0 p (r .one .value) (r .one .end) f
     one = seen s 0 p f l (r .one .value) (r .one .end) (r .one .shown)
@@ -288,3 +291,18 @@ module _ (s t : List ℕ) (a b : ℕ) (g h : ℕ → ℕ) (p q : ℕ) where
       go (param f x) i m (param k y) j n =
           let z : f ≡ k = sym (m .shown .0 .value) ∙ e ∙ n .shown .0 .value in
           moved 1 (o .each x i (record { shown = m .shown .1; rows = m .rows }) y j (record { shown = n .shown .1; rows = n .rows })) (λ u l. param (z l) (u l)) (λ u. cc)
+
+-- ---- elements of arrays
+
+module _ (s t : List ℕ) (b : ℕ) (g h : ℕ → ℕ) (p q : ℕ) where
+  -- the types at p and q match as those at i and j do, which are their elements
+  pub record Inner (i j : ℕ) : Type 0 where
+    pub ready : Ready s t (HasType s 0) (HasType t b) i j
+    pub outer : (r : ℕ) → Matches (HasType s 0) (HasType t b) (mapTy g) (mapTy h) i j r → Matches (HasType s 0) (HasType t b) (mapTy g) (mapTy h) p q r
+
+  pub inner-start : Ready s t (HasType s 0) (HasType t b) p q → Inner p q
+  inner-start r = record { ready = r; outer = λ e m. m }
+
+  pub inner-next : {i j : ℕ} → Inner i j → getD s i 0 ≡ getD t j 0 → formOf (getD s i 0) ≡ Array
+      → (getD s (i + 1) 0 ≡ getD t (j + 1) 0) × (getD s (i + 1 + 1) 0 ≡ getD t (j + 1 + 1) 0) → Inner (i + 3) (j + 3)
+  inner-next {i} {j} v e l f = record { ready = element-both s t b i j (v .ready) e l; outer = λ r m. v .outer r (array-match s t 0 b g h i j e l f r m) }

@@ -85,29 +85,35 @@ fn match_type(
     requires { ⌜ Ready (now pool) (now other) (HasType (now pool) 0) (HasType (now other) n) p q × (rowLimit ≡ length (now first)) ⌝ }
     ensures { λ r. ⌜ TypesMatch (now (pool .entry)) (now (other .entry)) (now (first .entry)) n p q r ⌝ }
 {
-    if pool[p] != other[q] {
-        return 0;
-    }
-    let f = reader::record::form_of(pool[p]);
-    match f {
-        Form::Simple => p + 1,
-        Form::Interface => {
-            let same = same_reference(pool, p + 1, other, q + 1, first, n);
-            end_where(same, p + 3)
+    let mut i = p;
+    let mut j = q;
+    loop {
+        if pool[i] != other[j] {
+            return 0;
         }
-        Form::InterfaceIs => {
-            let same = pool[p + 1] == other[q + 1];
-            end_where(same, p + 2)
-        }
-        Form::Array => {
-            if same_pair(pool, p + 1, other, q + 1) {
-                return match_type(pool, p + 3, other, q + 3, first, n);
+        let f = reader::record::form_of(pool[i]);
+        match f {
+            Form::Simple => return i + 1,
+            Form::Interface => {
+                let same = same_reference(pool, i + 1, other, j + 1, first, n);
+                return end_where(same, i + 3);
             }
-            0
-        }
-        Form::Sized => {
-            let same = same_pair(pool, p + 1, other, q + 1);
-            end_where(same, p + 3)
+            Form::InterfaceIs => {
+                let same = pool[i + 1] == other[j + 1];
+                return end_where(same, i + 2);
+            }
+            Form::Array => {
+                if same_pair(pool, i + 1, other, j + 1) {
+                    i += 3;
+                    j += 3;
+                } else {
+                    return 0;
+                }
+            }
+            Form::Sized => {
+                let same = same_pair(pool, i + 1, other, j + 1);
+                return end_where(same, i + 3);
+            }
         }
     }
 }
