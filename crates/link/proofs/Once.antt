@@ -52,4 +52,4 @@ module _ (a : List ℕ) (A : List (Entry Key)) (m : Means a A) (short : plainLen
   }
 
 pub once-forms : OnceForms
-once-forms = record { exists = shortened; plain = plain-same; shared = λ us u v. shared us u v; grows = normal-grows }
+once-forms = record { exists = shortened; shorter = λ us. omega (arith, length-normal us, length-plain us, once-shorter us); sized = length-plain; plain = plain-same; shared = λ us u v. shared us u v; grows = normal-grows }

@@ -72,6 +72,9 @@ pub record Shortened (a : List ℕ) (A : List (Entry Key)) : Type 0 where
 pub record OnceForms : Type 0 where
   -- Where the plain form exists so does the normal form, which is never longer, and both are accepted files with the same meaning.
   pub exists : (a : List ℕ) (A : List (Entry Key)) → Means a A → plainLength (union A) ≤ fileLimit → Shortened a A
+  -- What is written of any entries, of a file's or of a union's, is never longer than their plain form.
+  pub shorter : (us : List (Entry Key)) → length (normalForm us) ≤ length (plainForm us)
+  pub sized : (us : List (Entry Key)) → length (plainForm us) ≡ plainLength us
   -- The plain form is the file that differs only in what is stored and where uses point.
   pub plain : (us : List (Entry Key)) → fileWith (indexOf (keysOf us)) (plainAt (piecesOf us)) always us ≡ plainForm us
   -- Two uses point to one place exactly when they are of one name.
