@@ -26,6 +26,7 @@ pub fn cases() -> Vec<Case> {
         ("n: 71,680 uses of 2,000 names with a long common start", near_stock(70, 2_000).bytes()),
         ("o: 148,480 uses of four names with a long common start", near_stock(145, 4).bytes()),
         ("p: 94,208 names, each used once", many_names()),
+        ("r: 24,576 names of one sum by powers of 33", one_sum()),
     ];
     let case = |(name, bytes): (&'static str, Vec<u8>)| {
         let n = usize::from(u16::from_be_bytes([bytes[18], bytes[19]]));
@@ -209,6 +210,12 @@ fn near_stock(count: usize, names: usize) -> Typelib {
 fn many_names() -> Vec<u8> {
     let letter = |number: usize| LETTERS[number % 63];
     of_constants(92, |number| [number / 63 / 63, number / 63, number].map(letter).to_vec()).bytes()
+}
+
+/// (r) Names that a common digest takes for one: a letter that is one more, and then one that is 33 less.
+fn one_sum() -> Vec<u8> {
+    let block = |number: usize, bit: usize| if number >> bit & 1 == 0 { *b"Ab" } else { *b"BA" };
+    of_constants(24, |number| (0..15).flat_map(|bit| block(number, bit)).collect()).bytes()
 }
 
 /// Two good files that are hard on a link, with what is hard about them.
