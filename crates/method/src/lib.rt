@@ -1,7 +1,7 @@
 // Reads parameters and methods. Positions are in the pool; places are in the file.
 ghost use mathlib.Core.Bool.{true, false};
 ghost use mathlib.Core.Path.{_≡_};
-ghost use Prim.Native.Nat.{_+_, _≤_};
+ghost use Prim.Native.Nat.{_+_, _*_, _%_, _/_, _≤_, _<_};
 ghost use lib.ListN.{length, take};
 ghost use Rattle.number.specs.Limits.{fileLimit, ownLimit};
 ghost use Rattle.reading.specs.Got.{stepOf, many, Accepted};
@@ -9,7 +9,7 @@ ghost use Rattle.method.specs.Parameter.{readParam};
 ghost use Rattle.method.specs.Numbers.{wrongResult};
 ghost use Rattle.method.specs.Method.{readSignature, readMethod};
 ghost use Rattle.method.specs.Walk.{ruleOf};
-ghost use Rattle.method.specs.Tables.{Held, Noted, Reached};
+ghost use Rattle.method.specs.Tables.{Held, Noted, Reached, Remembered, blockSize, blockCount};
 use crate::params::Signed;
 use crate::walk::Fine;
 use number::OWN_LIMIT;
@@ -38,6 +38,14 @@ const DIPPER: u8 = 0x08;
 
 // The lowest flag that is not reserved, of both.
 const LOWEST: u8 = 0x08;
+
+// Methods that were accepted are remembered, one for each block of the pool.
+const BLOCK_SIZE: usize = 512;
+
+pub const BLOCK_COUNT: usize = 2049;
+
+// The shortest that are: most methods are shorter, and are as soon read.
+const LONG: usize = 48;
 
 // Whether a result breaks the result rule: f are the method's flags, g the result's, b its prefix.
 fn wrong_result(f: u8, g: u8, b: u8) -> bool
@@ -155,7 +163,75 @@ fn read_one(pool: &[u8], c: Context, at: usize, table: &mut [u8; 256]) -> Step
     read_signature(pool, c, at, f, e, table)
 }
 
-// n methods; the tables get their flags and name pointers.
+// How long the method at `at` is, if what is remembered of its block, v, is of it; else 0.
+fn known_length(v: u32, at: usize) -> usize
+    ensures { λ r. ⌜ (blockSize * r ≤ 4294967295) × (0 < r → (v % blockSize ≡ at % blockSize) × (r ≡ v / blockSize)) ⌝ }
+{
+    let w = v as usize;
+    if w % BLOCK_SIZE != at % BLOCK_SIZE {
+        return 0;
+    }
+    w / BLOCK_SIZE
+}
+
+// The same as `read_one`, of a method that descriptors may share: where it is remembered, it is not read again.
+fn read_again(
+    pool: &[u8],
+    c: Context,
+    at: usize,
+    table: &mut [u8; 256],
+    seen: &mut [u32; BLOCK_COUNT],
+) -> Step
+    requires { ⌜ (at ≤ length (now pool)) × (c .base + length (now pool) ≤ fileLimit) × (256 ≡ length (now table)) × Remembered c (now pool) (now seen) × (blockCount ≡ length (now seen)) ⌝ }
+    ensures { λ r. ⌜ (r ≡ stepOf (readMethod c (now (pool .entry)) at)) × (256 ≡ length (now (table .exit))) × Remembered c (now (pool .entry)) (now (seen .exit)) × (blockCount ≡ length (now (seen .exit))) ⌝ }
+{
+    let k = at / BLOCK_SIZE;
+    let v = seen[k];
+    let l = known_length(v, at);
+    if 0 < l {
+        return Step::End(at + l);
+    }
+    let r = read_one(pool, c, at, table);
+    let Step::End(e) = r else {
+        return r;
+    };
+    if e - at < LONG {
+        return Step::End(e);
+    }
+    seen[k] = (at % BLOCK_SIZE + BLOCK_SIZE * (e - at)) as u32;
+    Step::End(e)
+}
+
+// n methods; the tables get their flags and name pointers, and `seen` remembers some of them.
+pub fn read_methods_with(
+    pool: &[u8],
+    c: Context,
+    n: usize,
+    at: usize,
+    flags: &mut [u8; OWN_LIMIT],
+    names: &mut [u32; OWN_LIMIT],
+    seen: &mut [u32; BLOCK_COUNT],
+) -> Step
+    requires { ⌜ (at ≤ length (now pool)) × (c .base + length (now pool) ≤ fileLimit) × (n ≤ ownLimit) × (ownLimit ≡ length (now flags)) × (ownLimit ≡ length (now names)) × Remembered c (now pool) (now seen) × (blockCount ≡ length (now seen)) ⌝ }
+    ensures { λ r. ⌜ Noted c (now (pool .entry)) n at r (now (flags .exit)) (now (names .exit)) × Reached c (now (pool .entry)) n at (now (flags .exit)) (now (names .exit)) (now (flags .entry)) (now (names .entry)) × Remembered c (now (pool .entry)) (now (seen .exit)) × (blockCount ≡ length (now (seen .exit))) ⌝ }
+{
+    let mut table = [0u8; 256];
+    let mut k: usize = 0;
+    let mut p = at;
+    while k < n {
+        let r = read_again(pool, c, p, &mut table, seen);
+        let Step::End(e) = r else {
+            return r;
+        };
+        flags[k] = pool[p];
+        names[k] = number::u32_at(pool, p + 1);
+        p = e;
+        k += 1;
+    }
+    Step::End(p)
+}
+
+// The same where nothing is remembered.
 pub fn read_methods(
     pool: &[u8],
     c: Context,
@@ -167,20 +243,8 @@ pub fn read_methods(
     requires { ⌜ (at ≤ length (now pool)) × (c .base + length (now pool) ≤ fileLimit) × (n ≤ ownLimit) × (ownLimit ≡ length (now flags)) × (ownLimit ≡ length (now names)) ⌝ }
     ensures { λ r. ⌜ Noted c (now (pool .entry)) n at r (now (flags .exit)) (now (names .exit)) × Reached c (now (pool .entry)) n at (now (flags .exit)) (now (names .exit)) (now (flags .entry)) (now (names .entry)) ⌝ }
 {
-    let mut table = [0u8; 256];
-    let mut k: usize = 0;
-    let mut p = at;
-    while k < n {
-        let r = read_one(pool, c, p, &mut table);
-        let Step::End(e) = r else {
-            return r;
-        };
-        flags[k] = pool[p];
-        names[k] = number::u32_at(pool, p + 1);
-        p = e;
-        k += 1;
-    }
-    Step::End(p)
+    let mut seen = [0u32; BLOCK_COUNT];
+    read_methods_with(pool, c, n, at, flags, names, &mut seen)
 }
 
 // One method. The loop above has the only call of `read_one`, which is inlined so.

@@ -6,16 +6,18 @@ ghost use lib.ListN.{length};
 ghost use Rattle.number.specs.Limits.{fileLimit, ownLimit, entryWidth};
 ghost use Rattle.number.specs.Scan.{scan, some};
 ghost use Rattle.reading.specs.Got.{stepOf, many};
+ghost use Rattle.method.specs.Tables.{Remembered, blockCount};
 ghost use Rattle.typelib.specs.Entry.{readOwn};
 ghost use Rattle.typelib.specs.Own.{Settled};
 ghost use Rattle.typelib.specs.Directory.{Lies, pointsTo};
+use method::BLOCK_COUNT;
 use number::ENTRY_WIDTH;
 use number::OWN_LIMIT;
 use reading::Context;
 use reading::Refusal;
 use reading::Step;
 
-// The verdict on the descriptor of the entry at p, with tables for its methods.
+// The verdict on the descriptor of the entry at p, with tables for its methods and of methods that were accepted.
 fn check_with(
     file: &[u8],
     pool: &[u8],
@@ -23,9 +25,10 @@ fn check_with(
     p: usize,
     flags: &mut [u8; OWN_LIMIT],
     names: &mut [u32; OWN_LIMIT],
+    seen: &mut [u32; BLOCK_COUNT],
 ) -> Step
-    requires { ⌜ (p + entryWidth ≤ length (now file)) × (length (now file) ≤ fileLimit) × (c .base + length (now pool) ≤ fileLimit) × (ownLimit ≡ length (now flags)) × (ownLimit ≡ length (now names)) ⌝ }
-    ensures { λ r. ⌜ (r ≡ stepOf (readOwn c (now (file .entry)) (now (pool .entry)) p)) × (ownLimit ≡ length (now (flags .exit))) × (ownLimit ≡ length (now (names .exit))) ⌝ }
+    requires { ⌜ (p + entryWidth ≤ length (now file)) × (length (now file) ≤ fileLimit) × (c .base + length (now pool) ≤ fileLimit) × (ownLimit ≡ length (now flags)) × (ownLimit ≡ length (now names)) × Remembered c (now pool) (now seen) × (blockCount ≡ length (now seen)) ⌝ }
+    ensures { λ r. ⌜ (r ≡ stepOf (readOwn c (now (file .entry)) (now (pool .entry)) p)) × (ownLimit ≡ length (now (flags .exit))) × (ownLimit ≡ length (now (names .exit))) × Remembered c (now (pool .entry)) (now (seen .exit)) × (blockCount ≡ length (now (seen .exit))) ⌝ }
 {
     let q = number::u32_at(file, p + 24) as usize;
     if q == 0 {
@@ -37,7 +40,7 @@ fn check_with(
             place: p + 24,
         });
     }
-    let r = descriptor::read_with(pool, c, q - 1, flags, names);
+    let r = descriptor::read_with(pool, c, q - 1, flags, names, seen);
     let Step::End(e) = r else {
         return r;
     };
@@ -51,7 +54,8 @@ pub fn check_own(file: &[u8], pool: &[u8], c: Context, p: usize) -> Step
 {
     let mut flags = [0u8; OWN_LIMIT];
     let mut names = [0u32; OWN_LIMIT];
-    check_with(file, pool, c, p, &mut flags, &mut names)
+    let mut seen = [0u32; BLOCK_COUNT];
+    check_with(file, pool, c, p, &mut flags, &mut names, &mut seen)
 }
 
 // Whether entry j has the descriptor pointer q.
@@ -99,16 +103,17 @@ fn check_once(
     top: u32,
     flags: &mut [u8; OWN_LIMIT],
     names: &mut [u32; OWN_LIMIT],
+    seen: &mut [u32; BLOCK_COUNT],
 ) -> Step
-    requires { ⌜ Lies (now file) n d × (k < n) × (c .base + length (now pool) ≤ fileLimit) × Settled c (now file) (now pool) d k × (ownLimit ≡ length (now flags)) × (ownLimit ≡ length (now names)) ⌝ }
-    ensures { λ r. ⌜ (r ≡ stepOf (readOwn c (now (file .entry)) (now (pool .entry)) (d + entryWidth * k))) × (ownLimit ≡ length (now (flags .exit))) × (ownLimit ≡ length (now (names .exit))) ⌝ }
+    requires { ⌜ Lies (now file) n d × (k < n) × (c .base + length (now pool) ≤ fileLimit) × Settled c (now file) (now pool) d k × (ownLimit ≡ length (now flags)) × (ownLimit ≡ length (now names)) × Remembered c (now pool) (now seen) × (blockCount ≡ length (now seen)) ⌝ }
+    ensures { λ r. ⌜ (r ≡ stepOf (readOwn c (now (file .entry)) (now (pool .entry)) (d + entryWidth * k))) × (ownLimit ≡ length (now (flags .exit))) × (ownLimit ≡ length (now (names .exit))) × Remembered c (now (pool .entry)) (now (seen .exit)) × (blockCount ≡ length (now (seen .exit))) ⌝ }
 {
     let p = d + ENTRY_WIDTH * k;
     let q = number::u32_at(file, p + 24);
     if stood_earlier(file, n, d, k, q, top) {
         return Step::End(p + ENTRY_WIDTH);
     }
-    check_with(file, pool, c, p, flags, names)
+    check_with(file, pool, c, p, flags, names, seen)
 }
 
 // The higher of `top` and the pointer of entry k.
@@ -132,14 +137,15 @@ fn check_each(
     d: usize,
     flags: &mut [u8; OWN_LIMIT],
     names: &mut [u32; OWN_LIMIT],
+    seen: &mut [u32; BLOCK_COUNT],
 ) -> Step
-    requires { ⌜ Lies (now file) n d × (c .base + length (now pool) ≤ fileLimit) × (ownLimit ≡ length (now flags)) × (ownLimit ≡ length (now names)) ⌝ }
+    requires { ⌜ Lies (now file) n d × (c .base + length (now pool) ≤ fileLimit) × (ownLimit ≡ length (now flags)) × (ownLimit ≡ length (now names)) × Remembered c (now pool) (now seen) × (blockCount ≡ length (now seen)) ⌝ }
     ensures { λ r. ⌜ r ≡ stepOf (many (readOwn c (now (file .entry)) (now (pool .entry))) n d) ⌝ }
 {
     let mut k: usize = 0;
     let mut top: u32 = 0;
     while k < n {
-        let r = check_once(file, pool, c, n, d, k, top, flags, names);
+        let r = check_once(file, pool, c, n, d, k, top, flags, names, seen);
         let Step::End(e) = r else {
             return r;
         };
@@ -156,5 +162,6 @@ pub fn check_descriptors(file: &[u8], pool: &[u8], c: Context, n: usize, d: usiz
 {
     let mut flags = [0u8; OWN_LIMIT];
     let mut names = [0u32; OWN_LIMIT];
-    check_each(file, pool, c, n, d, &mut flags, &mut names)
+    let mut seen = [0u32; BLOCK_COUNT];
+    check_each(file, pool, c, n, d, &mut flags, &mut names, &mut seen)
 }

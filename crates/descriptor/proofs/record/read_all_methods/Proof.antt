@@ -16,7 +16,7 @@ add-t11 c = search needs
 
 returns : tie.Need-returns
 unfolding readCounted
-returns c = tabled-refused _ _ _ _ _ _ _ (field-out _ _ _ _ _ (omega arith)) (omega arith) (omega arith)
+returns c = (tabled-refused _ _ _ _ _ _ _ (field-out _ _ _ _ _ (omega arith)) (omega arith) (omega arith), search needs, omega arith)
 
 u16-at-requires : tie.Need-u16-at-requires
 u16-at-requires c κs = search needs
@@ -29,16 +29,16 @@ add-t14 c = search needs
 
 returns-2 : tie.Need-returns-2
 unfolding readCounted
-returns-2 c = tabled-refused _ _ _ _ _ _ _ (field-in _ _ _ _ _ (omega arith) (is-lt _ _ _ _ (omega arith) (at-bad _ _ _))) (omega arith) (omega arith)
+returns-2 c = (tabled-refused _ _ _ _ _ _ _ (field-in _ _ _ _ _ (omega arith) (is-lt _ _ _ _ (omega arith) (at-bad _ _ _))) (omega arith) (omega arith), search needs, omega arith)
 
-add-read-methods : tie.Need-add-read-methods
-add-read-methods c = search needs
+add-read-methods-with : tie.Need-add-read-methods-with
+add-read-methods-with c = search needs
 
-read-methods-requires : tie.Need-read-methods-requires
-read-methods-requires c κs = search needs
+read-methods-with-requires : tie.Need-read-methods-with-requires
+read-methods-with-requires c κs = search needs
 
 returns-3 : tie.Need-returns-3
-returns-3 c = tabled-noted _ _ _ _ _ _ (omega arith) (omega arith) (omega arith) (c .read-methods .ensures .0)
+returns-3 c = (tabled-noted _ _ _ _ _ _ (omega arith) (omega arith) (omega arith) (c .read-methods-with .ensures .0), c .read-methods-with .ensures .2, c .read-methods-with .ensures .3)
 
 pub read-all-methods-spec : {M : Type 1} → statement M
 read-all-methods-spec =
@@ -51,6 +51,6 @@ read-all-methods-spec =
     cast-n
     add-t14
     returns-2
-    add-read-methods
-    read-methods-requires
+    add-read-methods-with
+    read-methods-with-requires
     returns-3)

@@ -1,6 +1,7 @@
 -- `typelib::own::check_each` meets its contract.
 -- Assumes nothing.
 use Rattle.typelib.proofs.OwnLaws.{settled-none, settled-more, descriptors-start, descriptors-next, descriptors-done}
+use Rattle.method.specs.Tables.{Remembered}
 use Rattle.typelib.specs.Own.{Settled}
 use Rattle.typelib.specs.Entry.{readOwn}
 use Rattle.reading.proofs.Steps.{turn-refused}
@@ -14,22 +15,22 @@ use Rattle.typelib.proofs.own.check_each.Statement.{statement}
 use Rattle.typelib.proofs.own.check_each.Tie as tie
 
 abbrev Inv-loop : tie.InvT-loop
-Inv-loop file pool c n d flags₀ names₀ k₀ top₀ flags names k top = (k ≤ n) × Settled c file pool d k × (stepOf (many (readOwn c file pool) n d) ≡ stepOf (many (readOwn c file pool) (n - k) (d + 28 * k))) × (1024 ≡ length flags) × (1024 ≡ length names)
+Inv-loop file pool c n d flags₀ names₀ seen₀ k₀ top₀ flags names seen k top = (k ≤ n) × Settled c file pool d k × (stepOf (many (readOwn c file pool) n d) ≡ stepOf (many (readOwn c file pool) (n - k) (d + 28 * k))) × (1024 ≡ length flags) × (1024 ≡ length names) × Remembered c pool seen × (2049 ≡ length seen)
 
 abbrev μ-loop : tie.MeasureT-loop
-μ-loop file pool c n d flags₀ names₀ k₀ top₀ flags names k top = n - k
+μ-loop file pool c n d flags₀ names₀ seen₀ k₀ top₀ flags names seen k top = n - k
 
 loop-holds : tie.Need-loop-holds Inv-loop μ-loop
-loop-holds c = (omega arith, settled-none _ _ _ _, descriptors-start _ _ _ _ _, omega arith, omega arith)
+loop-holds c = (omega arith, settled-none _ _ _ _, descriptors-start _ _ _ _ _, omega arith, omega arith, c .before .before .pre .4, omega arith)
 
 check-once-requires : tie.Need-check-once-requires Inv-loop μ-loop
-check-once-requires c κs = (c .before .before .before .before .before .before .pre .0, omega arith, omega arith, c .before .before .before .loop .inv .1, omega arith, omega arith)
+check-once-requires c κs = (c .before .before .before .before .before .before .before .pre .0, omega arith, omega arith, c .before .before .before .before .loop .inv .1, omega arith, omega arith, c .before .before .before .before .loop .inv .5, omega arith)
 
 returns : tie.Need-returns Inv-loop μ-loop
-returns c = turn-refused _ _ _ _ (c .before .before .before .before .before .before .loop .inv .2) (omega arith) (c .enum-told .given .1) (c .before .before .check-once .ensures .0)
+returns c = turn-refused _ _ _ _ (c .before .before .before .before .before .before .before .loop .inv .2) (omega arith) (c .enum-told .given .1) (c .before .before .check-once .ensures .0)
 
 loop-again : tie.Need-loop-again Inv-loop μ-loop
-loop-again c = (omega arith, settled-more _ _ _ _ _ (c .before .before .before .before .before .before .before .before .loop .inv .1) (c .before .before .r .given .1) (c .before .before .before .before .check-once .ensures .0), descriptors-next _ _ _ _ _ _ (c .before .before .before .before .before .before .before .before .loop .inv .2) (omega arith) (c .before .before .r .given .1) (c .before .before .before .before .check-once .ensures .0), omega arith, omega arith)
+loop-again c = (omega arith, settled-more _ _ _ _ _ (c .before .before .before .before .before .before .before .before .before .loop .inv .1) (c .before .before .r .given .1) (c .before .before .before .before .check-once .ensures .0), descriptors-next _ _ _ _ _ _ (c .before .before .before .before .before .before .before .before .before .loop .inv .2) (omega arith) (c .before .before .r .given .1) (c .before .before .before .before .check-once .ensures .0), omega arith, omega arith, c .before .before .before .before .check-once .ensures .3, omega arith)
 
 returns-2 : tie.Need-returns-2 Inv-loop μ-loop
 returns-2 c = descriptors-done _ _ _ _ _ _ (c .before .loop .inv .2) (omega arith)
