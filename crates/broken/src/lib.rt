@@ -4,11 +4,6 @@ ghost use mathlib.Core.Path.{_≡_};
 ghost use Prim.Native.Nat.{_+_, _≤_};
 ghost use lib.ListN.{length};
 ghost use Rattle.number.specs.Limits.{fileLimit, ownLimit};
-ghost use Rattle.number.specs.Bits.{bit};
-ghost use Rattle.number.specs.Choice.{if_then_else_, _=?_};
-ghost use Rattle.method.specs.Flags.{constructorBit};
-ghost use Rattle.descriptor.specs.Rules.{manyConstructors};
-ghost use Rattle.descriptor.specs.Tables.{cell};
 ghost use Rattle.method.specs.Parameter.{readParam};
 ghost use Rattle.method.specs.Method.{readMethod};
 ghost use Rattle.broken.specs.Stop.{stopOf};
@@ -148,30 +143,6 @@ fn member_rule(pool: &[u8], c: Context, n: usize, place: usize, t: Stop) -> u8
     method_rule(pool, c, at, place)
 }
 
-// 1 for the flags of a constructor, 0 for others.
-fn constructor_count(flags: u8) -> usize
-    ensures { λ r. ⌜ r ≡ (if bit constructorBit flags =? 1 then 1 else 0) ⌝ }
-{
-    if flags / method::CONSTRUCTOR % 2 == 1 {
-        return 1;
-    }
-    0
-}
-
-// Whether more than one of n methods is a constructor.
-fn many_constructors(flags: &[u8; OWN_LIMIT], n: usize) -> bool
-    requires { ⌜ (n ≤ ownLimit) × (ownLimit ≡ length (now flags)) ⌝ }
-    ensures { λ r. ⌜ r ≡ manyConstructors (cell (now (flags .entry))) n ⌝ }
-{
-    let mut k: usize = 0;
-    let mut i: usize = 0;
-    while i < n {
-        k += constructor_count(flags[i]);
-        i += 1;
-    }
-    1 < k
-}
-
 // The rule of n methods that are read from `at` on.
 fn table_rule(pool: &[u8], c: Context, n: usize, at: usize) -> u8
     requires { ⌜ (at ≤ length (now pool)) × (c .base + length (now pool) ≤ fileLimit) × (n ≤ ownLimit) ⌝ }
@@ -183,7 +154,7 @@ fn table_rule(pool: &[u8], c: Context, n: usize, at: usize) -> u8
     let Step::End(e) = r else {
         return 0;
     };
-    if many_constructors(&flags, n) {
+    if descriptor::many_constructors(&flags, n) {
         return 6;
     }
     7
