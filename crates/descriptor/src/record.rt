@@ -4,6 +4,7 @@ ghost use Prim.Native.Nat.{_+_, _≤_};
 ghost use lib.ListN.{length};
 ghost use Rattle.number.specs.Limits.{fileLimit, ownLimit};
 ghost use Rattle.reading.specs.Got.{stepOf};
+ghost use Rattle.method.specs.Tables.{Remembered};
 ghost use Rattle.descriptor.specs.Tables.{Led, Tabled, cell, wordIn};
 ghost use Rattle.descriptor.specs.Descriptor.{reservedInterface, readParent, readFlags, readDescriptor};
 use number::OWN_LIMIT;
@@ -41,9 +42,10 @@ fn read_all_methods(
     at: usize,
     flags: &mut [u8; OWN_LIMIT],
     names: &mut [u32; OWN_LIMIT],
+    seen: &mut [u32],
 ) -> Step
-    requires { ⌜ (at ≤ length (now pool)) × (c .base + length (now pool) ≤ fileLimit) × (ownLimit ≡ length (now flags)) × (ownLimit ≡ length (now names)) ⌝ }
-    ensures { λ r. ⌜ Tabled c (now (pool .entry)) at r (now (flags .exit)) (now (names .exit)) ⌝ }
+    requires { ⌜ (at ≤ length (now pool)) × (c .base + length (now pool) ≤ fileLimit) × (ownLimit ≡ length (now flags)) × (ownLimit ≡ length (now names)) × Remembered c (now pool) (now seen) ⌝ }
+    ensures { λ r. ⌜ Tabled c (now (pool .entry)) at r (now (flags .exit)) (now (names .exit)) × Remembered c (now (pool .entry)) (now (seen .exit)) ⌝ }
 {
     let base = c.base;
     if pool.len() < at + 2 {
@@ -59,7 +61,7 @@ fn read_all_methods(
             place: base + at,
         });
     }
-    method::read_methods(pool, c, n, at + 2, flags, names)
+    method::read_methods_with(pool, c, n, at + 2, flags, names, seen)
 }
 
 // The lower of the two flags.
@@ -120,22 +122,23 @@ fn read_flags(
     Step::End(at + 1)
 }
 
-// A descriptor, with tables for its methods' flags and names, whatever stands in them.
+// A descriptor, with tables for its methods' flags and names, whatever stands in them, and one of methods that were accepted.
 pub fn read_with(
     pool: &[u8],
     c: Context,
     at: usize,
     flags: &mut [u8; OWN_LIMIT],
     names: &mut [u32; OWN_LIMIT],
+    seen: &mut [u32],
 ) -> Step
-    requires { ⌜ (at ≤ length (now pool)) × (c .base + length (now pool) ≤ fileLimit) × (ownLimit ≡ length (now flags)) × (ownLimit ≡ length (now names)) ⌝ }
-    ensures { λ r. ⌜ (r ≡ stepOf (readDescriptor c (now (pool .entry)) at)) × (ownLimit ≡ length (now (flags .exit))) × (ownLimit ≡ length (now (names .exit))) ⌝ }
+    requires { ⌜ (at ≤ length (now pool)) × (c .base + length (now pool) ≤ fileLimit) × (ownLimit ≡ length (now flags)) × (ownLimit ≡ length (now names)) × Remembered c (now pool) (now seen) ⌝ }
+    ensures { λ r. ⌜ (r ≡ stepOf (readDescriptor c (now (pool .entry)) at)) × (ownLimit ≡ length (now (flags .exit))) × (ownLimit ≡ length (now (names .exit))) × Remembered c (now (pool .entry)) (now (seen .exit)) ⌝ }
 {
     let up = read_parent(pool, c, at);
     let Step::End(e) = up else {
         return up;
     };
-    let methods = read_all_methods(pool, c, e, flags, names);
+    let methods = read_all_methods(pool, c, e, flags, names, seen);
     let Step::End(mid) = methods else {
         return methods;
     };
@@ -154,5 +157,6 @@ pub fn read_descriptor(pool: &[u8], c: Context, at: usize) -> Step
 {
     let mut flags = [0u8; OWN_LIMIT];
     let mut names = [0u32; OWN_LIMIT];
-    read_with(pool, c, at, &mut flags, &mut names)
+    let mut none = [0u32; 0];
+    read_with(pool, c, at, &mut flags, &mut names, &mut none)
 }

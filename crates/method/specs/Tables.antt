@@ -4,9 +4,9 @@ use mathlib.Core.Path.{_≡_}
 use mathlib.Core.Bool.{true, false}
 use mathlib.Core.List.{List}
 use mathlib.Core.Logic.{_⊎_}
-use Prim.Native.Nat.{ℕ, _-_, _≤_, _<_}
+use Prim.Native.Nat.{ℕ, _+_, _-_, _%_, _/_, _≤_, _<_}
 use lib.ListN.{length, getD, take}
-use Rattle.number.specs.Limits.{ownLimit}
+use Rattle.number.specs.Limits.{fileLimit, ownLimit}
 use Rattle.reading.specs.Got.{Got, got, bad, many, stepOf}
 use Rattle.reading.specs.declared.Context.{Context}
 use Rattle.reading.specs.declared.Step.{Step}
@@ -63,3 +63,12 @@ pub record Reached (c : Context) (s : List ℕ) (n at : ℕ) (flags names flags�
   pub last : (count ≡ n) ⊎ ((m : ℕ) × (q : ℕ) × (readMethod c s end ≡ bad m q))
   pub flags-past : Past count flags₀ flags
   pub names-past : Past count names₀ names
+
+-- methods that were accepted are remembered, one for each block of so many bytes of the pool
+abbrev pub blockSize : ℕ
+blockSize = 128
+
+-- Each number of the table that is not 0 is of a method that was accepted and starts in its block: in the lowest seven bits where there, above them its length.
+pub record Remembered (c : Context) (s seen : List ℕ) : Type 0 where
+  pub each : (p e : ℕ) → p ≤ fileLimit → getD seen (p / blockSize) 0 % blockSize ≡ p % blockSize → blockSize ≤ getD seen (p / blockSize) 0
+      → e ≡ p + getD seen (p / blockSize) 0 / blockSize → End e ≡ stepOf (readMethod c s p)

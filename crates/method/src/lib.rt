@@ -1,15 +1,16 @@
 // Reads parameters and methods. Positions are in the pool; places are in the file.
 ghost use mathlib.Core.Bool.{true, false};
 ghost use mathlib.Core.Path.{_≡_};
-ghost use Prim.Native.Nat.{_+_, _≤_};
-ghost use lib.ListN.{length, take};
+ghost use Prim.Native.Nat.{_+_, _*_, _%_, _/_, _≤_, _<_};
+ghost use lib.ListN.{length, take, getD};
 ghost use Rattle.number.specs.Limits.{fileLimit, ownLimit};
 ghost use Rattle.reading.specs.Got.{stepOf, many, Accepted};
+ghost use Rattle.reading.specs.declared.Step.the-variants.{End};
 ghost use Rattle.method.specs.Parameter.{readParam};
 ghost use Rattle.method.specs.Numbers.{wrongResult};
 ghost use Rattle.method.specs.Method.{readSignature, readMethod};
 ghost use Rattle.method.specs.Walk.{ruleOf};
-ghost use Rattle.method.specs.Tables.{Held, Noted, Reached};
+ghost use Rattle.method.specs.Tables.{Held, Noted, Reached, Remembered, blockSize};
 use crate::params::Signed;
 use crate::walk::Fine;
 use number::OWN_LIMIT;
@@ -38,6 +39,14 @@ const DIPPER: u8 = 0x08;
 
 // The lowest flag that is not reserved, of both.
 const LOWEST: u8 = 0x08;
+
+// Methods that were accepted are remembered, one for each block of the pool.
+const BLOCK_SIZE: usize = 128;
+
+pub const BLOCK_COUNT: usize = 8193;
+
+// The shortest that are: most methods are shorter, and are as soon read.
+const LONG: usize = 48;
 
 // Whether a result breaks the result rule: f are the method's flags, g the result's, b its prefix.
 fn wrong_result(f: u8, g: u8, b: u8) -> bool
@@ -191,4 +200,113 @@ pub fn read_method(pool: &[u8], c: Context, at: usize) -> Step
     let mut flags = [0u8; OWN_LIMIT];
     let mut names = [0u32; OWN_LIMIT];
     read_methods(pool, c, 1, at, &mut flags, &mut names)
+}
+
+// What is remembered of block k, or 0.
+fn of_block(seen: &[u32], k: usize) -> u32
+    ensures { λ r. ⌜ r ≡ getD (now (seen .entry)) k 0 ⌝ }
+{
+    if k < seen.len() {
+        return seen[k];
+    }
+    0
+}
+
+// How long the method at `at` is, if what is remembered of its block, v, is of it; else 0.
+fn known_length(v: u32, at: usize) -> usize
+    ensures { λ r. ⌜ (blockSize * r ≤ 4294967295) × (0 < r → (v % blockSize ≡ at % blockSize) × (r ≡ v / blockSize)) ⌝ }
+{
+    let w = v as usize;
+    if w % BLOCK_SIZE != at % BLOCK_SIZE {
+        return 0;
+    }
+    w / BLOCK_SIZE
+}
+
+// Remembers the method from `at` to e, if it is long and its block has a place.
+fn remember(pool: &[u8], c: Context, at: usize, e: usize, seen: &mut [u32])
+    requires { ⌜ (at ≤ fileLimit) × (at < e) × (e ≤ fileLimit) × (End e ≡ stepOf (readMethod c (now pool) at)) × Remembered c (now pool) (now seen) ⌝ }
+    ensures { λ r. ⌜ Remembered c (now (pool .entry)) (now (seen .exit)) ⌝ }
+{
+    let k = at / BLOCK_SIZE;
+    if seen.len() <= k {
+        return;
+    }
+    if e - at < LONG {
+        return;
+    }
+    seen[k] = (at % BLOCK_SIZE + BLOCK_SIZE * (e - at)) as u32;
+}
+
+// One method that descriptors may share: where it is remembered, it is not read again. The tables are lent for its flags and name.
+fn read_again(
+    pool: &[u8],
+    c: Context,
+    at: usize,
+    flags: &mut [u8; OWN_LIMIT],
+    names: &mut [u32; OWN_LIMIT],
+    seen: &mut [u32],
+) -> Step
+    requires { ⌜ (at ≤ length (now pool)) × (c .base + length (now pool) ≤ fileLimit) × (ownLimit ≡ length (now flags)) × (ownLimit ≡ length (now names)) × Remembered c (now pool) (now seen) ⌝ }
+    ensures { λ r. ⌜ (r ≡ stepOf (readMethod c (now (pool .entry)) at)) × (ownLimit ≡ length (now (flags .exit))) × (ownLimit ≡ length (now (names .exit))) × Remembered c (now (pool .entry)) (now (seen .exit)) ⌝ }
+{
+    let l = known_length(of_block(seen, at / BLOCK_SIZE), at);
+    if 0 < l {
+        return Step::End(at + l);
+    }
+    let r = read_methods(pool, c, 1, at, flags, names);
+    let Step::End(e) = r else {
+        return r;
+    };
+    remember(pool, c, at, e, seen);
+    Step::End(e)
+}
+
+// n methods, as `read_methods` reads them, with a table of methods that were accepted.
+fn read_shared(
+    pool: &[u8],
+    c: Context,
+    n: usize,
+    at: usize,
+    flags: &mut [u8; OWN_LIMIT],
+    names: &mut [u32; OWN_LIMIT],
+    seen: &mut [u32],
+) -> Step
+    requires { ⌜ (at ≤ length (now pool)) × (c .base + length (now pool) ≤ fileLimit) × (n ≤ ownLimit) × (ownLimit ≡ length (now flags)) × (ownLimit ≡ length (now names)) × Remembered c (now pool) (now seen) ⌝ }
+    ensures { λ r. ⌜ Noted c (now (pool .entry)) n at r (now (flags .exit)) (now (names .exit)) × Remembered c (now (pool .entry)) (now (seen .exit)) ⌝ }
+{
+    let mut own_flags = [0u8; OWN_LIMIT];
+    let mut own_names = [0u32; OWN_LIMIT];
+    let mut k: usize = 0;
+    let mut p = at;
+    while k < n {
+        let r = read_again(pool, c, p, &mut own_flags, &mut own_names, seen);
+        let Step::End(e) = r else {
+            return r;
+        };
+        flags[k] = pool[p];
+        names[k] = number::u32_at(pool, p + 1);
+        p = e;
+        k += 1;
+    }
+    Step::End(p)
+}
+
+// The same where the table may have no place: then nothing is remembered, and no method pays for it.
+pub fn read_methods_with(
+    pool: &[u8],
+    c: Context,
+    n: usize,
+    at: usize,
+    flags: &mut [u8; OWN_LIMIT],
+    names: &mut [u32; OWN_LIMIT],
+    seen: &mut [u32],
+) -> Step
+    requires { ⌜ (at ≤ length (now pool)) × (c .base + length (now pool) ≤ fileLimit) × (n ≤ ownLimit) × (ownLimit ≡ length (now flags)) × (ownLimit ≡ length (now names)) × Remembered c (now pool) (now seen) ⌝ }
+    ensures { λ r. ⌜ Noted c (now (pool .entry)) n at r (now (flags .exit)) (now (names .exit)) × Remembered c (now (pool .entry)) (now (seen .exit)) ⌝ }
+{
+    if seen.len() == 0 {
+        return read_methods(pool, c, n, at, flags, names);
+    }
+    read_shared(pool, c, n, at, flags, names, seen)
 }

@@ -3,7 +3,7 @@
 use mathlib.Core.Path.{_≡_, refl, sym, ap, _∙_}
 use mathlib.Core.Bool.{true}
 use mathlib.Core.Logic.{inl, inr}
-use mathlib.Core.List.{List}
+use mathlib.Core.List.{List, []}
 use mathlib.Core.Option.{Option, none, some}
 use Prim.Native.Nat.{ℕ, _+_, _-_, _*_, _≤_, _<_}
 use native.Mathlib.Nat.{sub-zero}
@@ -17,13 +17,13 @@ use Rattle.reading.specs.Got.{got, stepOf, many}
 use Rattle.reading.specs.declared.Context.{Context}
 use Rattle.reading.specs.declared.Step.{Step}
 use Rattle.reading.specs.declared.Step.the-variants.{End}
-use Rattle.reading.proofs.Steps.{refused, at-end, at-bad, told, is-eq, no-eq, is-lt, no-lt, next-end, next-refused, turn-next, turn-done}
+use Rattle.reading.proofs.Steps.{refused, at-end, at-bad, told, is-eq, no-eq, is-lt, no-lt, next-end, next-refused, many-none, turn-next, turn-done}
 use Rattle.reading.proofs.Facts.{Facts, fact, f-got, f-if, f-unless, f-next, f-read}
 use Rattle.reading.proofs.Rows.{accepted}
 use Rattle.descriptor.specs.Descriptor.{Descriptor, readDescriptor}
 use Rattle.typelib.specs.Entry.{readOwn}
 use Rattle.typelib.specs.Own.{Settled}
-use Rattle.typelib.specs.Directory.{ownPointer, pointsTo}
+use Rattle.typelib.specs.Directory.{Lies, ownPointer, pointsTo}
 
 -- what the pointer q, of an accepted entry with the descriptor o, leads to
 pub data Leads (c : Context) (pool : List ℕ) (q : ℕ) (o : Option (Descriptor ℕ)) : Type 0 where
@@ -87,8 +87,19 @@ module _ (c : Context) (s pool : List ℕ) (d : ℕ) where
   pub own-ends : (k : ℕ) {r : Step} {e : ℕ} → r ≡ End e → r ≡ stepOf (readOwn c s pool (d + 28 * k)) → e ≡ d + 28 * (k + 1)
   own-ends k {r} {e} q h = let w = own-size c s pool (d + 28 * k) _ e (told _ (sym q ∙ h) .1) in omega arith
 
+-- the first of n entries, and those behind k
+module _ (s : List ℕ) (n d k : ℕ) (h : Lies s n d) where
+  pub lies-first : k < n → Lies s (1 + k) d
+  lies-first l = record { few = omega (arith, h .few); inside = omega (arith, h .inside); small = h .small }
+
+  pub lies-behind : k ≤ n → Lies s (n - k) (d + 28 * k)
+  lies-behind l = record { few = omega (arith, h .few); inside = omega (arith, h .inside); small = h .small }
+
 -- the loop over n entries, k of them behind
 module _ (c : Context) (s pool : List ℕ) (n d : ℕ) where
+  pub descriptors-none : n ≡ 0 → End d ≡ stepOf (many (readOwn c s pool) n d)
+  descriptors-none z = rw (z, many-none (readOwn c s pool)) (at-end [] d)
+
   pub descriptors-start : stepOf (many (readOwn c s pool) n d) ≡ stepOf (many (readOwn c s pool) (n - 0) (d + 28 * 0))
   descriptors-start = let z : d + 28 * 0 ≡ d = omega arith in rw (sub-zero, z)
 

@@ -6,16 +6,32 @@ ghost use lib.ListN.{length};
 ghost use Rattle.number.specs.Limits.{fileLimit, ownLimit, entryWidth};
 ghost use Rattle.number.specs.Scan.{scan, some};
 ghost use Rattle.reading.specs.Got.{stepOf, many};
+ghost use Rattle.method.specs.Tables.{Remembered};
 ghost use Rattle.typelib.specs.Entry.{readOwn};
 ghost use Rattle.typelib.specs.Own.{Settled};
 ghost use Rattle.typelib.specs.Directory.{Lies, pointsTo};
+use method::BLOCK_COUNT;
 use number::ENTRY_WIDTH;
 use number::OWN_LIMIT;
 use reading::Context;
 use reading::Refusal;
 use reading::Step;
 
-// The verdict on the descriptor of the entry at p, with tables for its methods.
+// What is left of n when m is taken from it.
+fn rest(n: usize, m: usize) -> usize {
+    if n < m {
+        return 0;
+    }
+    n - m
+}
+
+// The verdict on an entry's descriptor, and how many bytes of the pool were read for it.
+struct Own {
+    step: Step,
+    size: usize,
+}
+
+// That of the entry at p, with tables for its methods and of methods that were accepted.
 fn check_with(
     file: &[u8],
     pool: &[u8],
@@ -23,35 +39,46 @@ fn check_with(
     p: usize,
     flags: &mut [u8; OWN_LIMIT],
     names: &mut [u32; OWN_LIMIT],
-) -> Step
-    requires { ⌜ (p + entryWidth ≤ length (now file)) × (length (now file) ≤ fileLimit) × (c .base + length (now pool) ≤ fileLimit) × (ownLimit ≡ length (now flags)) × (ownLimit ≡ length (now names)) ⌝ }
-    ensures { λ r. ⌜ (r ≡ stepOf (readOwn c (now (file .entry)) (now (pool .entry)) p)) × (ownLimit ≡ length (now (flags .exit))) × (ownLimit ≡ length (now (names .exit))) ⌝ }
+    seen: &mut [u32],
+) -> Own
+    requires { ⌜ (p + entryWidth ≤ length (now file)) × (length (now file) ≤ fileLimit) × (c .base + length (now pool) ≤ fileLimit) × (ownLimit ≡ length (now flags)) × (ownLimit ≡ length (now names)) × Remembered c (now pool) (now seen) ⌝ }
+    ensures { λ r. ⌜ (r .step ≡ stepOf (readOwn c (now (file .entry)) (now (pool .entry)) p)) × (ownLimit ≡ length (now (flags .exit))) × (ownLimit ≡ length (now (names .exit))) × Remembered c (now (pool .entry)) (now (seen .exit)) ⌝ }
 {
     let q = number::u32_at(file, p + 24) as usize;
     if q == 0 {
-        return Step::End(p + ENTRY_WIDTH);
+        return Own {
+            step: Step::End(p + ENTRY_WIDTH),
+            size: 0,
+        };
     }
     if pool.len() < q {
-        return Step::Refused(Refusal {
-            no: 13,
-            place: p + 24,
-        });
+        return Own {
+            step: Step::Refused(Refusal {
+                no: 13,
+                place: p + 24,
+            }),
+            size: 0,
+        };
     }
-    let r = descriptor::read_with(pool, c, q - 1, flags, names);
+    let r = descriptor::read_with(pool, c, q - 1, flags, names, seen);
     let Step::End(e) = r else {
-        return r;
+        return Own { step: r, size: 0 };
     };
-    Step::End(p + ENTRY_WIDTH)
+    Own {
+        step: Step::End(p + ENTRY_WIDTH),
+        size: rest(e, q - 1),
+    }
 }
 
-// The same with tables of its own.
-pub fn check_own(file: &[u8], pool: &[u8], c: Context, p: usize) -> Step
-    requires { ⌜ (p + entryWidth ≤ length (now file)) × (length (now file) ≤ fileLimit) × (c .base + length (now pool) ≤ fileLimit) ⌝ }
-    ensures { λ r. ⌜ r ≡ stepOf (readOwn c (now (file .entry)) (now (pool .entry)) p) ⌝ }
+// The verdict alone, with tables of its own for the methods.
+pub fn check_again(file: &[u8], pool: &[u8], c: Context, p: usize, seen: &mut [u32]) -> Step
+    requires { ⌜ (p + entryWidth ≤ length (now file)) × (length (now file) ≤ fileLimit) × (c .base + length (now pool) ≤ fileLimit) × Remembered c (now pool) (now seen) ⌝ }
+    ensures { λ r. ⌜ (r ≡ stepOf (readOwn c (now (file .entry)) (now (pool .entry)) p)) × Remembered c (now (pool .entry)) (now (seen .exit)) ⌝ }
 {
     let mut flags = [0u8; OWN_LIMIT];
     let mut names = [0u32; OWN_LIMIT];
-    check_with(file, pool, c, p, &mut flags, &mut names)
+    let r = check_with(file, pool, c, p, &mut flags, &mut names, seen);
+    r.step
 }
 
 // Whether entry j has the descriptor pointer q.
@@ -93,22 +120,25 @@ fn check_once(
     file: &[u8],
     pool: &[u8],
     c: Context,
-    n: usize,
     d: usize,
     k: usize,
     top: u32,
     flags: &mut [u8; OWN_LIMIT],
     names: &mut [u32; OWN_LIMIT],
-) -> Step
-    requires { ⌜ Lies (now file) n d × (k < n) × (c .base + length (now pool) ≤ fileLimit) × Settled c (now file) (now pool) d k × (ownLimit ≡ length (now flags)) × (ownLimit ≡ length (now names)) ⌝ }
-    ensures { λ r. ⌜ (r ≡ stepOf (readOwn c (now (file .entry)) (now (pool .entry)) (d + entryWidth * k))) × (ownLimit ≡ length (now (flags .exit))) × (ownLimit ≡ length (now (names .exit))) ⌝ }
+    seen: &mut [u32],
+) -> Own
+    requires { ⌜ Lies (now file) (1 + k) d × (c .base + length (now pool) ≤ fileLimit) × Settled c (now file) (now pool) d k × (ownLimit ≡ length (now flags)) × (ownLimit ≡ length (now names)) × Remembered c (now pool) (now seen) ⌝ }
+    ensures { λ r. ⌜ (r .step ≡ stepOf (readOwn c (now (file .entry)) (now (pool .entry)) (d + entryWidth * k))) × (ownLimit ≡ length (now (flags .exit))) × (ownLimit ≡ length (now (names .exit))) × Remembered c (now (pool .entry)) (now (seen .exit)) ⌝ }
 {
     let p = d + ENTRY_WIDTH * k;
     let q = number::u32_at(file, p + 24);
-    if stood_earlier(file, n, d, k, q, top) {
-        return Step::End(p + ENTRY_WIDTH);
+    if stood_earlier(file, 1 + k, d, k, q, top) {
+        return Own {
+            step: Step::End(p + ENTRY_WIDTH),
+            size: 0,
+        };
     }
-    check_with(file, pool, c, p, flags, names)
+    check_with(file, pool, c, p, flags, names, seen)
 }
 
 // The higher of `top` and the pointer of entry k.
@@ -123,7 +153,35 @@ fn raised(file: &[u8], n: usize, d: usize, k: usize, top: u32) -> u32
     top
 }
 
-// The descriptors of n entries, with tables that serve each in its turn.
+// The descriptors of n entries, which overlap: methods that were accepted are remembered.
+fn check_shared(
+    file: &[u8],
+    pool: &[u8],
+    c: Context,
+    n: usize,
+    d: usize,
+    flags: &mut [u8; OWN_LIMIT],
+    names: &mut [u32; OWN_LIMIT],
+) -> Step
+    requires { ⌜ Lies (now file) n d × (c .base + length (now pool) ≤ fileLimit) × (ownLimit ≡ length (now flags)) × (ownLimit ≡ length (now names)) ⌝ }
+    ensures { λ r. ⌜ r ≡ stepOf (many (readOwn c (now (file .entry)) (now (pool .entry))) n d) ⌝ }
+{
+    let mut seen = [0u32; BLOCK_COUNT];
+    let mut k: usize = 0;
+    let mut top: u32 = 0;
+    while k < n {
+        let r = check_once(file, pool, c, d, k, top, flags, names, &mut seen);
+        let step = r.step;
+        let Step::End(e) = step else {
+            return step;
+        };
+        top = raised(file, n, d, k, top);
+        k += 1;
+    }
+    Step::End(d + ENTRY_WIDTH * n)
+}
+
+// The descriptors of n entries, with tables that serve each in its turn. As soon as more bytes were read than the pool has, they overlap.
 fn check_each(
     file: &[u8],
     pool: &[u8],
@@ -136,14 +194,21 @@ fn check_each(
     requires { ⌜ Lies (now file) n d × (c .base + length (now pool) ≤ fileLimit) × (ownLimit ≡ length (now flags)) × (ownLimit ≡ length (now names)) ⌝ }
     ensures { λ r. ⌜ r ≡ stepOf (many (readOwn c (now (file .entry)) (now (pool .entry))) n d) ⌝ }
 {
+    let mut none = [0u32; 0];
     let mut k: usize = 0;
     let mut top: u32 = 0;
+    let mut left = pool.len();
     while k < n {
-        let r = check_once(file, pool, c, n, d, k, top, flags, names);
-        let Step::End(e) = r else {
-            return r;
+        if left == 0 {
+            return check_shared(file, pool, c, n - k, d + ENTRY_WIDTH * k, flags, names);
+        }
+        let r = check_once(file, pool, c, d, k, top, flags, names, &mut none);
+        let step = r.step;
+        let Step::End(e) = step else {
+            return step;
         };
         top = raised(file, n, d, k, top);
+        left = rest(left, r.size);
         k += 1;
     }
     Step::End(d + ENTRY_WIDTH * n)
@@ -154,6 +219,9 @@ pub fn check_descriptors(file: &[u8], pool: &[u8], c: Context, n: usize, d: usiz
     requires { ⌜ Lies (now file) n d × (c .base + length (now pool) ≤ fileLimit) ⌝ }
     ensures { λ r. ⌜ r ≡ stepOf (many (readOwn c (now (file .entry)) (now (pool .entry))) n d) ⌝ }
 {
+    if n == 0 {
+        return Step::End(d);
+    }
     let mut flags = [0u8; OWN_LIMIT];
     let mut names = [0u32; OWN_LIMIT];
     check_each(file, pool, c, n, d, &mut flags, &mut names)

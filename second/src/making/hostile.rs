@@ -16,17 +16,19 @@ pub fn cases() -> Vec<Case> {
         ("a: 1,024 entries share one descriptor", shared_descriptor(false).bytes),
         ("b: arrays whose numbers name the last argument", deep_arguments()),
         ("c: getters and setters of nearly one name", near_names()),
-        ("d: descriptors that overlap, long methods", overlapping(true).bytes),
+        ("d: descriptors that overlap, long methods", overlapping(Ends::Long).bytes),
         ("e: a chain of 1,024 parents, upward", up),
         ("e: a chain of 1,024 parents, downward", down),
         ("f: keys with a long common start", near_keys(0).bytes()),
         ("g: an ordinary file", ordinary()),
-        ("h: descriptors that overlap, accessors", overlapping(false).bytes),
+        ("h: descriptors that overlap, accessors", overlapping(Ends::Accessors).bytes),
         ("i: 240,000 references to a key of 510 bytes", shared_descriptor(true).bytes),
         ("n: 71,680 uses of 2,000 names with a long common start", near_stock(70, 2_000).bytes()),
         ("o: 148,480 uses of four names with a long common start", near_stock(145, 4).bytes()),
         ("p: 94,208 names, each used once", many_names()),
         ("r: 24,576 names of one sum by powers of 33", one_sum()),
+        ("v: descriptors that overlap, short methods", overlapping(Ends::Short).bytes),
+        ("w: descriptors that overlap, in two ways", overlapping_twice()),
     ];
     let case = |(name, bytes): (&'static str, Vec<u8>)| {
         let n = usize::from(u16::from_be_bytes([bytes[18], bytes[19]]));
@@ -39,7 +41,8 @@ pub fn cases() -> Vec<Case> {
 /// Files with bad descriptors that are hard to salvage, and how many entries are changed.
 pub fn damaged() -> Vec<Case> {
     let shared = ("s: 1,024 entries share one bad descriptor", spoilt(shared_descriptor(false)));
-    let ends = ("t: a bad byte at the end of descriptors that overlap", spoilt(overlapping(true)));
+    let ends =
+        ("t: a bad byte at the end of descriptors that overlap", spoilt(overlapping(Ends::Long)));
     let round = ("u: a cycle of 1,024", round(MAX_INTERFACES).bytes());
     // In (t) one entry has a descriptor of its own.
     let cases = [(shared, MAX_INTERFACES), (ends, MAX_INTERFACES - 1), (round, MAX_INTERFACES)];
@@ -123,7 +126,15 @@ fn near_names() -> Vec<u8> {
 /// The prefix of a pointer to an interface is also the parent in a head (see below).
 const ROOT: usize = (POINTER | INTERFACE) as usize;
 
-/// (d) and (h) Descriptors at 1,023 places, all of which end in the same bytes.
+/// What descriptors that overlap end in.
+#[derive(Clone, Copy)]
+enum Ends {
+    Long,
+    Accessors,
+    Short,
+}
+
+/// (d), (h) and (v) Descriptors at 1,023 places, all of which end in the same bytes.
 ///
 /// Each of 1,024 not-XPCOM methods has as result a pointer to interface k: `00 92`, then k as 2
 /// bytes. Read as a descriptor's head this is parent 146 and k methods; k is the number of
@@ -131,27 +142,83 @@ const ROOT: usize = (POINTER | INTERFACE) as usize;
 /// in a result of one byte of prefix, which gives too few different counts.
 ///
 /// Long: only the last methods have arguments, very many, so that nearly every descriptor has
-/// nearly the whole file. Otherwise: the methods have none, but are getters of long names.
-fn overlapping(long: bool) -> Built {
+/// nearly the whole file. Accessors: the methods have none, but are getters of long names. Short:
+/// each is of 46 bytes, with a long name and one argument of eight arrays; the library remembers
+/// methods from 48 bytes on.
+fn overlapping(ends: Ends) -> Built {
     let mut methods = Vec::new();
     for following in (0..MAX_METHODS).rev() {
         let of = Type::with(POINTER | INTERFACE, index_tail(following.max(1)));
         let (result, kind) = (Parameter::new(0, of), [GETTER, SETTER][following % 2]);
-        methods.push(match (long, following) {
-            (true, 0..141) => deep_method(NOT_XPCOM, b"m", result),
-            (true, _) => Method::new(NOT_XPCOM, b"m", Vec::new(), result),
-            _ => Method::new(NOT_XPCOM | kind, &long_name(following), Vec::new(), result),
+        methods.push(match (ends, following) {
+            (Ends::Long, 0..141) => deep_method(NOT_XPCOM, b"m", result),
+            (Ends::Long, _) => Method::new(NOT_XPCOM, b"m", Vec::new(), result),
+            (Ends::Accessors, _) => {
+                Method::new(NOT_XPCOM | kind, &long_name(following), Vec::new(), result)
+            }
+            (Ends::Short, _) => {
+                let deep = Type::nested(8, 1, POINTER | SIZED_STRING, [1, 1, 0]);
+                let mut arguments = vec![Parameter::simple(IN, UINT32); 5];
+                arguments[0] = Parameter::new(IN, deep);
+                Method::new(NOT_XPCOM, &long_name(0), arguments, result)
+            }
         });
     }
     let mut lib = sharing(MAX_INTERFACES, Descriptor { methods, ..Descriptor::below(ROOT) });
     lib.resolve(ROOT - 1, Descriptor::default());
     let mut built = lib.build();
-    let ends = built.placed[0].methods[1..].to_vec();
-    let others = (1..MAX_INTERFACES).filter(|i| *i != ROOT - 1);
-    for (i, end) in others.zip(ends) {
-        built.point(built.entry(i) + 24, end - 4);
-    }
+    let ends = built.placed[0].methods[1..].iter().map(|end| end - 4).collect();
+    point_others(&mut built, ends);
     built
+}
+
+/// Lets the entries but the first and the root have descriptors at these places.
+fn point_others(built: &mut Built, places: Vec<usize>) {
+    let others = (1..MAX_INTERFACES).filter(|i| *i != ROOT - 1);
+    for (i, place) in others.zip(places) {
+        built.point(built.entry(i) + 24, place);
+    }
+}
+
+/// (w) As (d), but the same bytes are methods in two ways, and descriptors of one and of the
+/// other take turns. The four first arguments of each method are, read as bytes, a result and the
+/// start of a method that ends in the same place of the next one; its own start is in the same
+/// way three arguments of that. So the two start in the same few bytes all over the file.
+fn overlapping_twice() -> Vec<u8> {
+    const COUNT: usize = MAX_METHODS / 2;
+    let mut methods = Vec::new();
+    for following in (0..COUNT).rev() {
+        let of = Type::with(POINTER | INTERFACE, index_tail(following.max(1)));
+        let result = Parameter::new(0, of);
+        let deep = if following < 150 { 235 } else { 0 };
+        // The other way ends at the last of these, whose bytes are no constants and no flags.
+        let (flags, count) = if following == 0 { (0, 4) } else { (SETTER | NOT_XPCOM, 4 + deep) };
+        let start = [(flags, 0), (0, 1), (0, count)].map(|(f, b)| Parameter::simple(f, b));
+        let mut arguments = vec![result.clone()];
+        arguments.extend(start);
+        arguments.extend((0..deep).map(|i| match deep - i {
+            // What the numbers name in the one way and in the other.
+            1 | 5 => Parameter::simple(IN, UINT32),
+            _ => {
+                let of = Type::nested(8, deep - 1, POINTER | SIZED_STRING, [deep - 1, deep - 1, 0]);
+                Parameter::new(IN, of)
+            }
+        }));
+        methods.push(Method::new(SETTER | NOT_XPCOM, b"m", arguments, result));
+    }
+    let mut lib = sharing(MAX_INTERFACES, Descriptor { methods, ..Descriptor::below(ROOT) });
+    lib.resolve(ROOT - 1, Descriptor::default());
+    // All methods are named by the pointer 256, whose bytes can be of arguments.
+    lib.entries[0].name = vec![b'a'; 200];
+    lib.entries[0].namespace = Some(vec![b'a'; 200]);
+    let mut built = lib.build();
+    let starts = built.placed[0].methods[..COUNT].to_vec();
+    for start in &starts {
+        built.point(start + 1, built.pool + 255);
+    }
+    let pairs = starts.windows(2).flat_map(|pair| [pair[0] + 6, pair[1] - 4]);
+    point_others(&mut built, pairs.collect());
+    built.bytes
 }
 
 /// A file of at most 50 KB whose listing has 540 KB for each entry: the entries share a

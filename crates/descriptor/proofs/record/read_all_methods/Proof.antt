@@ -8,49 +8,33 @@ use borrow.Author.Needs.{needs}
 use Rattle.descriptor.proofs.record.read_all_methods.Statement.{statement}
 use Rattle.descriptor.proofs.record.read_all_methods.Tie as tie
 
-add-if1 : tie.Need-add-if1
-add-if1 c = search needs
-
-add-t11 : tie.Need-add-t11
-add-t11 c = search needs
-
 returns : tie.Need-returns
 unfolding readCounted
-returns c = tabled-refused _ _ _ _ _ _ _ (field-out _ _ _ _ _ (omega arith)) (omega arith) (omega arith)
-
-u16-at-requires : tie.Need-u16-at-requires
-u16-at-requires c κs = search needs
-
-cast-n : tie.Need-cast-n
-cast-n c = search needs
-
-add-t14 : tie.Need-add-t14
-add-t14 c = search needs
+returns c =
+    (tabled-refused _ _ _ _ _ _ _ (field-out _ _ _ _ _ (omega arith)) (omega arith) (omega arith), c .before .before .before .pre .4)
 
 returns-2 : tie.Need-returns-2
 unfolding readCounted
-returns-2 c = tabled-refused _ _ _ _ _ _ _ (field-in _ _ _ _ _ (omega arith) (is-lt _ _ _ _ (omega arith) (at-bad _ _ _))) (omega arith) (omega arith)
-
-add-read-methods : tie.Need-add-read-methods
-add-read-methods c = search needs
-
-read-methods-requires : tie.Need-read-methods-requires
-read-methods-requires c κs = search needs
+returns-2 c =
+    (tabled-refused _ _ _ _ _ _ _ (field-in _ _ _ _ _ (omega arith) (is-lt _ _ _ _ (omega arith) (at-bad _ _ _))) (omega arith) (omega arith), c .before .before .before .before .before .pre .4)
 
 returns-3 : tie.Need-returns-3
-returns-3 c = tabled-noted _ _ _ _ _ _ (omega arith) (omega arith) (omega arith) (c .read-methods .ensures .0)
+returns-3 c =
+    let ms = c .before .before .read-methods-with .ensures in
+    (tabled-noted _ _ _ _ _ _ (omega arith) (omega arith) (omega arith) (ms .0), ms .1)
 
 pub read-all-methods-spec : {M : Type 1} → statement M
 read-all-methods-spec =
     tie.close
     (tie.spec
-    add-if1
-    add-t11
+    (λ c. search needs)
+    (λ c. search needs)
     returns
-    u16-at-requires
-    cast-n
-    add-t14
+    (λ c κs. search needs)
+    (λ c. search needs)
+    (λ c. search needs)
     returns-2
-    add-read-methods
-    read-methods-requires
+    (λ c. search needs)
+    (λ c κs. search needs)
+    (λ c. search needs)
     returns-3)

@@ -1,38 +1,51 @@
 -- `typelib::own::check_each` meets its contract.
 -- Assumes nothing.
-use Rattle.typelib.proofs.OwnLaws.{settled-none, settled-more, descriptors-start, descriptors-next, descriptors-done}
+use Rattle.typelib.proofs.OwnLaws.{lies-first, lies-behind, settled-none, settled-more, descriptors-start, descriptors-next, descriptors-done}
+use Rattle.method.specs.Tables.{Remembered}
+use Rattle.method.proofs.SeenLaws.{seen-nowhere}
 use Rattle.typelib.specs.Own.{Settled}
 use Rattle.typelib.specs.Entry.{readOwn}
 use Rattle.reading.proofs.Steps.{turn-refused}
 use Rattle.reading.specs.Got.{many, stepOf}
-use mathlib.Core.Path.{_≡_}
-use Prim.Native.Nat.{_+_, _-_, _*_, _≤_}
-use lib.ListN.{length}
-use borrow.Author.Needs.{needs}
-use native.Mathlib.Omega.{arith}
+use Rattle.number.proofs.Tools.{arith, needs, sym, _∙_, _≡_, _+_, _-_, _*_, _≤_, length}
 use Rattle.typelib.proofs.own.check_each.Statement.{statement}
 use Rattle.typelib.proofs.own.check_each.Tie as tie
 
 abbrev Inv-loop : tie.InvT-loop
-Inv-loop file pool c n d flags₀ names₀ k₀ top₀ flags names k top = (k ≤ n) × Settled c file pool d k × (stepOf (many (readOwn c file pool) n d) ≡ stepOf (many (readOwn c file pool) (n - k) (d + 28 * k))) × (1024 ≡ length flags) × (1024 ≡ length names)
+Inv-loop file pool c n d flags₀ names₀ none₀ k₀ top₀ left₀ flags names none k top left =
+    (k ≤ n) × Settled c file pool d k × (stepOf (many (readOwn c file pool) n d) ≡ stepOf (many (readOwn c file pool) (n - k) (d + 28 * k))) × (1024 ≡ length flags) × (1024 ≡ length names) × Remembered c pool none × (0 ≡ length none)
 
 abbrev μ-loop : tie.MeasureT-loop
-μ-loop file pool c n d flags₀ names₀ k₀ top₀ flags names k top = n - k
+μ-loop file pool c n d flags₀ names₀ none₀ k₀ top₀ left₀ flags names none k top left = n - k
 
 loop-holds : tie.Need-loop-holds Inv-loop μ-loop
-loop-holds c = (omega arith, settled-none _ _ _ _, descriptors-start _ _ _ _ _, omega arith, omega arith)
+loop-holds c = (omega arith, settled-none _ _ _ _, descriptors-start _ _ _ _ _, omega arith, omega arith, seen-nowhere _ _, omega arith)
 
-check-once-requires : tie.Need-check-once-requires Inv-loop μ-loop
-check-once-requires c κs = (c .before .before .before .before .before .before .pre .0, omega arith, omega arith, c .before .before .before .loop .inv .1, omega arith, omega arith)
+check-shared-requires : tie.Need-check-shared-requires Inv-loop μ-loop
+check-shared-requires c κs =
+    (lies-behind _ _ _ _ (c .before .before .before .before .before .before .before .pre .0) (omega arith), omega arith, omega arith, omega arith)
 
 returns : tie.Need-returns Inv-loop μ-loop
-returns c = turn-refused _ _ _ _ (c .before .before .before .before .before .before .loop .inv .2) (omega arith) (c .enum-told .given .1) (c .before .before .check-once .ensures .0)
+returns c = c .check-shared .ensures ∙ sym (c .before .before .before .before .before .loop .inv .2)
 
-loop-again : tie.Need-loop-again Inv-loop μ-loop
-loop-again c = (omega arith, settled-more _ _ _ _ _ (c .before .before .before .before .before .before .before .before .loop .inv .1) (c .before .before .r .given .1) (c .before .before .before .before .check-once .ensures .0), descriptors-next _ _ _ _ _ _ (c .before .before .before .before .before .before .before .before .loop .inv .2) (omega arith) (c .before .before .r .given .1) (c .before .before .before .before .check-once .ensures .0), omega arith, omega arith)
+check-once-requires : tie.Need-check-once-requires Inv-loop μ-loop
+check-once-requires c κs =
+    let l = c .before .before .before .before .before in
+    (lies-first _ _ _ _ (l .before .before .before .pre .0) (omega arith), omega arith, l .loop .inv .1, omega arith, omega arith, l .loop .inv .5)
 
 returns-2 : tie.Need-returns-2 Inv-loop μ-loop
-returns-2 c = descriptors-done _ _ _ _ _ _ (c .before .loop .inv .2) (omega arith)
+returns-2 c =
+    turn-refused _ _ _ _ (c .before .before .before .before .before .before .before .before .before .loop .inv .2) (omega arith) (c .enum-told .given .1) (c .before .before .before .check-once .ensures .0)
+
+loop-again : tie.Need-loop-again Inv-loop μ-loop
+loop-again c =
+    let l = c .before .before .before .before .before .before .before .before .before .before .before .before .loop .inv in
+    let one = c .before .before .before .before .before .before .check-once .ensures in
+    let end = c .before .before .before .step .given .1 in
+    (omega arith, settled-more _ _ _ _ _ (l .1) end (one .0), descriptors-next _ _ _ _ _ _ (l .2) (omega arith) end (one .0), one .1, one .2, one .3, omega arith)
+
+returns-3 : tie.Need-returns-3 Inv-loop μ-loop
+returns-3 c = descriptors-done _ _ _ _ _ _ (c .before .loop .inv .2) (omega arith)
 
 pub check-each-spec : {M : Type 1} → statement M
 check-each-spec =
@@ -41,14 +54,21 @@ check-each-spec =
     Inv-loop
     μ-loop
     loop-holds
+    (λ c. omega arith)
+    (λ c. omega arith)
+    (λ c. omega arith)
+    check-shared-requires
+    returns
+    (λ c. search needs)
     check-once-requires
     (λ c. search needs)
     (λ c. search needs)
-    returns
+    returns-2
+    (λ c κs. search needs)
     (λ c κs. search needs)
     (λ c. omega arith)
     (λ c. omega arith)
     loop-again
     (λ c. omega arith)
     (λ c. omega arith)
-    returns-2)
+    returns-3)

@@ -1,12 +1,15 @@
 -- `typelib::own::check_once` meets its contract.
 -- Assumes nothing.
-use Rattle.number.proofs.Tools.{arith, needs}
 use Rattle.typelib.proofs.OwnLaws.{own-shared}
+use native.Mathlib.Omega.{arith}
+use borrow.Author.Needs.{needs}
 use Rattle.typelib.proofs.own.check_once.Statement.{statement}
 use Rattle.typelib.proofs.own.check_once.Tie as tie
 
 returns : tie.Need-returns
-returns c = (own-shared _ _ _ _ _ _ (c .before .before .before .before .before .pre .3) (c .before .before .u32-at .ensures) (c .before .stood-earlier .ensures (c .if1 .taken)), omega arith, omega arith)
+returns c =
+    let s = c .before .before .before .before .before .before in
+    (own-shared _ _ _ _ _ _ (s .pre .2) (c .before .before .u32-at .ensures) (c .before .stood-earlier .ensures (c .if1 .taken)), omega arith, omega arith, s .pre .5)
 
 pub check-once-spec : {M : Type 1} → statement M
 check-once-spec =
@@ -16,8 +19,10 @@ check-once-spec =
     (λ c. search needs)
     (λ c. search needs)
     (λ c κs. search needs)
+    (λ c. search needs)
     (λ c κs. search needs)
     (λ c. search needs)
     returns
     (λ c κs. search needs)
+    (λ c. search needs)
     (λ c. search needs))
