@@ -23,6 +23,24 @@ fn is_adopting(line: &[u8], separator: u8) -> bool {
     false
 }
 
+// The k-th file of the line, which has these bytes.
+fn say_bytes(line: &[u8], separator: u8, k: usize, why: Refusal, file: &[u8], text: &mut [u8; ROOM])
+    requires { ⌜ (k ≤ pileLimit) × (length (now line) ≤ wordLimit) ⌝ }
+{
+    let name = tasks::argument(line, separator, k);
+    let a = name.from;
+    let b = name.end;
+    if is_adopting(line, separator) {
+        remarks::unadopted(&line[a..b], file, why, text);
+        return;
+    }
+    if let Task::Types(m, _) = tasks::task_of(line, separator) {
+        remarks::types_refused(&line[a..b], file, m, why, text);
+        return;
+    }
+    remarks::refused(&line[a..b], file, why, text);
+}
+
 // The k-th file of the line.
 fn say_file(
     line: &[u8],
@@ -36,22 +54,11 @@ fn say_file(
 )
     requires { ⌜ (k ≤ pileLimit) × ((length (now line) ≤ wordLimit) × Tidy (now rows) kept) ⌝ }
 {
-    let name = tasks::argument(line, separator, k);
     let file = named::file_at(line, separator, k, kept, rows, store);
-    let a = name.from;
-    let b = name.end;
-    let c = file.from;
-    let d = file.end;
+    let from = file.from;
+    let end = file.end;
     let all: &[u8] = store;
-    if is_adopting(line, separator) {
-        remarks::unadopted(&line[a..b], &all[c..d], why, text);
-        return;
-    }
-    if let Task::Types(m, _) = tasks::task_of(line, separator) {
-        remarks::types_refused(&line[a..b], &all[c..d], m, why, text);
-        return;
-    }
-    remarks::refused(&line[a..b], &all[c..d], why, text);
+    say_bytes(line, separator, k, why, &all[from..end], text)
 }
 
 // The union of its two files, whose names are parts of one line.
@@ -105,6 +112,16 @@ fn say_words(line: &[u8], separator: u8, text: &mut [u8; ROOM])
             _ => {}
         }
     }
+}
+
+// A question, or its file, which has these bytes.
+pub fn say_asked(line: &[u8], separator: u8, why: Refusal, file: &[u8], text: &mut [u8; ROOM])
+    requires { ⌜ length (now line) ≤ wordLimit ⌝ }
+{
+    if why.no == 20 {
+        return say_words(line, separator, text);
+    }
+    say_bytes(line, separator, 1, why, file, text)
 }
 
 // The line, or of its files the one that is meant.

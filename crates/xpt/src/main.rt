@@ -7,7 +7,7 @@ use feed::INPUT_ROOM;
 fn start(input: &mut [u8; INPUT_ROOM], text: &mut [u8; ROOM]) {
     let work = asking::find_work(input, text);
     if work.is_asked {
-        sessions::serve(input, work.length, work.in_batch);
+        sessions::serve(input, work.length, work.in_batch, text);
     }
 }
 

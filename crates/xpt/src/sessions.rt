@@ -1,4 +1,5 @@
 // Runs of commands, with their buffers: one command, or the lines of a batch.
+use asks::Answered;
 use failures::ROOM;
 use feed::Coming;
 use feed::Feed;
@@ -143,6 +144,15 @@ fn run_all(
     }
 }
 
+// What is said on standard error after the only command.
+fn finish(told: Told, text: &mut [u8; ROOM]) {
+    match told {
+        Told::Answer => {}
+        Told::Mistake => remarks::hint(text),
+        Told::Closed => remarks::output_gone(text),
+    }
+}
+
 // One command, whose words are the first n bytes, parted by zero bytes.
 fn run_one(
     input: &[u8; INPUT_ROOM],
@@ -167,15 +177,17 @@ fn run_one(
         text,
     );
     let told = ran.told;
-    match told {
-        Told::Answer => {}
-        Told::Mistake => remarks::hint(text),
-        Told::Closed => remarks::output_gone(text),
-    }
+    finish(told, text)
 }
 
 // A session, with its buffers: the lines from a feed on, or the command whose words are the first n bytes.
-fn hold(feed: Feed, input: &mut [u8; INPUT_ROOM], n: usize, in_batch: bool) -> Rest
+fn hold(
+    feed: Feed,
+    input: &mut [u8; INPUT_ROOM],
+    n: usize,
+    in_batch: bool,
+    text: &mut [u8; ROOM],
+) -> Rest
     requires { ⌜ Fed (now input) feed × (n ≤ inputRoom) ⌝ }
     ensures { λ r. ⌜ Fed (now (input .exit)) (r .feed) ⌝ }
 {
@@ -183,7 +195,6 @@ fn hold(feed: Feed, input: &mut [u8; INPUT_ROOM], n: usize, in_batch: bool) -> R
     let mut store = [0u8; STORE_ROOM];
     let mut out = [0u8; FILE_LIMIT];
     let mut work = [0u8; FILE_LIMIT];
-    let mut text = [0u8; ROOM];
     if in_batch {
         return run_all(
             feed,
@@ -192,32 +203,50 @@ fn hold(feed: Feed, input: &mut [u8; INPUT_ROOM], n: usize, in_batch: bool) -> R
             &mut store,
             &mut out,
             &mut work,
-            &mut text,
+            text,
         );
     }
-    run_one(
-        input,
-        n,
-        &mut rows,
-        &mut store,
-        &mut out,
-        &mut work,
-        &mut text,
-    );
+    run_one(input, n, &mut rows, &mut store, &mut out, &mut work, text);
     Rest {
         feed,
         is_going: false,
     }
 }
 
-// The commands on standard input, one a line, or the one whose words are the first n bytes. What a session has no turns for is another's. The compiler puts a function that is called once into its caller, however large it is: the second call of `hold` keeps the buffers out of the frame of `main`, and help and mistakes in the arguments run without them.
-pub fn serve(input: &mut [u8; INPUT_ROOM], n: usize, in_batch: bool)
+// The commands on standard input, one a line, or the one whose words are the first n bytes. What a session has no turns for is another's. The compiler puts a function that is called once into its caller, however large it is: the second call of `hold` keeps the buffers out of the frame of `main`, and questions, help and mistakes in the arguments run without them.
+fn serve_all(input: &mut [u8; INPUT_ROOM], n: usize, in_batch: bool, text: &mut [u8; ROOM])
     requires { ⌜ n ≤ inputRoom ⌝ }
 {
-    let rest = hold(feed::start(), input, n, in_batch);
+    let rest = hold(feed::start(), input, n, in_batch, text);
     if !rest.is_going {
         return;
     }
     let feed = rest.feed;
-    hold(feed, input, n, in_batch);
+    hold(feed, input, n, in_batch, text);
+}
+
+// The question whose words are the first n bytes.
+fn ask_one(input: &[u8; INPUT_ROOM], n: usize, text: &mut [u8; ROOM]) -> bool
+    requires { ⌜ n ≤ inputRoom ⌝ }
+{
+    let all: &[u8] = input;
+    match asks::run(&all[..n], text) {
+        Answered::Here(told) => {
+            finish(told, text);
+            true
+        }
+        Answered::Elsewhere => false,
+    }
+}
+
+// A batch, or a command: a question needs no session.
+pub fn serve(input: &mut [u8; INPUT_ROOM], n: usize, in_batch: bool, text: &mut [u8; ROOM])
+    requires { ⌜ n ≤ inputRoom ⌝ }
+{
+    if !in_batch {
+        if ask_one(input, n, text) {
+            return;
+        }
+    }
+    serve_all(input, n, in_batch, text)
 }

@@ -18,11 +18,5 @@ run-one-spec =
     (tie.spec
     slice-aggregate-run
     run-requires
-    (λ c. search needs)
-    (λ c. search needs)
     (λ c κs. search needs)
-    (λ c. search needs)
-    (λ c κs. search needs)
-    (λ c. search needs)
-    (λ c. search needs)
     (λ c. search needs))
