@@ -52,8 +52,8 @@ away; the time is what passes from its start to its end. Ratios are of the best 
 
 const NAMES: &str = "\
 A normal form holds each name once, so that (n), (o) and (q) end with bytes; with names repeated
-they were refused with 26. (a), (c), (d), (h), (i) and (l) are still, by their descriptors, which are
-never shared, and (j) with 25 by its entries. All others were written before, too.
+they were refused with 26. (a), (c), (d), (h), (i), (l), (v) and (w) are still, by their descriptors,
+which are never shared, and (j) with 25 by its entries. All others were written before, too.
 ";
 
 const HEAD: &str = "\

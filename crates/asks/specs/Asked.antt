@@ -41,12 +41,12 @@ isAsked (Run v) = isQuestion v
 isAsked (Pile n) = false
 isAsked (Types m q) = false
 
--- it was answered
+-- `asks` took it, and no session is to
 unfoldable pub isHere : Answered → Bool
 isHere (Here t) = true
 isHere Elsewhere = false
 
--- what was read stands behind the first bytes, which are as they were
+-- what was read ends behind the first bytes, which are as they were
 pub record ReadOn (front : List ℕ) (r : Came) (buf : List ℕ) : Type 0 where
   pub ends : CameIn (length front) (length buf) r
   pub before : take (length front) buf ≡ front

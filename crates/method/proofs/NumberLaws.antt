@@ -19,6 +19,7 @@ use Rattle.reading.proofs.Rows.{many-empty, many-first}
 use Rattle.types.specs.declared.Class.{Class}
 use Rattle.types.specs.declared.Class.the-variants.{Reserved, Plain, Text, Interface, InterfaceIs, Array, Sized}
 use Rattle.types.specs.Types.{Ty, classOf, readType}
+use Rattle.types.proofs.Laws.{array-tag}
 use Rattle.types.proofs.View.{TypeAs, classAt, type-is, type-as}
 use Rattle.method.specs.Parameter.{Param, paramType, readParam}
 use Rattle.method.specs.Numbers.{prefixes, wrongIid, wrongSizes, wrongNumbers, wrongArguments}
@@ -69,6 +70,9 @@ module _ (left : ℕ) (c : Context) (s : List ℕ) (p : ℕ) (a : Accepted (read
 
   pub sized-room : classAt c s p ≡ Sized → p + 3 ≤ length s
   sized-room q = type-as left c s p (a .2) Sized q .room
+
+  pub never-array : {X : Type 0} → (getD s p 0 % 32 ≡ 20 → ⊥) → classAt c s p ≡ Array → X
+  never-array n q = absurd (n (array-tag (c .minor) _ q))
 
   -- the element, with one array less
   module _ (q : classAt c s p ≡ Array) where

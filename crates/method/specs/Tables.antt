@@ -68,7 +68,7 @@ pub record Reached (c : Context) (s : List ℕ) (n at : ℕ) (flags names flags�
 abbrev pub blockSize : ℕ
 blockSize = 128
 
--- Each number of the table that is not 0 is of a method that was accepted and starts in its block: in the lowest seven bits where there, above them its length.
+-- Each number of the table from 128 on is of a method that was accepted and starts in its block: in the lowest seven bits where there, above them its length.
 pub record Remembered (c : Context) (s seen : List ℕ) : Type 0 where
   pub each : (p e : ℕ) → p ≤ fileLimit → getD seen (p / blockSize) 0 % blockSize ≡ p % blockSize → blockSize ≤ getD seen (p / blockSize) 0
       → e ≡ p + getD seen (p / blockSize) 0 / blockSize → End e ≡ stepOf (readMethod c s p)

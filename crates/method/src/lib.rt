@@ -43,9 +43,10 @@ const LOWEST: u8 = 0x08;
 // Methods that were accepted are remembered, one for each block of the pool.
 const BLOCK_SIZE: usize = 128;
 
+// The blocks of the longest pool.
 pub const BLOCK_COUNT: usize = 8193;
 
-// The shortest that are: most methods are shorter, and are as soon read.
+// The fewest bytes of one that is remembered: most methods are shorter, and are as soon read.
 const LONG: usize = 48;
 
 // Whether a result breaks the result rule: f are the method's flags, g the result's, b its prefix.

@@ -64,62 +64,40 @@ fn wrong_sizes(table: &[u8; 256], count: usize, x: u8, y: u8) -> bool
     wrong_size(table, count, y)
 }
 
-// A type that was read at `at`, with `left` arrays allowed one inside another.
-fn type_numbers(
-    pool: &[u8],
-    c: Context,
-    left: usize,
-    at: usize,
-    count: usize,
-    table: &[u8; 256],
-) -> Fine
-    requires { ⌜ Accepted (readType left c (now pool) at) × (at ≤ length (now pool)) × (length (now pool) ≤ fileLimit) × (count ≤ 256) × (256 ≡ length (now table)) ⌝ }
-    ensures { λ r. ⌜ r ≡ fineOf (take count (now (table .entry))) (readType left c (now (pool .entry)) at) ⌝ }
-{
-    let minor = c.minor;
-    let k = types::tag_class(minor, pool[at] % types::REFERENCE);
-    match k {
-        Class::Reserved => Fine::Broken,
-        Class::Plain => Fine::To(at + 1),
-        Class::Text => Fine::To(at + 1),
-        Class::Interface => Fine::To(at + 3),
-        Class::InterfaceIs => {
-            if wrong_iid(table, count, pool[at + 1]) {
-                return Fine::Broken;
-            }
-            Fine::To(at + 2)
-        }
-        Class::Array => {
-            if wrong_sizes(table, count, pool[at + 1], pool[at + 2]) {
-                return Fine::Broken;
-            }
-            let element = type_numbers(pool, c, left - 1, at + 3, count, table);
-            let Fine::To(end) = element else {
-                return Fine::Broken;
-            };
-            Fine::To(end)
-        }
-        Class::Sized => {
-            if wrong_sizes(table, count, pool[at + 1], pool[at + 2]) {
-                return Fine::Broken;
-            }
-            Fine::To(at + 3)
-        }
-    }
-}
-
-// The same of an argument or a result. The common types have no numbers, and are told here, where no function calls itself.
+// A type that was read at `at`. Arrays one inside another are passed in a loop; `left` only shows that it ends. What was accepted is never reserved, nor an array behind the loop.
 pub fn outer_numbers(pool: &[u8], c: Context, at: usize, count: usize, table: &[u8; 256]) -> Fine
     requires { ⌜ Accepted (readType 8 c (now pool) at) × (at ≤ length (now pool)) × (length (now pool) ≤ fileLimit) × (count ≤ 256) × (256 ≡ length (now table)) ⌝ }
     ensures { λ r. ⌜ r ≡ fineOf (take count (now (table .entry))) (readType 8 c (now (pool .entry)) at) ⌝ }
 {
     let minor = c.minor;
-    let k = types::tag_class(minor, pool[at] % types::REFERENCE);
+    let mut left: usize = 8;
+    let mut p = at;
+    while pool[p] % types::REFERENCE == types::ARRAY {
+        if wrong_sizes(table, count, pool[p + 1], pool[p + 2]) {
+            return Fine::Broken;
+        }
+        p += 3;
+        left -= 1;
+    }
+    let k = types::tag_class(minor, pool[p] % types::REFERENCE);
     match k {
-        Class::Plain => Fine::To(at + 1),
-        Class::Text => Fine::To(at + 1),
-        Class::Interface => Fine::To(at + 3),
-        _ => type_numbers(pool, c, 8, at, count, table),
+        Class::Plain => Fine::To(p + 1),
+        Class::Text => Fine::To(p + 1),
+        Class::Interface => Fine::To(p + 3),
+        Class::InterfaceIs => {
+            if wrong_iid(table, count, pool[p + 1]) {
+                return Fine::Broken;
+            }
+            Fine::To(p + 2)
+        }
+        Class::Sized => {
+            if wrong_sizes(table, count, pool[p + 1], pool[p + 2]) {
+                return Fine::Broken;
+            }
+            Fine::To(p + 3)
+        }
+        Class::Reserved => Fine::Broken,
+        Class::Array => Fine::Broken,
     }
 }
 

@@ -32,6 +32,10 @@ iidTag = 14
 abbrev pub astringTag : ℕ
 astringTag = 15
 
+-- an array's, of which the element's type follows
+abbrev pub arrayTag : ℕ
+arrayTag = 20
+
 -- ---- three more strings: utf8string, cstring (24) and a further astring, another type than that of tag 15
 
 abbrev pub utf8stringTag : ℕ

@@ -6,7 +6,7 @@ use Prim.Native.Nat.{ℕ, zero, suc, _+_}
 use Rattle.number.specs.Choice.{if_then_else_, _<?_, _≤?_, _=?_}
 use Rattle.reading.specs.Got.{Got, got, bad, next, byte, field}
 use Rattle.reading.specs.declared.Context.{Context}
-use Rattle.types.specs.Prefix.{pointerBit, referenceBit, tagOf, astringTag, furtherAstringTag, stringsMinor}
+use Rattle.types.specs.Prefix.{pointerBit, referenceBit, tagOf, astringTag, furtherAstringTag, stringsMinor, arrayTag}
 use Rattle.types.specs.declared.Class.{Class}
 use Rattle.types.specs.declared.Class.the-variants.{Reserved, Plain, Text, Interface, InterfaceIs, Array, Sized}
 
@@ -40,7 +40,7 @@ classOf minor tag =
     if tag ≤? 17 then Text else
     if tag =? 18 then Interface else
     if tag =? 19 then InterfaceIs else
-    if tag =? 20 then Array else
+    if tag =? arrayTag then Array else
     if tag ≤? 22 then Sized else
     if tag ≤? furtherAstringTag then (if minor <? stringsMinor then Reserved else Text) else
     Reserved

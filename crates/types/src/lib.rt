@@ -1,9 +1,13 @@
 // Reads a type. Positions are in the pool; places are in the file.
+ghost use mathlib.Core.Bool.{true};
 ghost use mathlib.Core.Path.{_≡_};
 ghost use Prim.Native.Nat.{_+_, _≤_, _<_};
 ghost use lib.ListN.{length, getD};
 ghost use Rattle.number.specs.Limits.{fileLimit};
 ghost use Rattle.reading.specs.Got.{stepOf, byte};
+ghost use Rattle.reading.specs.declared.Context.{Context};
+ghost use Rattle.reading.specs.declared.Step.the-variants.{End};
+ghost use Rattle.types.specs.Prefix.{pointerBit, tagOf, arrayTag};
 ghost use Rattle.types.specs.Types.{classOf, isReserved, needsPointer, lacksPointer, readIndex, readRest, readArray, readType};
 use reading::Context;
 use reading::Refusal;
@@ -20,6 +24,9 @@ pub const UINT32: u8 = 6;
 pub const VOID: u8 = 13;
 
 pub const IID: u8 = 14;
+
+// The tag of an array.
+pub const ARRAY: u8 = 20;
 
 // The first and the last of the three more strings.
 pub const UTF8STRING: u8 = 23;
@@ -55,7 +62,7 @@ pub fn tag_class(minor: usize, tag: u8) -> Class
         16..=17 => Class::Text,
         18 => Class::Interface,
         19 => Class::InterfaceIs,
-        20 => Class::Array,
+        ARRAY => Class::Array,
         21..=22 => Class::Sized,
         UTF8STRING..=FURTHER_ASTRING => {
             if minor < STRINGS_MINOR as usize {
@@ -250,12 +257,96 @@ fn read_array(pool: &[u8], c: Context, left: usize, at: usize) -> Step
     Step::End(end)
 }
 
+// Whether an index of a directory of `count` entries stands at `at`.
+fn is_index(pool: &[u8], count: usize, at: usize) -> bool
+    requires { ⌜ at ≤ length (now pool) × (length (now pool) ≤ fileLimit) ⌝ }
+    ensures { λ r. ⌜ (r ≡ true → (c : Context) → c .count ≡ count → End (at + 2) ≡ stepOf (readIndex c (now (pool .entry)) at)) ⌝ }
+{
+    if pool.len() < at + 2 {
+        return false;
+    }
+    let i = number::u16_at(pool, at) as usize;
+    if i == 0 {
+        return false;
+    }
+    if count < i {
+        return false;
+    }
+    true
+}
+
+// Where a type that is no array ends, or 0: `read_type` tells why.
+fn plain_end(pool: &[u8], minor: usize, count: usize, left: usize, at: usize) -> usize
+    requires { ⌜ (at < length (now pool)) × (length (now pool) ≤ fileLimit) ⌝ }
+    ensures { λ r. ⌜ ((c : Context) → c .minor ≡ minor → c .count ≡ count → 0 < r → End r ≡ stepOf (readType left c (now (pool .entry)) at)) ⌝ }
+{
+    let b = pool[at];
+    let k = tag_class(minor, b % REFERENCE);
+    if lacks_pointer(k, b) {
+        return 0;
+    }
+    match k {
+        Class::Plain => at + 1,
+        Class::Text => at + 1,
+        Class::Interface => {
+            if is_index(pool, count, at + 1) {
+                return at + 3;
+            }
+            0
+        }
+        Class::InterfaceIs => {
+            if pool.len() < at + 2 {
+                return 0;
+            }
+            at + 2
+        }
+        Class::Sized => {
+            if pool.len() < at + 3 {
+                return 0;
+            }
+            at + 3
+        }
+        _ => 0,
+    }
+}
+
+// Where a type ends, with `left` arrays allowed one inside another, or 0: `read_type` tells why. Numbers are handed on in registers, a context and a step are not.
+fn type_end(pool: &[u8], minor: usize, count: usize, left: usize, at: usize) -> usize
+    requires { ⌜ (at ≤ length (now pool)) × (length (now pool) ≤ fileLimit) × (left ≤ 8) ⌝ }
+    ensures { λ r. ⌜ ((c : Context) → c .minor ≡ minor → c .count ≡ count → 0 < r → End r ≡ stepOf (readType left c (now (pool .entry)) at)) ⌝ }
+{
+    if pool.len() <= at {
+        return 0;
+    }
+    if pool[at] % REFERENCE == ARRAY {
+        if POINTER <= pool[at] {
+            return array_end(pool, minor, count, left, at);
+        }
+    }
+    plain_end(pool, minor, count, left, at)
+}
+
+// Where the array at `at` ends, or 0: past its two argument numbers its element is a type.
+fn array_end(pool: &[u8], minor: usize, count: usize, left: usize, at: usize) -> usize
+    requires { ⌜ (at < length (now pool)) × (length (now pool) ≤ fileLimit) × (left ≤ 8) × (tagOf (getD (now pool) at 0) ≡ arrayTag) × (pointerBit ≤ getD (now pool) at 0) ⌝ }
+    ensures { λ r. ⌜ ((c : Context) → c .minor ≡ minor → c .count ≡ count → 0 < r → End r ≡ stepOf (readType left c (now (pool .entry)) at)) ⌝ }
+{
+    if left == 0 {
+        return 0;
+    }
+    if pool.len() < at + 3 {
+        return 0;
+    }
+    type_end(pool, minor, count, left - 1, at + 3)
+}
+
 // A type that may hold eight arrays one inside another. The common ones are told here, where no function calls itself.
 pub fn read_outer(pool: &[u8], c: Context, at: usize) -> Step
     requires { ⌜ (at ≤ length (now pool)) × (c .base + length (now pool) ≤ fileLimit) ⌝ }
     ensures { λ r. ⌜ r ≡ stepOf (readType 8 c (now (pool .entry)) at) ⌝ }
 {
     let minor = c.minor;
+    let count = c.count;
     if pool.len() <= at {
         return read_type(pool, c, 8, at);
     }
@@ -268,6 +359,12 @@ pub fn read_outer(pool: &[u8], c: Context, at: usize) -> Step
         Class::Plain => Step::End(at + 1),
         Class::Text => Step::End(at + 1),
         Class::Interface => read_index(pool, c, at + 1),
-        _ => read_type(pool, c, 8, at),
+        _ => {
+            let e = type_end(pool, minor, count, 8, at);
+            if e == 0 {
+                return read_type(pool, c, 8, at);
+            }
+            Step::End(e)
+        }
     }
 }

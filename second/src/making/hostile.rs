@@ -143,8 +143,8 @@ enum Ends {
 ///
 /// Long: only the last methods have arguments, very many, so that nearly every descriptor has
 /// nearly the whole file. Accessors: the methods have none, but are getters of long names. Short:
-/// each is of 46 bytes, with a long name and one argument of eight arrays; the library remembers
-/// methods from 48 bytes on.
+/// each is of 46 bytes, with a long name and five arguments, the first of eight arrays; the library
+/// remembers methods from 48 bytes on.
 fn overlapping(ends: Ends) -> Built {
     let mut methods = Vec::new();
     for following in (0..MAX_METHODS).rev() {
@@ -167,8 +167,8 @@ fn overlapping(ends: Ends) -> Built {
     let mut lib = sharing(MAX_INTERFACES, Descriptor { methods, ..Descriptor::below(ROOT) });
     lib.resolve(ROOT - 1, Descriptor::default());
     let mut built = lib.build();
-    let ends = built.placed[0].methods[1..].iter().map(|end| end - 4).collect();
-    point_others(&mut built, ends);
+    let heads = built.placed[0].methods[1..].iter().map(|end| end - 4).collect();
+    point_others(&mut built, heads);
     built
 }
 
