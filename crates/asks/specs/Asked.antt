@@ -1,18 +1,22 @@
--- A question that the arguments ask.
+-- A question that the arguments ask, and what standard output gets for it.
 -- Assumes nothing.
 use mathlib.Core.Path.{_≡_}
 use mathlib.Core.Bool.{Bool, true, false}
-use mathlib.Core.List.{List}
+use mathlib.Core.Logic.{_⊎_}
+use mathlib.Core.List.{List, []}
 use Prim.Native.Nat.{ℕ}
-use lib.ListN.{length, take}
+use lib.IntN.{ℤ}
+use Rattle.words.specs.Words.{wordsOf}
 use Rattle.verbs.specs.declared.Question.{Question}
 use Rattle.verbs.specs.declared.Verb.{Verb}
 use Rattle.verbs.specs.declared.Verb.the-variants as verb
 use Rattle.tasks.specs.declared.Task.{Task}
 use Rattle.tasks.specs.declared.Task.the-variants.{Mistaken, Run, Pile, Types}
-use Rattle.tasks.specs.Tasks.{taskOf}
-use Rattle.input.specs.declared.Came.{Came}
-use Rattle.input.specs.Came.{CameIn}
+use Rattle.tasks.specs.Tasks.{argument, taskOf}
+use Rattle.commands.specs.Answer.{answerOf}
+use Rattle.failures.specs.Lines.{unreadText}
+use Rattle.input.specs.File.{fileMost, Unread, FirstBytes}
+use Rattle.told.specs.Printed.{Printed, OutputGone, Tells}
 use Rattle.asks.specs.declared.Answered.{Answered}
 use Rattle.asks.specs.declared.Answered.the-variants.{Here, Elsewhere}
 
@@ -46,7 +50,25 @@ unfoldable pub isHere : Answered → Bool
 isHere (Here t) = true
 isHere Elsewhere = false
 
--- what was read ends behind the first bytes, which are as they were
-pub record ReadOn (front : List ℕ) (r : Came) (buf : List ℕ) : Type 0 where
-  pub ends : CameIn (length front) (length buf) r
-  pub before : take (length front) buf ≡ front
+-- the name of the file
+unfoldable pub nameIn : List ℕ → List ℕ
+nameIn line = argument 1 (wordsOf 0 line)
+
+-- what a session answers to the line about this file
+unfoldable pub answerText : List ℕ → List ℕ → List ℕ
+answerText line file = answerOf 0 line file [] [] .saying .text
+
+-- standard output got the answer from the bytes of the file that the line names, or why it cannot be read
+pub data Replied (line : List ℕ) : Type 0 where
+  answered : (file : List ℕ) → FirstBytes (nameIn line) fileMost file → Printed (answerText line file) → Replied line
+  unread : (e : ℤ) → Unread (nameIn line) e → Printed (unreadText (nameIn line) e) → Replied line
+
+-- a line that was taken was replied to, unless standard output took no more
+abbrev pub Took : List ℕ → Answered → Type 0
+Took line (Here t) = Tells (Replied line) t
+Took line Elsewhere = Unit {0}
+
+-- the same, where no more is known than whether it was taken
+abbrev pub TookIf : List ℕ → Bool → Type 0
+TookIf line true = Replied line ⊎ OutputGone
+TookIf line false = Unit {0}

@@ -4,12 +4,11 @@ ghost use Prim.Native.Nat.{_≤_};
 ghost use lib.ListN.{length};
 ghost use lib.Seq.{sets};
 ghost use Rattle.reader.specs.Reader.{checkOf};
+ghost use Rattle.ascii.specs.Ascii.{ascii};
 ghost use Rattle.text.specs.Line.{lineOf};
+ghost use Rattle.input.specs.File.{fileMost, FirstBytes};
 use input::Came;
-use number::FILE_LIMIT;
-
-// One byte more than the largest typelib has, so that a longer input is refused for its length.
-const ROOM: usize = FILE_LIMIT + 1;
+use input::FILE_MOST;
 
 // The line of the file's verdict, made at the front of `line`; the answer is its length.
 fn answer(file: &[u8], line: &mut [u8; 64]) -> usize
@@ -18,16 +17,18 @@ fn answer(file: &[u8], line: &mut [u8; 64]) -> usize
     text::put_verdict(reader::check(file), line)
 }
 
-// Prints the verdict's line, which is made in `line`.
-fn report(file: &[u8], line: &mut [u8; 64]) {
+// Prints the line of the verdict on what standard input gave, which is made in `line`.
+fn report(file: &[u8], line: &mut [u8; 64])
+    requires { ⌜ FirstBytes (ascii "-") fileMost (now file) ⌝ }
+{
     let n = answer(file, line);
     let all: &[u8] = line;
     io::write_all(1, &all[..n]);
 }
 
 // A failed read is no end of the input: nothing is judged then.
-fn run(buf: &mut [u8; ROOM]) {
-    match input::read_all(0, buf) {
+fn run(buf: &mut [u8; FILE_MOST]) {
+    match input::read_input(buf) {
         Came::To(n) => {
             let all: &[u8] = buf;
             let mut line = [0u8; 64];
@@ -40,6 +41,6 @@ fn run(buf: &mut [u8; ROOM]) {
 }
 
 fn main() {
-    let mut buf = [0u8; ROOM];
+    let mut buf = [0u8; FILE_MOST];
     run(&mut buf);
 }

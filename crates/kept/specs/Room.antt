@@ -1,13 +1,14 @@
 -- Room for more files: where it is wanting, nothing that was kept is kept on.
 -- Assumes nothing.
 use Prim.Native.Nat.{ℕ, _+_, _*_, _≤_}
-use Rattle.number.specs.Limits.{fileLimit}
+use Rattle.paths.specs.Path.{pathLimit}
+use Rattle.input.specs.File.{fileMost}
 use Rattle.number.specs.Choice.{if_then_else_, _<?_}
 use Rattle.kept.specs.declared.Kept.{Kept}
 
--- the most that one file takes: a name of 4,095 bytes, and one byte more than a file may have
+-- the most that one file takes: the longest name, and as many bytes as are read
 abbrev pub fileBytes : ℕ
-fileBytes = 4095 + (fileLimit + 1)
+fileBytes = pathLimit + fileMost
 
 -- the bytes of the store: two files that one command names always fit
 abbrev pub storeBytes : ℕ

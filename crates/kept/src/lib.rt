@@ -1,7 +1,7 @@
 // Files that were read, kept for the rest of a batch. In the store a file's name stands before its bytes. A row of the table has four
 // numbers: where the name starts, where it ends and the bytes start, where they end, and its state. Where another file might not fit, all
 // rows are given up; three of the largest files fit.
-use number::FILE_LIMIT;
+use input::FILE_MOST;
 use words::Span;
 ghost use mathlib.Core.Path.{_≡_};
 ghost use Prim.Native.Nat.{_+_, _*_, _-_, _≤_, _<_};
@@ -13,8 +13,8 @@ ghost use Rattle.kept.specs.Room.{storeBytes, Roomy, withRoom};
 ghost use Rattle.kept.specs.Files.{keptFile};
 ghost use Rattle.kept.specs.Written.{lastPart, sameEnding, mayLead, forgotten, Forgot};
 
-// The most that one file takes: a name of 4,095 bytes, and one byte more than the largest file has.
-const FILE_ROOM: usize = 4095 + (FILE_LIMIT + 1);
+// The most that one file takes: the longest name, and as many bytes as are read.
+const FILE_ROOM: usize = paths::LIMIT + FILE_MOST;
 
 // The bytes of the store.
 pub const STORE_ROOM: usize = 3 * FILE_ROOM;

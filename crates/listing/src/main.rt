@@ -6,6 +6,8 @@ ghost use mathlib.Core.Path.{_≡_};
 ghost use mathlib.Core.List.{List};
 ghost use Prim.Native.Nat.{ℕ};
 ghost use lib.ListN.{length};
+ghost use Rattle.ascii.specs.Ascii.{ascii};
+ghost use Rattle.input.specs.File.{FirstBytes};
 ghost use Rattle.printed.specs.Listing.{printedOf};
 ghost use Rattle.lines.specs.Cursor.{Printing};
 
@@ -30,7 +32,7 @@ fn list(file: &[u8], l: Layout, first: Cursor, out: &mut [u8; 65536])
 
 // Prints the first line, which is made in `line`, then the rest.
 fn report(file: &[u8], line: &mut [u8; 64], out: &mut [u8; 65536])
-    requires { ⌜ (64 ≡ length (now line)) × (65536 ≡ length (now out)) ⌝ }
+    requires { ⌜ FirstBytes (ascii "-") 65537 (now file) × ((64 ≡ length (now line)) × (65536 ≡ length (now out))) ⌝ }
 {
     let begun = lines::begin(file, line);
     let n = begun.length;
@@ -44,7 +46,7 @@ fn report(file: &[u8], line: &mut [u8; 64], out: &mut [u8; 65536])
 // Room for one byte more than is listed, so that a longer input is told from one of 65,536 bytes.
 // A failed read is no end of the input: nothing is listed then.
 fn run(buf: &mut [u8; 65537]) {
-    match input::read_all(0, buf) {
+    match input::read_input(buf) {
         Came::To(n) => {
             let all: &[u8] = buf;
             let mut line = [0u8; 64];

@@ -22,7 +22,7 @@ pub fn reason() -> u32
 
 // What lstat tells of the name at `path`; a mode of 0 is no file's.
 fn see(path: &[u8]) -> Seen {
-    if 4095 < path.len() {
+    if paths::LIMIT < path.len() {
         return Seen::Failed(36);
     }
     let mode = modes::own_mode(&paths::ended(path));

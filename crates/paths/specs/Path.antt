@@ -11,6 +11,10 @@ use Rattle.number.specs.Scan.{some}
 use Rattle.paths.specs.declared.Judged.{Judged}
 use Rattle.paths.specs.declared.Judged.the-variants.{Path, Not}
 
+-- the bytes of the longest path: the system reads 4,096, of which the last is a zero
+abbrev pub pathLimit : ℕ
+pathLimit = 4095
+
 unfoldable pub isZeroAt : List ℕ → ℕ → Bool
 isZeroAt path i = getD path i 0 =? 0
 
@@ -22,10 +26,10 @@ hasZero path = some (isZeroAt path) (length path)
 unfoldable pub judged : List ℕ → Judged
 judged path =
     if length path =? 0 then Not (pos 2) else
-    if 4095 <? length path then Not (pos 36) else
+    if pathLimit <? length path then Not (pos 36) else
     if hasZero path then Not (pos 22) else
     Path
 
--- the first 4,095 bytes, and zeros behind: 4,096 together
+-- as many bytes as a path may have, and zeros behind: 4,096 together
 unfoldable pub endedOf : List ℕ → List ℕ
-endedOf path = sets (replicate 4096 0) 0 (take 4095 path)
+endedOf path = sets (replicate 4096 0) 0 (take pathLimit path)

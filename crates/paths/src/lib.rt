@@ -3,7 +3,10 @@ ghost use mathlib.Core.Path.{_≡_};
 ghost use Prim.Native.Nat.{min};
 ghost use lib.ListN.{replicate};
 ghost use Rattle.libc.specs.Io.{Ended};
-ghost use Rattle.paths.specs.Path.{hasZero, judged, endedOf};
+ghost use Rattle.paths.specs.Path.{pathLimit, hasZero, judged, endedOf};
+
+// The longest path: the system reads 4,096 bytes, of which the last is a zero.
+pub const LIMIT: usize = 4095;
 
 // A path that can be handed on whole, or errno's number.
 pub enum Judged {
@@ -32,7 +35,7 @@ pub fn judge(path: &[u8]) -> Judged
     if path.len() == 0 {
         return Judged::Not(libc::ENOENT);
     }
-    if 4095 < path.len() {
+    if LIMIT < path.len() {
         return Judged::Not(libc::ENAMETOOLONG);
     }
     if has_zero(path) {
@@ -49,10 +52,10 @@ fn zeros() -> [u8; 4096]
 
 // At most 4,095.
 fn cut(n: usize) -> usize
-    ensures { λ r. ⌜ r ≡ min n 4095 ⌝ }
+    ensures { λ r. ⌜ r ≡ min n pathLimit ⌝ }
 {
-    if 4095 < n {
-        return 4095;
+    if LIMIT < n {
+        return LIMIT;
     }
     n
 }

@@ -171,7 +171,7 @@ fn say_left(
     let name = tasks::argument(line, separator, k);
     let from = name.from;
     let end = name.end;
-    if end - from <= 4095 {
+    if end - from <= paths::LIMIT {
         let all: &[u8] = words;
         remarks::united(&all[0..n], &line[from..end], b"", why, text);
     }

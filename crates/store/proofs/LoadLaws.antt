@@ -3,28 +3,66 @@
 use mathlib.Core.Path.{_≡_, refl, sym, ap, _∙_, subst}
 use mathlib.Core.Bool.{Bool, true, false}
 use mathlib.Core.List.{List, _++_}
-use Prim.Native.Nat.{ℕ, _+_, _*_, _≤_, _<_}
+use Prim.Native.Nat.{ℕ, _+_, _-_, _*_, _≤_, _<_}
 use native.Mathlib.Omega.{arith}
 use lib.IntN.{ℤ}
 use lib.ListN.{length, take, drop, length-append}
-use lib.Seq.{sets, sets-eq, take-take, take-at, drop-at, length-take-le}
+use lib.Seq.{sets, sets-eq, take-all, take-add, take-take, take-append-le, take-at, drop-at, length-take-le}
+use borrow.Rule.Slice.PartMut.{postOf, putMid, take-put}
 use Rattle.number.specs.Part.{part}
 use Rattle.number.proofs.Scans.{clash}
 use Rattle.words.specs.declared.Span.{Span}
+use Rattle.paths.specs.Path.{pathLimit}
+use Rattle.input.specs.declared.Came.the-variants.{To, Failed}
+use Rattle.input.specs.File.{fileMost, StandsBehind, FirstBytes}
+use Rattle.input.proofs.FileLaws.{full-first}
 use Rattle.kept.specs.declared.Kept.{Kept}
 use Rattle.kept.specs.Names.{forgottenState, rowOf, rowAdded, oneMore}
 use Rattle.kept.specs.Table.{Tidy}
 use Rattle.kept.specs.Files.{isFound}
 use Rattle.kept.proofs.AddLaws.{keeps-files, still-lost, added-found, added-file, added-others, added-keeps}
 use Rattle.kept.proofs.FileLaws.{found-yes, found-no}
-use Rattle.store.specs.Loading.{Answers, Loads}
+use Rattle.store.specs.Loading.{ReadBehind, Answers, Loads}
 use Rattle.store.specs.declared.Loaded.{Loaded}
 use Rattle.store.specs.declared.Loaded.the-variants as loaded
 use Rattle.store.specs.declared.Asked.{Asked}
 
--- a read from `end` on leaves what stands before `from`
-pub stays-before : (start now next : List ℕ) (from end : ℕ) → from ≤ end → take from now ≡ take from start → take end next ≡ take end now → take from next ≡ take from start
-stays-before start now next from end h e f = sym (take-take from end next h) ∙ ap (take from) f ∙ take-take from end now h ∙ e
+-- ---- a part of the store that was lent and read into
+
+module _ (name store ys : List ℕ) (from : ℕ) (room : from ≤ length store) where
+  abbrev k : ℕ
+  k = from + fileMost - from
+
+  abbrev text : List ℕ
+  text = putMid from k store ys
+
+  part-read : (n : ℕ) → n ≤ length ys → part text from (from + n) ≡ take n ys
+  unfolding part
+  part-read n h =
+      let rest = postOf from k store in
+      let e = length-take-le from store room in
+      ap (drop from) (take-add from n text ∙ ap (λ (z : List ℕ). z ++ take n (drop from text)) (take-put from k store ys room))
+      ∙ drop-at (take from store) (take n (drop from text)) from e
+      ∙ ap (take n) (drop-at (take from store) (ys ++ rest) from e)
+      ∙ take-append-le n ys rest h
+
+  module _ (whole : length ys ≡ fileMost) where
+    pub read-whole : (n : ℕ) → n < length ys → FirstBytes name (length ys) (take n ys) → ReadBehind name store from (To (from + n)) text
+    read-whole n h f = record {
+      ends = (omega arith, omega arith);
+      before = take-put from k store ys room;
+      bytes = subst (FirstBytes name fileMost) (sym (part-read n (omega arith))) (subst (λ (r : ℕ). FirstBytes name r (take n ys)) whole f);
+    }
+
+    pub read-full : (fd : ℤ) → StandsBehind name fd ys → ReadBehind name store from (To (from + fileMost)) text
+    read-full fd s = record {
+      ends = (omega arith, omega arith);
+      before = take-put from k store ys room;
+      bytes = subst (FirstBytes name fileMost) (sym (part-read fileMost (omega arith) ∙ take-all fileMost ys (omega arith))) (subst (λ (r : ℕ). FirstBytes name r ys) whole (full-first name fd ys s));
+    }
+
+  pub read-none : (e : ℤ) → ReadBehind name store from (Failed e) text
+  read-none e = record { ends = tt; before = take-put from k store ys room; bytes = tt }
 
 -- ---- nothing more is kept
 
@@ -73,7 +111,7 @@ module _ (name : List ℕ) (kept : Kept) (rows store written text : List ℕ) (f
   pub read-fails : (e : ℤ) → Loads false name kept rows store (record { kept = kept; file = loaded.Failed e }) rows text
   read-fails e = same-kept false name kept rows store tidy text (loaded.Failed e) used-stays refl
 
-  module _ (state end : ℕ) (few : kept .rows < 64) (lost : isFound name kept rows store ≡ false) (s : state < forgottenState) (short : length name ≤ 4095) (f : from ≤ end) (l : end ≤ from + 1048577) where
+  module _ (state end : ℕ) (few : kept .rows < 64) (lost : isFound name kept rows store ≡ false) (s : state < forgottenState) (short : length name ≤ pathLimit) (f : from ≤ end) (l : end ≤ from + fileMost) (held : FirstBytes name fileMost (part text from end)) where
     abbrev file : Span
     file = record { from = from; end = end }
 
@@ -90,7 +128,7 @@ module _ (name : List ℕ) (kept : Kept) (rows store written text : List ℕ) (f
             refl,
             record {
               found = added-found name state file kept rows store text h tidy used-stays q name-stands lost;
-              bytes = λ _. added-file name state file kept rows store text h tidy used-stays q name-stands lost ∙ ap (λ (i : ℕ). part text i end) w;
+              bytes = λ _. subst (FirstBytes name fileMost) (sym (added-file name state file kept rows store text h tidy used-stays q name-stands lost)) held;
             },
           );
           few = omega arith;

@@ -4,43 +4,40 @@ use mathlib.Core.Path.{_≡_}
 use mathlib.Core.Bool.{Bool, true, false}
 use mathlib.Core.List.{List}
 use Prim.Native.Nat.{ℕ, _+_, _≤_}
-use lib.ListN.{length, take}
+use lib.ListN.{take}
 use Rattle.number.specs.Choice.{if_then_else_}
 use Rattle.number.specs.Part.{part}
-use Rattle.ascii.specs.Ascii.{ascii}
-use Rattle.key.specs.Word.{sameWord}
+use Rattle.input.specs.declared.Came.{Came}
+use Rattle.input.specs.declared.Came.the-variants as came
+use Rattle.input.specs.Came.{CameIn}
+use Rattle.input.specs.File.{fileMost, isInput, FirstBytes}
 use Rattle.kept.specs.declared.Kept.{Kept}
 use Rattle.kept.specs.Table.{Tidy}
 use Rattle.kept.specs.Room.{fileBytes}
 use Rattle.kept.specs.Files.{isFound, fileOf, KeptOn}
-use Rattle.store.specs.declared.Read.{Read}
-use Rattle.store.specs.declared.Read.the-variants as read
 use Rattle.store.specs.declared.Loaded.{Loaded}
 use Rattle.store.specs.declared.Loaded.the-variants as loaded
 use Rattle.store.specs.declared.Asked.{Asked}
-
--- the name of standard input
-abbrev pub isInput : List ℕ → Bool
-isInput name = sameWord name (ascii "-")
 
 -- standard input, where its lines are the batch's
 unfoldable pub isBarred : Bool → List ℕ → Bool
 isBarred batch name = if batch then isInput name else false
 
--- what was read from `from` on ends at `most` or before
-abbrev pub EndsIn : ℕ → ℕ → Read → Type 0
-EndsIn from most (read.UpTo end) = (from ≤ end) × (end ≤ most)
-EndsIn from most (read.Failed e) = Unit {0}
+-- what stands in the store from `from` on is the file's
+abbrev pub StandsFrom : List ℕ → ℕ → Came → List ℕ → Type 0
+StandsFrom name from (came.To end) text = FirstBytes name fileMost (part text from end)
+StandsFrom name from (came.Failed e) text = Unit {0}
 
--- it was read behind the bytes before `from`, which are as they were
-pub record ReadBehind (store : List ℕ) (from most : ℕ) (r : Read) (text : List ℕ) : Type 0 where
-  pub ends : EndsIn from most r
+-- the file of this name was read behind the bytes before `from`, which are as they were
+pub record ReadBehind (name store : List ℕ) (from : ℕ) (r : Came) (text : List ℕ) : Type 0 where
+  pub ends : CameIn from (from + fileMost) r
   pub before : take from text ≡ take from store
+  pub bytes : StandsFrom name from r text
 
--- the file is kept under its name; where it was not before, its bytes are those that were read behind the name
+-- the file is kept under its name; where it was not before, its bytes are those that were read of it
 pub record Stands (name : List ℕ) (kept : Kept) (rows store : List ℕ) (after : Kept) (table text : List ℕ) : Type 0 where
   pub found : isFound name after table text ≡ true
-  pub bytes : isFound name kept rows store ≡ false → fileOf name after table text ≡ part text (kept .used + length name) (after .used)
+  pub bytes : isFound name kept rows store ≡ false → FirstBytes name fileMost (fileOf name after table text)
 
 -- the answer says where it is, whether standard input is not to be had, or why there is no such file
 abbrev pub Answers : Bool → List ℕ → Kept → List ℕ → List ℕ → Kept → List ℕ → List ℕ → Loaded → Type 0

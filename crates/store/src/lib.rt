@@ -1,4 +1,7 @@
-// Files by name, read where they are not kept from an earlier command of the batch (crate `kept`). The name `-` is standard input's.
+// Files by name, read where they are not kept from an earlier command of the batch (crate `kept`).
+use input::Begun;
+use input::Came;
+use input::FILE_MOST;
 use kept::Kept;
 use kept::STORE_ROOM;
 use words::Span;
@@ -6,16 +9,13 @@ ghost use mathlib.Core.Path.{_≡_};
 ghost use mathlib.Core.Bool.{false};
 ghost use Prim.Native.Nat.{_+_, _≤_, _<_};
 ghost use lib.ListN.{length};
-ghost use Rattle.number.specs.Limits.{fileLimit};
+ghost use Rattle.paths.specs.Path.{pathLimit};
+ghost use Rattle.input.specs.File.{fileMost};
 ghost use Rattle.kept.specs.Names.{forgottenState};
 ghost use Rattle.kept.specs.Table.{Tidy};
-ghost use Rattle.kept.specs.Room.{storeBytes, Roomy};
+ghost use Rattle.kept.specs.Room.{Roomy};
 ghost use Rattle.kept.specs.Files.{isFound};
-ghost use Rattle.store.specs.Loading.{isInput, isBarred, ReadBehind, Loads};
-use number::FILE_LIMIT;
-
-// One byte more than the largest typelib has, so that a longer file is told from it.
-const MOST: usize = FILE_LIMIT + 1;
+ghost use Rattle.store.specs.Loading.{isBarred, ReadBehind, Loads};
 
 // A file is kept under its name; standard input is the batch's own; or errno's number.
 pub enum Loaded {
@@ -30,50 +30,30 @@ pub struct Asked {
     pub file: Loaded,
 }
 
-// Where what was read ends, or errno's number.
-enum Read {
-    UpTo(usize),
-    Failed(i32),
-}
-
-// Some of the file's bytes into the store from `from` up to `most`; none at the file's end.
-fn read_some(fd: i32, from: usize, most: usize, store: &mut [u8]) -> Read
-    requires { ⌜ (from ≤ most) × (most ≤ length (now store)) ⌝ }
-    ensures { λ r. ⌜ ReadBehind (now (store .entry)) from most r (now (store .exit)) ⌝ }
+// The file's bytes into the store from `from` on.
+fn read_from(name: &[u8], from: usize, store: &mut [u8]) -> Came
+    requires { ⌜ from + fileMost ≤ length (now store) ⌝ }
+    ensures { λ r. ⌜ ReadBehind (now (name .entry)) (now (store .entry)) from r (now (store .exit)) ⌝ }
 {
-    let part = &mut store[from..most];
-    let got = libc::read(fd, part);
-    if got < 0 {
-        return Read::Failed(os::errno());
-    }
-    Read::UpTo(from + io::count(got, part))
-}
-
-// The file's bytes into the store from `from` on, at most that many.
-fn read_from(fd: i32, from: usize, store: &mut [u8; STORE_ROOM]) -> Read
-    requires { ⌜ from + (fileLimit + 1) ≤ storeBytes ⌝ }
-    ensures { λ r. ⌜ ReadBehind (now (store .entry)) from (from + (fileLimit + 1)) r (now (store .exit)) ⌝ }
-{
-    let most = from + MOST;
-    let mut end = from;
-    while end < most {
-        let got = read_some(fd, end, most, store);
-        let Read::UpTo(next) = got else {
-            return got;
-        };
-        if next == end {
-            break;
+    let most = from + FILE_MOST;
+    match input::begin(name, &mut store[from..most]) {
+        Begun::Failed(error) => Came::Failed(error),
+        Begun::Full(fd) => {
+            input::close(name, fd);
+            Came::To(most)
         }
-        end = next;
+        Begun::Whole(n) => Came::To(from + n),
     }
-    Read::UpTo(end)
 }
 
 // The state of a row.
-fn link_state(path: &[u8]) -> usize
+fn state_of(name: &[u8]) -> usize
     ensures { λ r. ⌜ r < forgottenState ⌝ }
 {
-    let all = paths::ended(path);
+    if input::is_input(name) {
+        return kept::PLAIN;
+    }
+    let all = paths::ended(name);
     let mut target = [0u8; 8];
     if libc::readlink(&all, &mut target) < 0 {
         return kept::PLAIN;
@@ -81,67 +61,22 @@ fn link_state(path: &[u8]) -> usize
     kept::LINK
 }
 
-// The open file behind what is kept, with its name before it.
-fn read_in(
-    fd: i32,
-    state: usize,
-    name: &[u8],
-    kept: Kept,
-    rows: &mut [usize; 256],
-    store: &mut [u8; STORE_ROOM],
-) -> Asked
-    requires { ⌜ Tidy (now rows) kept × (Roomy 1 kept × ((isFound (now name) kept (now rows) (now store) ≡ false) × ((state < forgottenState) × (length (now name) ≤ 4095)))) ⌝ }
+// The file, which is not kept, behind what is, with its name before it.
+fn read_in(name: &[u8], kept: Kept, rows: &mut [usize; 256], store: &mut [u8; STORE_ROOM]) -> Asked
+    requires { ⌜ Tidy (now rows) kept × (Roomy 1 kept × ((isFound (now name) kept (now rows) (now store) ≡ false) × (length (now name) ≤ pathLimit))) ⌝ }
     ensures { λ r. ⌜ Loads false (now (name .entry)) kept (now (rows .entry)) (now (store .entry)) r (now (rows .exit)) (now (store .exit)) ⌝ }
 {
     let from = text::put_bytes(store, kept.used, name);
-    match read_from(fd, from, store) {
-        Read::Failed(error) => Asked {
+    match read_from(name, from, store) {
+        Came::Failed(error) => Asked {
             kept,
             file: Loaded::Failed(error),
         },
-        Read::UpTo(end) => Asked {
-            kept: kept::add(state, Span { from, end }, kept, rows),
+        Came::To(end) => Asked {
+            kept: kept::add(state_of(name), Span { from, end }, kept, rows),
             file: Loaded::Kept,
         },
     }
-}
-
-// The name of standard input.
-fn is_input(name: &[u8]) -> bool
-    ensures { λ r. ⌜ r ≡ isInput (now (name .entry)) ⌝ }
-{
-    words::is_same(name, b"-")
-}
-
-// The file is not kept.
-fn open_and_read(
-    name: &[u8],
-    kept: Kept,
-    rows: &mut [usize; 256],
-    store: &mut [u8; STORE_ROOM],
-) -> Asked
-    requires { ⌜ Tidy (now rows) kept × (Roomy 1 kept × (isFound (now name) kept (now rows) (now store) ≡ false)) ⌝ }
-    ensures { λ r. ⌜ Loads false (now (name .entry)) kept (now (rows .entry)) (now (store .entry)) r (now (rows .exit)) (now (store .exit)) ⌝ }
-{
-    if 4095 < name.len() {
-        return Asked {
-            kept,
-            file: Loaded::Failed(libc::ENAMETOOLONG),
-        };
-    }
-    if is_input(name) {
-        return read_in(libc::STDIN_FILENO, kept::PLAIN, name, kept, rows, store);
-    }
-    let fd = os::open_read(name);
-    if fd < 0 {
-        return Asked {
-            kept,
-            file: Loaded::Failed(os::errno()),
-        };
-    }
-    let asked = read_in(fd, link_state(name), name, kept, rows, store);
-    libc::close(fd);
-    asked
 }
 
 // Standard input, where its lines are the batch's.
@@ -149,7 +84,7 @@ fn is_barred(in_batch: bool, name: &[u8]) -> bool
     ensures { λ r. ⌜ r ≡ isBarred «in_batch» (now (name .entry)) ⌝ }
 {
     if in_batch {
-        return is_input(name);
+        return input::is_input(name);
     }
     false
 }
@@ -177,5 +112,11 @@ pub fn load(
             file: Loaded::Kept,
         };
     }
-    open_and_read(name, kept, rows, store)
+    if paths::LIMIT < name.len() {
+        return Asked {
+            kept,
+            file: Loaded::Failed(libc::ENAMETOOLONG),
+        };
+    }
+    read_in(name, kept, rows, store)
 }

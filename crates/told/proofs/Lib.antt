@@ -1,1 +1,2 @@
 pub mod RestLaws
+pub mod PrintLaws

@@ -7,12 +7,19 @@ use number::FILE_LIMIT;
 use saving::Saved;
 use sayings::ANSWER_ROOM;
 use store::Loaded;
-ghost use Prim.Native.Nat.{_≤_};
+ghost use mathlib.Core.Path.{_≡_};
+ghost use mathlib.Core.Bool.{true};
+ghost use mathlib.Core.List.{List};
+ghost use Prim.Native.Nat.{ℕ, _≤_};
 ghost use lib.ListN.{length};
 ghost use Rattle.number.specs.Limits.{fileLimit};
+ghost use Rattle.words.specs.Words.{wordsOf};
+ghost use Rattle.tasks.specs.Tasks.{argument};
 ghost use Rattle.failures.specs.Room.{room, wordLimit};
+ghost use Rattle.failures.specs.Lines.{lineTooLongText, inputInBatchText, unreadText};
 ghost use Rattle.sayings.specs.Sayings.{answerRoom};
 ghost use Rattle.pile.specs.Pile.{pileLimit};
+ghost use Rattle.told.specs.Printed.{Printed, Prints, Tells, isOpen};
 
 // What standard output got: an answer, a line for a mistake in the words, or nothing any more.
 pub enum Told {
@@ -27,7 +34,9 @@ pub struct Ran {
     pub told: Told,
 }
 
-fn answered(is_open: bool) -> Told {
+fn answered(is_open: bool) -> Told
+    ensures { λ r. ⌜ ((bytes : List ℕ) → Prints bytes «is_open» → Tells (Printed bytes) r) ⌝ }
+{
     if is_open {
         return Told::Answer;
     }
@@ -35,7 +44,9 @@ fn answered(is_open: bool) -> Told {
 }
 
 // Standard input has the commands.
-pub fn say_input(text: &mut [u8; ROOM]) -> Told {
+pub fn say_input(text: &mut [u8; ROOM]) -> Told
+    ensures { λ r. ⌜ Tells (Printed inputInBatchText) r ⌝ }
+{
     let n = failures::input_in_batch(text);
     answered(streams::put_error(text, n))
 }
@@ -43,6 +54,7 @@ pub fn say_input(text: &mut [u8; ROOM]) -> Told {
 // The k-th file could not be read.
 pub fn say_unread(line: &[u8], separator: u8, k: usize, error: i32, text: &mut [u8; ROOM]) -> Told
     requires { ⌜ (k ≤ pileLimit) × (length (now line) ≤ wordLimit) ⌝ }
+    ensures { λ r. ⌜ Tells (Printed (unreadText (argument k (wordsOf separator (now (line .entry)))) error)) r ⌝ }
 {
     let name = tasks::argument(line, separator, k);
     let from = name.from;
@@ -77,6 +89,7 @@ pub fn say_mistake(
     text: &mut [u8; ROOM],
 ) -> Told
     requires { ⌜ n ≤ answerRoom ⌝ }
+    ensures { λ r. ⌜ isOpen r ≡ true ⌝ }
 {
     let all: &[u8] = head;
     if tasks::files_of(tasks::task_of(line, separator)) == 0 {
@@ -143,7 +156,9 @@ pub fn say_saved(
 }
 
 // The line of a batch that was too long.
-pub fn say_too_long(text: &mut [u8; ROOM]) -> Told {
+pub fn say_too_long(text: &mut [u8; ROOM]) -> Told
+    ensures { λ r. ⌜ Tells (Printed lineTooLongText) r ⌝ }
+{
     let n = failures::line_too_long(text);
     answered(streams::put_error(text, n))
 }

@@ -10,8 +10,11 @@ use kept::STORE_ROOM;
 use number::FILE_LIMIT;
 use told::Told;
 ghost use mathlib.Core.Path.{_≡_};
+ghost use mathlib.Core.Bool.{true, false};
 ghost use Prim.Native.Nat.{_≤_};
-ghost use lib.ListN.{length};
+ghost use lib.ListN.{length, take};
+ghost use Rattle.tasks.specs.Tasks.{taskOf};
+ghost use Rattle.asks.specs.Asked.{isAsked, TookIf};
 ghost use Rattle.feed.specs.Lines.{inputRoom};
 ghost use Rattle.feed.specs.Input.{Fed};
 ghost use Rattle.kept.specs.Table.{Tidy};
@@ -153,7 +156,7 @@ fn finish(told: Told, text: &mut [u8; ROOM]) {
     }
 }
 
-// One command, whose words are the first n bytes, parted by zero bytes.
+// One command that is no question, whose words are the first n bytes, parted by zero bytes.
 fn run_one(
     input: &[u8; INPUT_ROOM],
     n: usize,
@@ -163,7 +166,7 @@ fn run_one(
     work: &mut [u8; FILE_LIMIT],
     text: &mut [u8; ROOM],
 )
-    requires { ⌜ (n ≤ inputRoom) × (256 ≡ length (now rows)) ⌝ }
+    requires { ⌜ (n ≤ inputRoom) × ((256 ≡ length (now rows)) × (isAsked (taskOf 0 (take n (now input))) ≡ false)) ⌝ }
 {
     let all: &[u8] = input;
     let ran = runs::run(
@@ -188,8 +191,8 @@ fn hold(
     in_batch: bool,
     text: &mut [u8; ROOM],
 ) -> Rest
-    requires { ⌜ Fed (now input) feed × (n ≤ inputRoom) ⌝ }
-    ensures { λ r. ⌜ Fed (now (input .exit)) (r .feed) ⌝ }
+    requires { ⌜ Fed (now input) feed × ((n ≤ inputRoom) × («in_batch» ≡ false → isAsked (taskOf 0 (take n (now input))) ≡ false)) ⌝ }
+    ensures { λ r. ⌜ Fed (now (input .exit)) (r .feed) × («in_batch» ≡ false → r .«is_going» ≡ false) ⌝ }
 {
     let mut rows = [0usize; 256];
     let mut store = [0u8; STORE_ROOM];
@@ -215,7 +218,7 @@ fn hold(
 
 // The commands on standard input, one a line, or the one whose words are the first n bytes. What a session has no turns for is another's. The compiler puts a function that is called once into its caller, however large it is: the second call of `hold` keeps the buffers out of the frame of `main`, and questions, help and mistakes in the arguments run without them.
 fn serve_all(input: &mut [u8; INPUT_ROOM], n: usize, in_batch: bool, text: &mut [u8; ROOM])
-    requires { ⌜ n ≤ inputRoom ⌝ }
+    requires { ⌜ (n ≤ inputRoom) × («in_batch» ≡ false → isAsked (taskOf 0 (take n (now input))) ≡ false) ⌝ }
 {
     let rest = hold(feed::start(), input, n, in_batch, text);
     if !rest.is_going {
@@ -225,9 +228,10 @@ fn serve_all(input: &mut [u8; INPUT_ROOM], n: usize, in_batch: bool, text: &mut 
     hold(feed, input, n, in_batch, text);
 }
 
-// The question whose words are the first n bytes.
+// The question whose words are the first n bytes; whether they are one.
 fn ask_one(input: &[u8; INPUT_ROOM], n: usize, text: &mut [u8; ROOM]) -> bool
     requires { ⌜ n ≤ inputRoom ⌝ }
+    ensures { λ r. ⌜ (r ≡ isAsked (taskOf 0 (take n (now (input .entry))))) × TookIf (take n (now (input .entry))) r ⌝ }
 {
     let all: &[u8] = input;
     match asks::run(&all[..n], text) {
@@ -239,14 +243,24 @@ fn ask_one(input: &[u8; INPUT_ROOM], n: usize, text: &mut [u8; ROOM]) -> bool
     }
 }
 
-// A batch, or a command: a question needs no session.
+// A question by arguments; whether the first n bytes are one.
+fn is_answered(input: &[u8; INPUT_ROOM], n: usize, in_batch: bool, text: &mut [u8; ROOM]) -> bool
+    requires { ⌜ n ≤ inputRoom ⌝ }
+    ensures { λ r. ⌜ («in_batch» ≡ false → (r ≡ isAsked (taskOf 0 (take n (now (input .entry))))) × TookIf (take n (now (input .entry))) r) ⌝ }
+{
+    if in_batch {
+        return false;
+    }
+    ask_one(input, n, text)
+}
+
+// A batch, or a command: a question needs no session. There is one call of `serve_all`, with no number known to the compiler, which would make two of `hold`.
 pub fn serve(input: &mut [u8; INPUT_ROOM], n: usize, in_batch: bool, text: &mut [u8; ROOM])
     requires { ⌜ n ≤ inputRoom ⌝ }
+    ensures { λ _. ⌜ («in_batch» ≡ false → isAsked (taskOf 0 (take n (now (input .entry)))) ≡ true → TookIf (take n (now (input .entry))) true) ⌝ }
 {
-    if !in_batch {
-        if ask_one(input, n, text) {
-            return;
-        }
+    if is_answered(input, n, in_batch, text) {
+        return;
     }
     serve_all(input, n, in_batch, text)
 }

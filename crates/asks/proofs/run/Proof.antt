@@ -14,15 +14,15 @@ ask-file-requires c κs =
 
 returns : tie.Need-returns
 unfolding isHere isAsked isQuestion
-returns c = rw (← c .before .before .before .before .before .before .before .before .task-of .ensures, c .before .before .before .before .before .before .verb .given .1, c .before .before .before .verb2 .given .1)
+returns c = (rw (← c .before .before .before .before .before .before .before .before .task-of .ensures, c .before .before .before .before .before .before .verb .given .1, c .before .before .before .verb2 .given .1), c .ask-file .ensures)
 
 returns-2 : tie.Need-returns-2
 unfolding isHere isAsked
-returns-2 c = rw (← c .before .before .before .before .task-of .ensures, c .before .before .verb .given .1) (sym (other-verb _ (c .match2 .keys2)))
+returns-2 c = (rw (← c .before .before .before .before .task-of .ensures, c .before .before .verb .given .1) (sym (other-verb _ (c .match2 .keys2))), tt)
 
 returns-3 : tie.Need-returns-3
 unfolding isHere
-returns-3 c = rw (← c .before .task-of .ensures) (sym (other-task _ (c .match .keys2)))
+returns-3 c = (rw (← c .before .task-of .ensures) (sym (other-task _ (c .match .keys2))), tt)
 
 pub run-spec : {M : Type 1} → statement M
 run-spec =

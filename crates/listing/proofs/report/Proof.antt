@@ -16,7 +16,7 @@ list-requires c κs =
     let a = c .before .before .before .before .before .before .before .before .before .args in
     let p = c .before .before .before .before .before .before .before .before .before .pre in
     let r = c .before .before .before .before .before .before .begin in
-    ((_, printing-first (a .file .now) _ (a .line .now) (r .result) _ (p .0) (r .ensures)), p .1)
+    ((_, printing-first (a .file .now) _ (a .line .now) (r .result) _ (p .1 .0) (r .ensures)), p .1 .1)
 
 pub report-spec : {M : Type 1} → statement M
 report-spec =

@@ -2,6 +2,7 @@
 -- Assumes nothing.
 use lib.Seq.{length-take-le}
 use Rattle.number.proofs.Tools.{sym, arith, needs}
+use Rattle.told.specs.Printed.{isOpen}
 use Rattle.told.proofs.say_mistake.Statement.{statement}
 use Rattle.told.proofs.say_mistake.Tie as tie
 
@@ -18,6 +19,7 @@ error-requires-2 : tie.Need-error-requires-2
 error-requires-2 c κs = rw (length-take-le (c .before .before .before .before .before .before .before .before .before .args .n) (c .before .before .before .before .before .before .before .before .before .args .head .now) (omega arith)) (omega arith)
 
 pub say-mistake-spec : {M : Type 1} → statement M
+unfolding isOpen
 say-mistake-spec =
     tie.close
     (tie.spec

@@ -2,8 +2,21 @@
 -- Assumes nothing.
 use lib.Seq.{length-take-le}
 use Rattle.number.proofs.Tools.{sym, arith, needs}
+use Rattle.told.proofs.PrintLaws.{prints-line}
 use Rattle.told.proofs.streams.put_error.Statement.{statement}
 use Rattle.told.proofs.streams.put_error.Tie as tie
+
+returns : tie.Need-returns
+returns c =
+    let w = c .before .before .before .before .before .before .before .before in
+    let a = w .before .before .before .before .args in
+    λ line f. prints-line line (a .text .now) (a .n) (w .write .result) f (omega arith) (w .write .ensures)
+
+returns-2 : tie.Need-returns-2
+returns-2 c =
+    let w = c .before in
+    let a = w .before .before .before .before .args in
+    λ line f. prints-line line (a .text .now) (a .n) (w .write .result) f (omega arith) (w .write .ensures)
 
 pub put-error-spec : {M : Type 1} → statement M
 put-error-spec =
@@ -17,5 +30,5 @@ put-error-spec =
     (λ c. search needs)
     (λ c. search needs)
     (λ c κs. search needs)
-    (λ c. search needs)
-    (λ c. search needs))
+    returns
+    returns-2)

@@ -10,7 +10,7 @@ slice-aggregate-run : tie.Need-slice-aggregate-run
 slice-aggregate-run c = sym (length-take-le (c .before .before .args .n) (c .before .before .args .input .now) (omega arith))
 
 run-requires : tie.Need-run-requires
-run-requires c κs = (rw (length-take-le (c .before .before .before .before .before .before .before .args .n) (c .before .before .before .before .before .before .before .args .input .now) (omega arith)) (omega arith), tidy-nothing _ (c .before .before .before .before .before .before .before .pre .1))
+run-requires c κs = (rw (length-take-le (c .before .before .before .before .before .before .before .args .n) (c .before .before .before .before .before .before .before .args .input .now) (omega arith)) (omega arith), tidy-nothing _ (c .before .before .before .before .before .before .before .pre .1 .0))
 
 pub run-one-spec : {M : Type 1} → statement M
 run-one-spec =
