@@ -18,10 +18,11 @@ use Rattle.head.specs.declared.Header.{Header}
 use Rattle.head.specs.Header.{readHeader}
 use Rattle.reader.specs.Records.{Bytes}
 use Rattle.joining.specs.Outcome.{Outcome, refused, written, refusal}
-use Rattle.adopt.specs.Headed.{Headed}
-use Rattle.adopt.specs.Adopt.{startOf, misplacedStart, gapOf, movedBytes, adopted, fitted, movedOf, adoptOf}
+use Rattle.genuine.specs.Headed.{Headed}
+use Rattle.genuine.specs.Start.{startOf, misplacedStart}
+use Rattle.adopt.specs.Adopt.{gapOf, movedBytes, adopted, fitted, movedOf, adoptOf}
 use Rattle.adopt.specs.Theorems.{Adopts, Bytewise}
-use Rattle.adopt.proofs.Front.{refused-headed, read-headed}
+use Rattle.genuine.proofs.Front.{refused-headed, read-headed}
 use Rattle.adopt.proofs.Stored.{length-moved}
 use Rattle.adopt.proofs.Moved.{bytewise, directory-says, fields-small, moved-drop}
 

@@ -17,7 +17,8 @@ use Rattle.head.specs.Header.{readHeader}
 use Rattle.joining.specs.declared.Normalised.{Normalised}
 use Rattle.joining.specs.declared.Normalised.the-variants.{Written, Refused}
 use Rattle.joining.specs.Outcome.{Outcome, refused, written, refusal, inRoom, after, normalisedAs}
-use Rattle.adopt.specs.Adopt.{startOf, misplacedStart, gapOf, movedBytes, adopted, fitted, movedOf, adoptOf, adoptIn, adoptAnswer, adoptBuffer}
+use Rattle.genuine.specs.Start.{startOf, misplacedStart}
+use Rattle.adopt.specs.Adopt.{gapOf, movedBytes, adopted, fitted, movedOf, adoptOf, adoptIn, adoptAnswer, adoptBuffer}
 
 -- r is the answer for this outcome, and `left` what the buffer becomes
 abbrev pub Answers : Outcome Refusal → List ℕ → Normalised → List ℕ → Type 0

@@ -12,7 +12,8 @@ use Rattle.head.specs.Header.{magic, offMagic, magicEnd, unknownMinor, lengthFa
 use Rattle.reader.specs.Reader.Marked.{P2}
 use Rattle.normal.specs.BigEndian.{bytesOf}
 use Rattle.joining.specs.Outcome.{written}
-use Rattle.adopt.specs.Adopt.{startOf, misplacedStart, gapOf, headBytes, movedBytes, adopted, fitted, movedOf, adoptOf}
+use Rattle.genuine.specs.Start.{startOf, misplacedStart}
+use Rattle.adopt.specs.Adopt.{gapOf, headBytes, movedBytes, adopted, fitted, movedOf, adoptOf}
 use Rattle.adopt.specs.Theorems.{Adopts}
 
 -- P2 so written

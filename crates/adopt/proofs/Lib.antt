@@ -1,7 +1,5 @@
-pub mod Front
 pub mod Stored
 pub mod Answers
-pub mod Passing
 pub mod Alike
 pub mod Moved
 pub mod Adopted

@@ -28,7 +28,8 @@ use Rattle.normal.proofs.Numbers.{bytes-read}
 use Rattle.joining.specs.declared.Normalised.{Normalised}
 use Rattle.joining.specs.declared.Normalised.the-variants as normalised
 use Rattle.joining.specs.Outcome.{Outcome, refused, written, refusal, inRoom, after, normalisedAs}
-use Rattle.adopt.specs.Adopt.{startOf, gapOf, adoptOf, adoptIn, adoptAnswer, adoptBuffer}
+use Rattle.genuine.specs.Start.{startOf}
+use Rattle.adopt.specs.Adopt.{gapOf, adoptOf, adoptIn, adoptAnswer, adoptBuffer}
 use Rattle.adopt.specs.Placed.{fieldsOf, ShowsAt}
 use Rattle.adopt.specs.Theorems.{Adopts, Bytewise, Kept, Shown, Accepts, Left}
 use Rattle.adopt.proofs.Adopted.{Says, adopts-says, Cut, cut-bytes, cut-directory, cut-small, none-cut, some-cut, gap-few}

@@ -14,8 +14,9 @@ use Rattle.number.proofs.Choice.{is-eq, no-eq}
 use Rattle.reader.specs.Values.{Header, Annotation, Entry, Typelib, typelib}
 use Rattle.reader.specs.Records.{ShowsHeader, ShowsText, ShowsNotes, ShowsEntries, ShowsTypelib, annotationLimit, poolOf}
 use Rattle.reader.specs.Rules.{PositionRule}
-use Rattle.adopt.specs.Headed.{Headed}
-use Rattle.adopt.specs.Adopt.{startOf, gapOf}
+use Rattle.genuine.specs.Headed.{Headed}
+use Rattle.genuine.specs.Start.{startOf}
+use Rattle.adopt.specs.Adopt.{gapOf}
 use Rattle.adopt.specs.Placed.{fieldsOf, limitAt, ShowsAt}
 use Rattle.adopt.specs.Theorems.{Bytewise, Published, Told}
 use Rattle.adopt.proofs.Alike.{be-same, Alike, alike-back, notes-alike, Stands, stands-back, entries-same}

@@ -13,20 +13,10 @@ use Rattle.reading.specs.Got.{Got, got, bad}
 use Rattle.reading.specs.declared.Refusal.{Refusal}
 use Rattle.head.specs.declared.Header.{Header}
 use Rattle.head.specs.Header.{readHeader}
+use Rattle.genuine.specs.Start.{startOf, misplacedStart}
 use Rattle.normal.specs.BigEndian.{bytesOf}
 use Rattle.joining.specs.declared.Normalised.{Normalised}
 use Rattle.joining.specs.Outcome.{Outcome, refused, written, refusal, inRoom, after, normalisedAs}
-
--- where the directory starts: its field counts from 1
-unfoldable pub startOf : List ℕ → ℕ
-startOf s = be 4 s 24 - 1
-
--- whether a directory of n entries may not start there: document 01's rule apart from the multiple of 4; with no entries any field is taken
-unfoldable pub misplacedStart : ℕ → ℕ → ℕ → Bool
-misplacedStart n start pool =
-    if n =? 0 then false else
-    if start <? 33 then true else
-    pool <? start + entryWidth * n
 
 -- the zero bytes from d to the next multiple of 4
 unfoldable pub gapOf : ℕ → ℕ

@@ -1,5 +1,3 @@
 pub mod Adopt
-pub mod Headed
-pub mod Genuine
 pub mod Placed
 pub mod Theorems

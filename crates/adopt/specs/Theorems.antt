@@ -16,7 +16,8 @@ use Rattle.reader.specs.Reader.{decode}
 use Rattle.normal.specs.BigEndian.{bytesOf}
 use Rattle.joining.specs.declared.Normalised.the-variants as normalised
 use Rattle.joining.specs.Outcome.{written}
-use Rattle.adopt.specs.Adopt.{startOf, gapOf, adoptOf, adoptAnswer, adoptBuffer}
+use Rattle.genuine.specs.Start.{startOf}
+use Rattle.adopt.specs.Adopt.{gapOf, adoptOf, adoptAnswer, adoptBuffer}
 use Rattle.adopt.specs.Placed.{fieldsOf, ShowsAt}
 
 -- adopting s gives the bytes b

@@ -7,15 +7,13 @@ ghost use Rattle.number.specs.Limits.{fileLimit};
 ghost use Rattle.number.specs.Number.{be};
 ghost use Rattle.reader.specs.Records.{Bytes};
 ghost use Rattle.joining.specs.Outcome.{refusal, inRoom, after, normalisedAs};
-ghost use Rattle.adopt.specs.Headed.{Headed};
+ghost use Rattle.genuine.specs.Headed.{Headed};
 ghost use Rattle.adopt.specs.Adopt.{headBytes, movedBytes, fitted, movedOf, adoptAnswer, adoptBuffer};
 use head::Head;
 use joining::Normalised;
 use number::ENTRY_WIDTH;
 use number::FILE_LIMIT;
 use reading::Refusal;
-
-pub mod genuine;
 
 // n zero bytes from `at` on.
 fn put_zeros(out: &mut [u8], at: usize, n: usize)

@@ -19,10 +19,11 @@ use Rattle.reader.specs.Values.{Typelib}
 use Rattle.lookup.specs.declared.Kind.{Kind}
 use Rattle.lookup.specs.declared.Kind.the-variants.{Getter, Setter, Plain}
 use Rattle.lookup.specs.Question.{badIid, iidAnswer, askIid, looksAnswer, askLooks}
-use Rattle.printed.specs.Listing.{hyphen}
-use Rattle.sayings.specs.declared.Said.{Said}
-use Rattle.sayings.specs.Texts.{theIndex, theSlot, notDecimalMistake, tooLargeMistake, kindMistake}
-use Rattle.sayings.specs.Sayings.{Saying, Says, mistaken}
+use Rattle.text.specs.Line.{hyphen}
+use Rattle.said.specs.declared.Said.{Said}
+use Rattle.said.specs.Texts.{theIndex, theSlot, notDecimalMistake, tooLargeMistake}
+use Rattle.sayings.specs.Texts.{kindMistake}
+use Rattle.said.specs.Saying.{Saying, Says, mistaken}
 use Rattle.answers.specs.Commands.{getter, setter, plain, withIndex, withSlot, withKind, spaceOf}
 
 module _ {before after : List ℕ} {r : Said} (n : Number) (ask : ℕ → Saying) where

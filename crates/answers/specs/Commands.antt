@@ -15,9 +15,11 @@ use Rattle.reader.specs.Reader.{decode, checkOf}
 use Rattle.lookup.specs.declared.Kind.{Kind}
 use Rattle.lookup.specs.declared.Kind.the-variants.{Getter, Setter, Plain}
 use Rattle.lookup.specs.Question.{askIid, askLooks, askKey, askMethod, askSlot, askConstant}
-use Rattle.printed.specs.Listing.{hyphen}
-use Rattle.sayings.specs.Texts.{theIndex, theSlot, iidMistake, notDecimalMistake, tooLargeMistake, kindMistake}
-use Rattle.sayings.specs.Sayings.{Saying, mistaken, sayVerdict, sayInterface, sayCounted, sayMethod, sayConstant}
+use Rattle.text.specs.Line.{hyphen}
+use Rattle.said.specs.Texts.{theIndex, theSlot, notDecimalMistake, tooLargeMistake}
+use Rattle.sayings.specs.Texts.{iidMistake, kindMistake}
+use Rattle.said.specs.Saying.{Saying, mistaken, sayVerdict}
+use Rattle.sayings.specs.Sayings.{sayInterface, sayCounted, sayMethod, sayConstant}
 
 -- ---- words: each is what the command asks with, or a mistake
 

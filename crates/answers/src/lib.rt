@@ -1,13 +1,14 @@
 // The line that answers each command about a file, at the front of a buffer.
-ghost use Rattle.sayings.specs.Sayings.{Says, sayMethod};
+ghost use Rattle.said.specs.Saying.{Says};
+ghost use Rattle.sayings.specs.Sayings.{sayMethod};
 ghost use Rattle.answers.specs.Commands.{checkSaying, digitsSaying, iidSaying, countedSaying, looksSaying, keySaying, methodSaying, slotSaying, constantSaying, withSlot, withKind};
 ghost use Rattle.reader.specs.Reader.{decode};
 ghost use Rattle.lookup.specs.Question.{askMethod, askSlot};
 ghost use Rattle.words.specs.Numbers.{numberOf};
 use lookup::Kind;
 use reading::Verdict;
-use sayings::ANSWER_ROOM;
-use sayings::Said;
+use said::ANSWER_ROOM;
+use said::Said;
 use words::Hex;
 use words::Number;
 
@@ -16,8 +17,8 @@ pub fn check(file: &[u8], line: &mut [u8; ANSWER_ROOM]) -> Said
     ensures { λ r. ⌜ Says (checkSaying (now (file .entry))) (now (line .entry)) r (now (line .exit)) ⌝ }
 {
     match reader::check(file) {
-        Verdict::Accepted(n) => sayings::numbered(b"accepted ", n as u64, line),
-        Verdict::Refused(why) => sayings::refused(why, line),
+        Verdict::Accepted(n) => said::numbered(b"accepted ", n as u64, line),
+        Verdict::Refused(why) => said::refused(why, line),
     }
 }
 
@@ -29,10 +30,7 @@ fn of_digits(file: &[u8], hex: &[u8], line: &mut [u8; ANSWER_ROOM]) -> Said
     match words::iid_bytes(hex, &mut bytes) {
         Hex::Whole => sayings::interface(lookup::interface_by_iid(file, &bytes), line),
         Hex::OtherLength => sayings::interface(lookup::interface_by_iid(file, &hex[0..0]), line),
-        Hex::NotHex => sayings::mistake(
-            b"error the IID is not hexadecimal digits in pairs\n",
-            line,
-        ),
+        Hex::NotHex => said::mistake(b"error the IID is not hexadecimal digits in pairs\n", line),
     }
 }
 
@@ -58,10 +56,7 @@ fn counted(file: &[u8], hex: &[u8], line: &mut [u8; ANSWER_ROOM]) -> Said
             lookup::interface_by_iid_counted(file, &hex[0..0]),
             line,
         ),
-        Hex::NotHex => sayings::mistake(
-            b"error the IID is not hexadecimal digits in pairs\n",
-            line,
-        ),
+        Hex::NotHex => said::mistake(b"error the IID is not hexadecimal digits in pairs\n", line),
     }
 }
 
@@ -104,7 +99,7 @@ fn of_kind(file: &[u8], index: u64, name: &[u8], kind: &[u8], line: &mut [u8; AN
     if words::is_same(kind, b"plain") {
         return sayings::method(lookup::method_by_name(file, index, name, Kind::Plain), line);
     }
-    sayings::mistake(b"error the kind is not getter, setter or plain\n", line)
+    said::mistake(b"error the kind is not getter, setter or plain\n", line)
 }
 
 // Method by index, name and kind: `getter`, `setter` or `plain`.
@@ -119,8 +114,8 @@ pub fn method(
 {
     match words::number_of(index) {
         Number::Is(i) => of_kind(file, i, name, kind, line),
-        Number::NotDecimal => sayings::index_not_decimal(line),
-        Number::TooLarge => sayings::index_too_large(line),
+        Number::NotDecimal => said::index_not_decimal(line),
+        Number::TooLarge => said::index_too_large(line),
     }
 }
 
@@ -130,8 +125,8 @@ fn in_slot(file: &[u8], index: u64, slot: &[u8], line: &mut [u8; ANSWER_ROOM]) -
 {
     match words::number_of(slot) {
         Number::Is(k) => sayings::method(lookup::method_by_slot(file, index, k), line),
-        Number::NotDecimal => sayings::mistake(b"error the slot is not decimal\n", line),
-        Number::TooLarge => sayings::mistake(b"error the slot does not fit 64 bits\n", line),
+        Number::NotDecimal => said::mistake(b"error the slot is not decimal\n", line),
+        Number::TooLarge => said::mistake(b"error the slot does not fit 64 bits\n", line),
     }
 }
 
@@ -141,8 +136,8 @@ pub fn slot(file: &[u8], index: &[u8], slot: &[u8], line: &mut [u8; ANSWER_ROOM]
 {
     match words::number_of(index) {
         Number::Is(i) => in_slot(file, i, slot, line),
-        Number::NotDecimal => sayings::index_not_decimal(line),
-        Number::TooLarge => sayings::index_too_large(line),
+        Number::NotDecimal => said::index_not_decimal(line),
+        Number::TooLarge => said::index_too_large(line),
     }
 }
 
@@ -152,7 +147,7 @@ pub fn constant(file: &[u8], index: &[u8], name: &[u8], line: &mut [u8; ANSWER_R
 {
     match words::number_of(index) {
         Number::Is(i) => sayings::constant(lookup::constant_by_name(file, i, name), line),
-        Number::NotDecimal => sayings::index_not_decimal(line),
-        Number::TooLarge => sayings::index_too_large(line),
+        Number::NotDecimal => said::index_not_decimal(line),
+        Number::TooLarge => said::index_too_large(line),
     }
 }

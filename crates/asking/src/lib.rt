@@ -60,13 +60,13 @@ pub fn find_work(input: &mut [u8; INPUT_ROOM], text: &mut [u8; ROOM]) -> Work
     match feed::arguments::gather(input) {
         Gathered::Nothing => {
             let n = failures::no_command(text);
-            told::streams::put_error(text, n);
-            remarks::hint(text);
+            streams::put_error(text, n);
+            streams::hint(text);
             nothing()
         }
         Gathered::TooLong => {
             let n = failures::arguments_too_long(text);
-            told::streams::put_error(text, n);
+            streams::put_error(text, n);
             nothing()
         }
         Gathered::Help => {

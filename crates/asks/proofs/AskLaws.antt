@@ -15,13 +15,14 @@ use Rattle.tasks.specs.declared.Task.{Task}
 use Rattle.tasks.specs.declared.Task.the-variants.{Mistaken, Run, Pile, Types}
 use Rattle.words.specs.Words.{wordsOf}
 use Rattle.tasks.specs.Tasks.{argument}
-use Rattle.sayings.specs.declared.Said.{Said}
-use Rattle.sayings.specs.Sayings.{Says}
+use Rattle.said.specs.declared.Said.{Said}
+use Rattle.said.specs.Saying.{Says}
 use Rattle.commands.specs.Answer.{answerOf}
 use Rattle.failures.specs.Lines.{unreadText}
 use Rattle.input.specs.File.{Unread}
 use Rattle.told.specs.declared.Told.{Told}
-use Rattle.told.specs.Printed.{Printed, Front, Tells}
+use Rattle.streams.specs.Printed.{Printed, Front}
+use Rattle.told.specs.Tells.{Tells}
 use Rattle.told.proofs.PrintLaws.{tells-as, told-or-gone}
 use Rattle.asks.specs.declared.Answered.{Answered}
 use Rattle.asks.specs.declared.Answered.the-variants.{Here, Elsewhere}

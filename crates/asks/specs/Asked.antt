@@ -16,7 +16,8 @@ use Rattle.tasks.specs.Tasks.{argument, taskOf}
 use Rattle.commands.specs.Answer.{answerOf}
 use Rattle.failures.specs.Lines.{unreadText}
 use Rattle.input.specs.File.{fileMost, Unread, FirstBytes}
-use Rattle.told.specs.Printed.{Printed, OutputGone, Tells}
+use Rattle.streams.specs.Printed.{Printed, OutputGone}
+use Rattle.told.specs.Tells.{Tells}
 use Rattle.asks.specs.declared.Answered.{Answered}
 use Rattle.asks.specs.declared.Answered.the-variants.{Here, Elsewhere}
 

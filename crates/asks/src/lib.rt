@@ -4,9 +4,9 @@ use failures::ROOM;
 use input::Begun;
 use input::Came;
 use input::FILE_MOST;
-use sayings::ANSWER_ROOM;
-use sayings::Said;
-use sayings::Why;
+use said::ANSWER_ROOM;
+use said::Said;
+use said::Why;
 use tasks::Task;
 use told::Told;
 use verbs::Question;
@@ -18,10 +18,10 @@ ghost use Prim.Native.Nat.{ℕ, _≤_};
 ghost use lib.ListN.{length};
 ghost use Rattle.failures.specs.Room.{wordLimit};
 ghost use Rattle.tasks.specs.Tasks.{taskOf};
-ghost use Rattle.sayings.specs.Sayings.{answerRoom, Says};
+ghost use Rattle.said.specs.Saying.{answerRoom, Says};
 ghost use Rattle.commands.specs.Answer.{answerOf};
 ghost use Rattle.input.specs.File.{fileMost, StandsBehind, Unread, FirstBytes};
-ghost use Rattle.told.specs.Printed.{Tells, isOpen};
+ghost use Rattle.told.specs.Tells.{Tells, isOpen};
 ghost use Rattle.asks.specs.Asked.{shortRoom, Asks, isAsked, isHere, nameIn, Replied, Took};
 
 // A file with fewer bytes is short, as nearly every typelib is.
@@ -76,7 +76,7 @@ fn say_answer(
     ensures { λ r. ⌜ Tells (Replied (now (line .entry))) r ⌝ }
 {
     let said = answer(line, question, file, head);
-    if !told::streams::put(head, said.length) {
+    if !told::answer::put(head, said.length) {
         return Told::Closed;
     }
     say_why(line, said, file, head, text)

@@ -5,9 +5,9 @@ use mathlib.Core.Bool.{Bool}
 use mathlib.Core.List.{List, []}
 use Prim.Native.Nat.{ℕ}
 use native.Mathlib.Omega.{arith}
-use Rattle.sayings.specs.declared.Said.{Said}
-use Rattle.sayings.specs.declared.Why.the-variants.{Answered}
-use Rattle.sayings.specs.Sayings.{Saying, Says, saying}
+use Rattle.said.specs.declared.Said.{Said}
+use Rattle.said.specs.declared.Why.the-variants.{Answered}
+use Rattle.said.specs.Saying.{Saying, Says, saying}
 use Rattle.streamed.specs.declared.Begun.{Begun}
 use Rattle.streamed.specs.Stream.{noRest, Opens}
 use Rattle.streamed.proofs.StreamLaws.{says-opens}

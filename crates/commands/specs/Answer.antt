@@ -7,9 +7,9 @@ use Prim.Native.Nat.{ℕ}
 use Rattle.words.specs.Words.{wordsOf, wordIn}
 use Rattle.verbs.specs.declared.Verb.{Verb}
 use Rattle.verbs.specs.declared.Verb.the-variants as verb
-use Rattle.sayings.specs.declared.Why.the-variants.{Answered}
-use Rattle.sayings.specs.declared.Said.{Said}
-use Rattle.sayings.specs.Sayings.{saying, mistaken}
+use Rattle.said.specs.declared.Why.the-variants.{Answered}
+use Rattle.said.specs.declared.Said.{Said}
+use Rattle.said.specs.Saying.{saying, mistaken}
 use Rattle.questions.specs.Lines.{askedSaying}
 use Rattle.rdb_questions.specs.Lines.{typesSaying}
 use Rattle.link.specs.declared.Which.the-variants.{First}

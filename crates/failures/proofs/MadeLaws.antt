@@ -4,7 +4,7 @@ use mathlib.Core.Path.{_≡_, refl}
 use mathlib.Core.List.{List, []}
 use Prim.Native.Nat.{ℕ, _≤_}
 use native.Mathlib.Omega.{arith}
-use Rattle.printed.specs.Writing.{Wrote}
+use Rattle.text.specs.Writing.{Wrote}
 use Rattle.failures.specs.Room.{room, Made}
 
 pub made : (line : List ℕ) {before after : List ℕ} {r : ℕ} → Wrote before 0 line r after → r ≤ room → Made line before r after

@@ -7,7 +7,7 @@ ghost use mathlib.Core.Path.{_≡_};
 ghost use mathlib.Core.List.{_++_};
 ghost use Prim.Native.Nat.{_+_, _≤_};
 ghost use lib.ListN.{length};
-ghost use Rattle.printed.specs.Writing.{Wrote};
+ghost use Rattle.text.specs.Writing.{Wrote};
 ghost use Rattle.failures.specs.Room.{room, wordLimit, Made};
 ghost use Rattle.failures.specs.Shown.{shownByte, shownWord};
 ghost use Rattle.failures.specs.Lines.{questionWords, verbWords, lineTooLongText, argumentsTooLongText, noCommandText, inputInBatchText, failedText, unreadText, unwrittenText, takenText, noFileText, withoutError, naming, nameBefore, asideText, hintText, outputGoneText};

@@ -1,7 +1,7 @@
 // Why a call of the system failed, in words, from `at` on: by the number that it gave, over the whole table.
 use crate::ROOM;
 ghost use Prim.Native.Nat.{_+_, _≤_};
-ghost use Rattle.printed.specs.Writing.{Wrote};
+ghost use Rattle.text.specs.Writing.{Wrote};
 ghost use Rattle.failures.specs.Room.{room};
 ghost use Rattle.failures.specs.Reasons.{reasonText, pathText, fullText, rareText};
 

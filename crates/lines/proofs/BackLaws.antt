@@ -30,7 +30,8 @@ use Rattle.lookup.specs.Chain.{Chain, ofParent, chainOf}
 use Rattle.lookup.specs.Method.{slotOf, totalOf}
 use Rattle.lookup.specs.Constant.{valueOf}
 use Rattle.lookup.specs.Question.{slotAs}
-use Rattle.printed.specs.Listing.{entryWord, methodWord, constantWord, parentWord, unresolvedWord, spaceText, parentText, slotText, signedText, valueText, entryLine, methodLine, constantLine, methodLines, constantLines, ownLines, entryLines, listingOf}
+use Rattle.text.specs.Signed.{signedText}
+use Rattle.printed.specs.Listing.{entryWord, methodWord, constantWord, parentWord, unresolvedWord, spaceText, parentText, slotText, valueText, entryLine, methodLine, constantLine, methodLines, constantLines, ownLines, entryLines, listingOf}
 use Rattle.lines.specs.Tabs.{tab, tabbed, untab, untabbed}
 
 -- no tab in it

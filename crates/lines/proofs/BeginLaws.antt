@@ -18,7 +18,7 @@ use Rattle.reader.specs.Reader.{decode, checkOf}
 use Rattle.reader.specs.Reader.Laws.{refused-decodes}
 use Rattle.reader.specs.Layout.{LaidOut}
 use Rattle.printed.specs.Listing.{tooLong, entryLines, listingOf, printedOf}
-use Rattle.printed.specs.Writing.{Wrote}
+use Rattle.text.specs.Writing.{Wrote}
 use Rattle.lines.specs.declared.Started.{Started}
 use Rattle.lines.specs.Cursor.{EntriesLeft, onlyLine, Starting}
 

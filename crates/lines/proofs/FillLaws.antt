@@ -12,7 +12,7 @@ use Rattle.reader.specs.declared.Layout.{Layout}
 use Rattle.lines.specs.declared.Cursor.{Cursor}
 use Rattle.lines.specs.declared.Piece.{Piece}
 use Rattle.lines.specs.Cursor.{Left, Begun, PartWritten, isDone, turns, Onward, Moved, Filling}
-use Rattle.printed.proofs.WritingLaws.{wrote-then}
+use Rattle.text.proofs.WritingLaws.{wrote-then}
 use Rattle.lines.proofs.PieceLaws.{part-none}
 
 pub part-then : (s : List ℕ) (l : Layout) (before : List ℕ) (at mid next : ℕ) (out after : List ℕ) (c d : Cursor) (text : List ℕ)

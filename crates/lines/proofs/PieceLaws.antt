@@ -21,7 +21,8 @@ use Rattle.lookup.specs.Question.{slotAs}
 use Rattle.lines.specs.declared.Cursor.{Cursor}
 use Rattle.lines.specs.declared.Cursor.the-variants.{AtMethods, AtConstants}
 use Rattle.printed.specs.Listing.{entryLine, methodLine, constantLine, methodLines, constantLines, ownLines, entryLines}
-use Rattle.printed.specs.Writing.{Wrote, Small, NamedMethod, NamedConstant, WroteOf}
+use Rattle.text.specs.Writing.{Wrote}
+use Rattle.printed.specs.Writing.{Small, NamedMethod, NamedConstant, WroteOf}
 use Rattle.lookup.specs.Question.{slotNumber}
 use Rattle.lines.specs.Cursor.{EntriesLeft, ConstantsLeft, MethodsLeft, Left, PartWritten}
 use Rattle.printed.proofs.LineLaws.{laid-small}

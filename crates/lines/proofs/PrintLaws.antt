@@ -12,9 +12,9 @@ use Rattle.lines.specs.declared.Cursor.{Cursor}
 use Rattle.lines.specs.declared.Cursor.the-variants.{Done, AtEntry, AtMethods, AtConstants, AtTable}
 use Rattle.lines.specs.declared.Filled.{Filled}
 use Rattle.lines.specs.declared.Started.{Started}
-use Rattle.printed.specs.Writing.{Wrote}
+use Rattle.text.specs.Writing.{Wrote}
 use Rattle.lines.specs.Cursor.{isDone, Filling, Starting, Printing}
-use Rattle.printed.proofs.WritingLaws.{wrote-length}
+use Rattle.text.proofs.WritingLaws.{wrote-length}
 
 -- the bytes at the front of the buffer are those that were written there
 written : (before bytes : List ℕ) (r : ℕ) (after : List ℕ) → Wrote before 0 bytes r after → r ≤ length after → take r after ≡ bytes

@@ -24,7 +24,8 @@ use Rattle.lines.specs.declared.Piece.{Piece}
 use Rattle.lines.specs.declared.Filled.{Filled}
 use Rattle.lines.specs.declared.Started.{Started}
 use Rattle.printed.specs.Listing.{methodLines, constantLines, entryLines}
-use Rattle.printed.specs.Writing.{lineRoom, Wrote, NamedMethod, NamedConstant}
+use Rattle.text.specs.Writing.{Wrote}
+use Rattle.printed.specs.Writing.{lineRoom, NamedMethod, NamedConstant}
 
 -- of n entries, the index `up` is that of the parent p, 0 being none
 abbrev pub ParentAt : ℕ → ℕ → Option ℕ → Type 0

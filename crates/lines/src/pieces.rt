@@ -13,7 +13,8 @@ ghost use Rattle.reader.specs.Values.{Entry, descriptorIn};
 ghost use Rattle.reader.specs.Layout.{LaidOut, Lies};
 ghost use Rattle.lines.specs.declared.Cursor.the-variants.{AtEntry, AtMethods, AtConstants, AtTable};
 ghost use Rattle.printed.specs.Listing.{ownLines, entryLines};
-ghost use Rattle.printed.specs.Writing.{lineRoom, Room};
+ghost use Rattle.text.specs.Writing.{Room};
+ghost use Rattle.printed.specs.Writing.{lineRoom};
 ghost use Rattle.lines.specs.Cursor.{Left, Begun, Moved, turns};
 
 // What follows the line of entry i.

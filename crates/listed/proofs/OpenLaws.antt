@@ -22,10 +22,10 @@ use Rattle.printed.specs.Listing.{entryLines, listingOf}
 use Rattle.lines.specs.declared.Cursor.{Cursor}
 use Rattle.lines.specs.declared.Cursor.the-variants.{AtEntry}
 use Rattle.lines.proofs.BeginLaws.{listed-accepted, entries-start}
-use Rattle.sayings.specs.declared.Said.{Said}
-use Rattle.sayings.specs.declared.Why.the-variants.{Answered, Refused}
-use Rattle.sayings.specs.Texts.{refusedLine}
-use Rattle.sayings.specs.Sayings.{answerRoom, Saying, Says, saying, verdictWhy}
+use Rattle.said.specs.declared.Said.{Said}
+use Rattle.said.specs.declared.Why.the-variants.{Answered, Refused}
+use Rattle.said.specs.Texts.{refusedLine}
+use Rattle.said.specs.Saying.{answerRoom, Saying, Says, saying, verdictWhy}
 use Rattle.listed.specs.declared.Next.{Next}
 use Rattle.listed.specs.declared.Next.the-variants.{Over, Closing, At}
 use Rattle.listed.specs.declared.More.{More}

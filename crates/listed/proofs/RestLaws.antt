@@ -18,7 +18,7 @@ use Rattle.lines.specs.declared.Filled.{Filled}
 use Rattle.lines.specs.Tabs.{tab, tabbed}
 use Rattle.lines.specs.Cursor.{Left, isDone, turns, Onward, Filling}
 use Rattle.lines.proofs.FillLaws.{falls}
-use Rattle.printed.proofs.WritingLaws.{wrote-length}
+use Rattle.text.proofs.WritingLaws.{wrote-length}
 use Rattle.listed.specs.declared.Next.the-variants.{Over, Closing, At}
 use Rattle.listed.specs.declared.Rest.{Rest}
 use Rattle.listed.specs.declared.More.{More}

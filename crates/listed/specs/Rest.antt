@@ -10,8 +10,8 @@ use lib.Seq.{sets}
 use Rattle.number.specs.Choice.{if_then_else_}
 use Rattle.reader.specs.declared.Layout.{Layout}
 use Rattle.text.specs.Line.{newline}
-use Rattle.sayings.specs.declared.Said.{Said}
-use Rattle.sayings.specs.Sayings.{answerRoom, Saying}
+use Rattle.said.specs.declared.Said.{Said}
+use Rattle.said.specs.Saying.{answerRoom, Saying}
 use Rattle.lines.specs.declared.Cursor.{Cursor}
 use Rattle.lines.specs.Cursor.{Left, isDone, turns}
 use Rattle.listed.specs.declared.Next.{Next}

@@ -9,7 +9,7 @@ use Rattle.reader.specs.Reader.{decode, checkOf}
 use Rattle.text.specs.Line.{newline}
 use Rattle.printed.specs.Listing.{listingOf}
 use Rattle.lines.specs.Tabs.{tabbed}
-use Rattle.sayings.specs.Sayings.{Saying, saying, verdictWhy}
+use Rattle.said.specs.Saying.{Saying, saying, verdictWhy}
 
 -- a text as it is answered, in a batch or not
 unfoldable pub shown : Bool → List ℕ → List ℕ

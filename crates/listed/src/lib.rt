@@ -2,8 +2,8 @@
 use lines::Cursor;
 use reader::Layout;
 use reading::Verdict;
-use sayings::ANSWER_ROOM;
-use sayings::Said;
+use said::ANSWER_ROOM;
+use said::Said;
 ghost use mathlib.Core.Path.{_≡_};
 ghost use mathlib.Core.List.{List, _++_};
 ghost use Prim.Native.Nat.{ℕ, _≤_};
@@ -101,11 +101,11 @@ pub fn open(file: &[u8], in_batch: bool, text: &mut [u8; ANSWER_ROOM]) -> Opened
 {
     match reader::check(file) {
         Verdict::Refused(why) => Opened {
-            said: sayings::refused(why, text),
+            said: said::refused(why, text),
             rest: no_rest(),
         },
         Verdict::Accepted(n) => {
-            let said = sayings::numbered(b"accepted ", n as u64, text);
+            let said = said::numbered(b"accepted ", n as u64, text);
             tab(text, said.length, in_batch);
             let rest = rest_of(reader::layout_of(file), Cursor::AtEntry(0), in_batch);
             Opened { said, rest }

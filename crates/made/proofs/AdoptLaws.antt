@@ -7,10 +7,10 @@ use native.Mathlib.Omega.{arith}
 use lib.ListN.{length, take}
 use Rattle.reading.specs.declared.Refusal.{Refusal}
 use Rattle.reading.specs.declared.Verdict.{Verdict}
-use Rattle.sayings.specs.declared.Said.{Said}
-use Rattle.sayings.specs.declared.Why.the-variants as why
-use Rattle.sayings.specs.Texts.{refusedLine}
-use Rattle.sayings.specs.Sayings.{Says, saying}
+use Rattle.said.specs.declared.Said.{Said}
+use Rattle.said.specs.declared.Why.the-variants as why
+use Rattle.said.specs.Texts.{refusedLine}
+use Rattle.said.specs.Saying.{Says, saying}
 use Rattle.reader.specs.Reader.{checkOf}
 use Rattle.joining.specs.declared.Normalised.the-variants.{Written, Refused}
 use Rattle.link.specs.declared.Which.the-variants.{First}

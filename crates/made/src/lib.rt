@@ -3,8 +3,8 @@ use joining::Normalised;
 use link::Linked;
 use link::Which;
 use number::FILE_LIMIT;
-use sayings::ANSWER_ROOM;
-use sayings::Said;
+use said::ANSWER_ROOM;
+use said::Said;
 ghost use mathlib.Core.Path.{_≡_};
 ghost use Rattle.made.specs.Made.{normalisedSave, linkedSave, linkedWhose, normalMade, adoptMade, linkMade, salvageMade, Makes};
 
@@ -74,7 +74,7 @@ pub fn adopt(first: &[u8], out: &mut [u8], text: &mut [u8; ANSWER_ROOM]) -> Made
             }
         }
         Normalised::Refused(why) => Made {
-            said: sayings::refused(why, text),
+            said: said::refused(why, text),
             whose: Which::First,
             save: Save::Nothing,
         },

@@ -3,7 +3,7 @@ use failures::ROOM;
 use verbs::Question;
 use verbs::Verb;
 ghost use Prim.Native.Nat.{_+_, _≤_};
-ghost use Rattle.printed.specs.Writing.{Wrote};
+ghost use Rattle.text.specs.Writing.{Wrote};
 ghost use Rattle.failures.specs.Room.{room, Made};
 ghost use Rattle.manual.specs.Manual.{answerText, purposeText, entryText, askingText, memberText, typesText, outputText, noteText, helpText, helpOf, versionText};
 

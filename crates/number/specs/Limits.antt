@@ -1,4 +1,4 @@
--- Document 01, "Sizes": each number itself is allowed, one more is refused. Eight arrays one inside another stand in the crates `method` and `rules`.
+-- Document 01, "Sizes", and document 02, #107, for a pile: each number itself is allowed, one more is refused. Eight arrays one inside another stand in the crates `method` and `rules`.
 -- Assumes nothing.
 use Prim.Native.Nat.{ℕ, _+_, _-_}
 
@@ -28,3 +28,7 @@ rowLimit = entryLimit + entryLimit
 
 abbrev pub lastRow : ℕ
 lastRow = rowLimit - 1
+
+-- files of a pile
+abbrev pub pileLimit : ℕ
+pileLimit = 256

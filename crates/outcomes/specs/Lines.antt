@@ -1,6 +1,6 @@
 -- The lines that tell what normalising, adopting and linking answer.
 -- Assumes nothing.
-use mathlib.Core.List.{List, [], _∷_, _++_}
+use mathlib.Core.List.{List, _++_}
 use Prim.Native.Nat.{ℕ}
 use Rattle.decimal.specs.Digits.{digitsOf}
 use Rattle.text.specs.Line.{refused, space, lineOf}
@@ -11,14 +11,10 @@ use Rattle.joining.specs.declared.Normalised.{Normalised}
 use Rattle.joining.specs.declared.Normalised.the-variants as normalised
 use Rattle.link.specs.declared.Linked.{Linked}
 use Rattle.link.specs.declared.Linked.the-variants as linked
-use Rattle.sayings.specs.declared.Why.{Why}
-use Rattle.sayings.specs.declared.Why.the-variants.{Answered, Refused}
-use Rattle.sayings.specs.Texts.{numbered, placed, refusedLine}
-use Rattle.sayings.specs.Sayings.{Saying, saying}
-
--- `written `, with its space
-abbrev pub written : List ℕ
-written = 119 ∷ 114 ∷ 105 ∷ 116 ∷ 116 ∷ 101 ∷ 110 ∷ 32 ∷ []
+use Rattle.said.specs.declared.Why.{Why}
+use Rattle.said.specs.declared.Why.the-variants.{Answered, Refused}
+use Rattle.said.specs.Texts.{written, numbered, placed, refusedLine}
+use Rattle.said.specs.Saying.{Saying, saying}
 
 -- `written LEN` or `refused NO PLACE`
 unfoldable pub normalisedText : Normalised → List ℕ

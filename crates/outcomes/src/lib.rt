@@ -1,26 +1,25 @@
-// What normalising, adopting and linking answer, as one line at the front of a buffer and as numbers; and salvaging, as numbers.
+// What normalising, adopting and linking answer, as one line at the front of a buffer and as numbers.
 ghost use mathlib.Core.Path.{_≡_};
 ghost use mathlib.Core.List.{_++_};
 ghost use Prim.Native.Nat.{_≤_};
 ghost use lib.ListN.{length};
 ghost use lib.Seq.{sets};
 ghost use Rattle.link.specs.declared.Linked.the-variants as linked;
-ghost use Rattle.sayings.specs.declared.Why.the-variants.{Answered};
-ghost use Rattle.sayings.specs.Sayings.{answerRoom, Says, saying};
+ghost use Rattle.said.specs.declared.Why.the-variants.{Answered};
+ghost use Rattle.said.specs.Saying.{answerRoom, Says, saying};
 ghost use Rattle.text.specs.Line.{space, lineOf};
-ghost use Rattle.printed.specs.Writing.{Wrote};
+ghost use Rattle.text.specs.Writing.{Wrote};
 ghost use Rattle.numbers.specs.Call.{room};
-ghost use Rattle.outcomes.specs.Numbers.{normalNumbers, linkRefusalNumbers, linkNumbers, salvagedNumbers};
+ghost use Rattle.outcomes.specs.Numbers.{normalNumbers, linkRefusalNumbers, linkNumbers};
 ghost use Rattle.outcomes.specs.Lines.{whichNumber, adoptedText, sayNormalised, sayLinked};
 use joining::Normalised;
 use link::LinkRefusal;
 use link::Linked;
 use link::Which;
 use reading::Verdict;
-use salvage::Salvaged;
-use sayings::ANSWER_ROOM;
-use sayings::Said;
-use sayings::Why;
+use said::ANSWER_ROOM;
+use said::Said;
+use said::Why;
 
 // 1 for the first file, 2 for the second, 0 for the link itself.
 pub fn which_number(which: Which) -> u64
@@ -40,7 +39,7 @@ fn link_refused(x: LinkRefusal, line: &mut [u8; ANSWER_ROOM]) -> Said
     let which = x.which;
     let why = x.why;
     let at = text::put_labelled(line, 0, b"refused ", which_number(which));
-    let length = sayings::put_refusal(b" ", why, line, at);
+    let length = said::put_refusal(b" ", why, line, at);
     Said {
         length,
         why: Why::Refused(why),
@@ -57,7 +56,7 @@ fn put_checked(v: Verdict, line: &mut [u8; ANSWER_ROOM], at: usize) -> usize
             let end = text::put_labelled(line, at, b" accepted ", n as u64);
             text::put_bytes(line, end, b"\n")
         }
-        Verdict::Refused(why) => sayings::put_refusal(b" refused ", why, line, at),
+        Verdict::Refused(why) => said::put_refusal(b" refused ", why, line, at),
     }
 }
 
@@ -66,8 +65,8 @@ pub fn normalised(n: Normalised, line: &mut [u8; ANSWER_ROOM]) -> Said
     ensures { λ r. ⌜ Says (sayNormalised n) (now (line .entry)) r (now (line .exit)) ⌝ }
 {
     match n {
-        Normalised::Written(length) => sayings::numbered(b"written ", length as u64, line),
-        Normalised::Refused(why) => sayings::refused(why, line),
+        Normalised::Written(length) => said::numbered(b"written ", length as u64, line),
+        Normalised::Refused(why) => said::refused(why, line),
     }
 }
 
@@ -88,7 +87,7 @@ pub fn linked(l: Linked, line: &mut [u8; ANSWER_ROOM]) -> Said
     ensures { λ r. ⌜ Says (sayLinked l) (now (line .entry)) r (now (line .exit)) ⌝ }
 {
     match l {
-        Linked::Written(length) => sayings::numbered(b"written ", length as u64, line),
+        Linked::Written(length) => said::numbered(b"written ", length as u64, line),
         Linked::Refused(x) => link_refused(x, line),
     }
 }
@@ -133,22 +132,5 @@ pub fn put_linked(a: Linked, answer: &mut [u64])
             answer[1] = n as u64;
         }
         Linked::Refused(x) => put_link_refusal(x, answer),
-    }
-}
-
-// Written: 0, the length and how many entries were changed; refused: 3, number and place.
-pub fn put_salvaged(a: Salvaged, answer: &mut [u64])
-    requires { ⌜ room ≤ length (now answer) ⌝ }
-    ensures { λ _. ⌜ now (answer .exit) ≡ sets (now (answer .entry)) 0 (salvagedNumbers a) ⌝ }
-{
-    match a {
-        Salvaged::Written(left) => {
-            let n = left.length as u64;
-            let changed = left.changed as u64;
-            answer[0] = 0;
-            answer[1] = n;
-            answer[2] = changed;
-        }
-        Salvaged::Refused(why) => numbers::put_refusal(why, answer),
     }
 }

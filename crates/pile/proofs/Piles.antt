@@ -7,6 +7,7 @@ use mathlib.Core.Option.{Option, none, some}
 use Prim.Native.Nat.{ℕ, _+_, _≤_, _<_}
 use native.Mathlib.Omega.{arith}
 use lib.ListN.{length}
+use Rattle.number.specs.Limits.{pileLimit}
 use Rattle.reading.specs.Got.{Got, got}
 use Rattle.key.specs.Key.{Key}
 use Rattle.reader.specs.Values.{Typelib, entriesIn, Entry}
@@ -34,7 +35,7 @@ use Rattle.link.proofs.Files.{accepted-valid, accepted-sound, form-means}
 use Rattle.link.proofs.Unions.{valid-readable, fine-readable, valid-fine, sound-both}
 use Rattle.link.proofs.Answers.{formOf, left-by}
 use Rattle.pile.specs.declared.Added.the-variants.{Grown, Refused, Full}
-use Rattle.pile.specs.Pile.{pileLimit, emptyFile, noFiles, Turn, turn, added, ended, onward, addAll, piled, heldBy, leftOf, pile}
+use Rattle.pile.specs.Pile.{emptyFile, noFiles, Turn, turn, added, ended, onward, addAll, piled, heldBy, leftOf, pile}
 use Rattle.pile.specs.Claim.{MeanAll, saidBy, Laid}
 use Rattle.pile.proofs.Turns.{Stands, added-stands, next-links, first-taken, ended-same, ended-alone}
 

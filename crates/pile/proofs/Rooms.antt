@@ -4,6 +4,7 @@ use mathlib.Core.List.{List}
 use Prim.Native.Nat.{ℕ, _%_, _≤_}
 use native.Mathlib.Omega.{arith}
 use lib.ListN.{length, take}
+use Rattle.number.specs.Limits.{pileLimit}
 use Rattle.number.specs.Choice.{_<?_, _≤?_, _=?_}
 use Rattle.number.proofs.Choice.{both, from-not-lt}
 use Rattle.reader.specs.Reader.{decode}
@@ -13,7 +14,7 @@ use Rattle.link.specs.declared.Which.the-variants.{Union}
 use Rattle.link.specs.Outcome.{refusalOf, linkIn, linkOf, linkedAs}
 use Rattle.pile.specs.declared.Pile.{Pile}
 use Rattle.pile.specs.declared.Added.the-variants.{Grown, Refused, Full}
-use Rattle.pile.specs.Pile.{pileLimit, emptyFile, wholeIn, wholeOf, moreIn, moreAnswer, moreBuffer, grownAs, Turn, turn, added, ended}
+use Rattle.pile.specs.Pile.{emptyFile, wholeIn, wholeOf, moreIn, moreAnswer, moreBuffer, grownAs, Turn, turn, added, ended}
 
 -- an outcome of at most `room` bytes
 abbrev pub Fits : {X : Type 0} → ℕ → Outcome X → Type 0

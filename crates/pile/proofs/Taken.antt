@@ -8,6 +8,7 @@ use mathlib.Core.Option.{none, some}
 use Prim.Native.Nat.{ℕ, zero, suc}
 use native.Mathlib.Omega.{arith}
 use lib.ListN.{length, take}
+use Rattle.number.specs.Limits.{pileLimit}
 use Rattle.number.proofs.Choice.{from-yes-le, from-not-le}
 use Rattle.number.specs.Choice.{_≤?_}
 use Rattle.reading.specs.Got.{Got, got, bad}
@@ -25,7 +26,7 @@ use Rattle.link.specs.Outcome.{refusalOf, linkOf, linkIn, linkedAs}
 use Rattle.link.specs.Demand.{leftIn}
 use Rattle.pile.specs.declared.Pile.{Pile}
 use Rattle.pile.specs.declared.Added.the-variants.{Grown, Refused, Full}
-use Rattle.pile.specs.Pile.{pileLimit, noFiles, wholeOf, wholeIn, moreIn, moreAnswer, moreBuffer, Turn, turn, added, ended, onward, addAll, piled, leftOf, pile}
+use Rattle.pile.specs.Pile.{noFiles, wholeOf, wholeIn, moreIn, moreAnswer, moreBuffer, Turn, turn, added, ended, onward, addAll, piled, leftOf, pile}
 use Rattle.pile.specs.Claim.{MeanAll, PilesTaken}
 use Rattle.pile.proofs.Faces.{more-first, more-next}
 use Rattle.pile.proofs.Turns.{parity, added-full, added-even, added-odd, left-even, left-odd}

@@ -8,7 +8,7 @@ use Prim.Native.Nat.{ℕ, zero, suc, _+_, _%_, _≤_, _<_}
 use native.Mathlib.Omega.{arith}
 use lib.ListN.{length, take}
 use lib.Seq.{length-sets}
-use Rattle.number.specs.Limits.{fileLimit}
+use Rattle.number.specs.Limits.{fileLimit, pileLimit}
 use Rattle.number.proofs.Choice.{is-lt, no-lt, is-le, no-le, is-eq, no-eq}
 use Rattle.decimal.proofs.Stores.{front}
 use Rattle.reading.specs.Got.{got}
@@ -23,7 +23,7 @@ use Rattle.link.specs.Outcome.{linkedAs, linkAnswer, linkBuffer}
 use Rattle.link.specs.Demand.{Buffer, leftIn, leftBy}
 use Rattle.pile.specs.declared.Pile.{Pile}
 use Rattle.pile.specs.declared.Added.the-variants.{Grown, Refused, Full}
-use Rattle.pile.specs.Pile.{pileLimit, emptyFile, wholeIn, moreIn, moreAnswer, moreBuffer, grownAs, Turn, turn, added, ended, onward, heldBy, leftOf}
+use Rattle.pile.specs.Pile.{emptyFile, wholeIn, moreIn, moreAnswer, moreBuffer, grownAs, Turn, turn, added, ended, onward, heldBy, leftOf}
 use Rattle.pile.proofs.Faces.{kept-in, more-first, more-next}
 
 -- a pile of k files, unless there was a refusal, in buffers of 1,048,576 bytes

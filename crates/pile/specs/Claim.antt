@@ -6,6 +6,7 @@ use mathlib.Core.List.{List, [], _∷_, _++_}
 use mathlib.Core.Option.{some}
 use Prim.Native.Nat.{ℕ, _≤_}
 use lib.ListN.{length}
+use Rattle.number.specs.Limits.{pileLimit}
 use Rattle.reading.specs.Got.{got}
 use Rattle.key.specs.Key.{Key}
 use Rattle.reader.specs.Values.{Typelib, entriesIn, Entry}
@@ -25,7 +26,7 @@ use Rattle.link.specs.Demand.{Means, Buffer}
 use Rattle.link.specs.Theorems.{FormOf}
 use Rattle.pile.specs.declared.Added.{Added}
 use Rattle.pile.specs.declared.Added.the-variants.{Grown, Refused}
-use Rattle.pile.specs.Pile.{pileLimit, emptyFile, Turn, answerIn, secondIn, piled, pile}
+use Rattle.pile.specs.Pile.{emptyFile, Turn, answerIn, secondIn, piled, pile}
 
 -- each file is accepted, and means what stands beside it
 abbrev pub MeanAll : List (List ℕ) → List (List (Entry Key)) → Type 0

@@ -4,6 +4,7 @@ use mathlib.Core.List.{List, [], _∷_}
 use mathlib.Core.Option.{Option, none, some}
 use Prim.Native.Nat.{ℕ, _+_, _%_}
 use lib.ListN.{length, take}
+use Rattle.number.specs.Limits.{pileLimit}
 use Rattle.number.specs.Choice.{if_then_else_, _<?_, _≤?_, _=?_}
 use Rattle.reading.specs.Got.{Got, got, bad}
 use Rattle.reader.specs.Values.{Typelib}
@@ -18,10 +19,6 @@ use Rattle.link.specs.Outcome.{refusalOf, linkIn, linkedAs}
 use Rattle.pile.specs.declared.Pile.{Pile}
 use Rattle.pile.specs.declared.Added.{Added}
 use Rattle.pile.specs.declared.Added.the-variants.{Grown, Refused, Full}
-
--- files of a pile
-abbrev pub pileLimit : ℕ
-pileLimit = 256
 
 -- a typelib that says nothing, as its normal form
 abbrev pub emptyFile : List ℕ

@@ -1,21 +1,20 @@
 // A pile of files, linked one by one. A caller holds one file at a time, and lends the same two buffers to each call.
 ghost use mathlib.Core.Path.{_≡_};
 ghost use Prim.Native.Nat.{_<_};
+ghost use Rattle.number.specs.Limits.{pileLimit};
 ghost use Rattle.reading.specs.Got.{Accepted};
 ghost use Rattle.reader.specs.Records.{Bytes};
 ghost use Rattle.reader.specs.Reader.{decode};
 ghost use lib.ListN.{length, take};
 ghost use Rattle.joining.specs.Outcome.{after};
 ghost use Rattle.link.specs.Outcome.{linkedAs, linkAnswer, linkBuffer};
-ghost use Rattle.pile.specs.Pile.{pileLimit, noFiles, wholeIn, moreAnswer, moreBuffer, linkCount, grownAs, turn, added, ended};
+ghost use Rattle.pile.specs.Pile.{noFiles, wholeIn, moreAnswer, moreBuffer, linkCount, grownAs, turn, added, ended};
 use link::LinkRefusal;
 use link::Linked;
 use link::Which;
+use number::PILE_LIMIT;
 use reading::Refusal;
 use reading::Verdict;
-
-// Files of a pile.
-pub const MOST_FILES: usize = 256;
 
 // How many files there are in a pile, and the length of what they left. It stands at the front of the first buffer after
 // an odd number of files, else of the second.
@@ -129,7 +128,7 @@ pub fn add(pile: Pile, file: &[u8], one: &mut [u8], other: &mut [u8]) -> Added
     ensures { λ r. ⌜ (turn r (now (one .exit)) (now (other .exit)) ≡ added pile (now (file .entry)) (now (one .entry)) (now (other .entry))) × Bytes (now (file .entry)) ⌝ }
 {
     let k = pile.files;
-    if MOST_FILES <= k {
+    if PILE_LIMIT <= k {
         return Added::Full;
     }
     if k % 2 == 0 {

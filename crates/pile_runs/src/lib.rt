@@ -8,16 +8,15 @@ use pile::PileRefusal;
 use piling::Replied;
 use piling::Saves;
 use piling::Went;
+use said::ANSWER_ROOM;
 use saving::Saved;
-use sayings::ANSWER_ROOM;
 use told::Ran;
 use told::Told;
 ghost use Prim.Native.Nat.{_≤_};
 ghost use lib.ListN.{length};
-ghost use Rattle.number.specs.Limits.{fileLimit};
+ghost use Rattle.number.specs.Limits.{fileLimit, pileLimit};
 ghost use Rattle.failures.specs.Room.{wordLimit};
-ghost use Rattle.sayings.specs.Sayings.{answerRoom};
-ghost use Rattle.pile.specs.Pile.{pileLimit};
+ghost use Rattle.said.specs.Saying.{answerRoom};
 ghost use Rattle.kept.specs.Table.{Tidy};
 ghost use Rattle.named.specs.Settled.{Settled};
 ghost use Rattle.piling.specs.Answers.{SavesIn};
@@ -53,7 +52,7 @@ fn say_refused(
 ) -> Told
     requires { ⌜ ((length (now line) ≤ wordLimit) × (n ≤ answerRoom)) × Tidy (now rows) kept ⌝ }
 {
-    if !told::streams::put(head, n) {
+    if !told::answer::put(head, n) {
         return Told::Closed;
     }
     refusals::say_step(line, separator, x, kept, rows, store, text);

@@ -5,10 +5,10 @@ use Prim.Native.Nat.{ℕ}
 use Rattle.ascii.specs.Ascii.{ascii}
 use Rattle.decimal.specs.Digits.{digitsOf}
 use Rattle.text.specs.Line.{refused, space, newline}
-use Rattle.sayings.specs.declared.Why.the-variants as why
-use Rattle.sayings.specs.Texts.{numbered}
-use Rattle.sayings.specs.Sayings.{Saying, saying, mistaken}
-use Rattle.outcomes.specs.Lines.{written, whichNumber}
+use Rattle.said.specs.declared.Why.the-variants as why
+use Rattle.said.specs.Texts.{numbered, written}
+use Rattle.said.specs.Saying.{Saying, saying, mistaken}
+use Rattle.outcomes.specs.Lines.{whichNumber}
 use Rattle.tasks.specs.declared.Mistake.the-variants.{Files}
 use Rattle.tasks.specs.Mistakes.{mistakeText}
 use Rattle.pile.specs.declared.PileRefusal.{PileRefusal}

@@ -1,11 +1,11 @@
 // The line that tells how a link of many files went.
 use pile::Added;
 use pile::PileRefusal;
-use sayings::ANSWER_ROOM;
-use sayings::Said;
-use sayings::Why;
+use said::ANSWER_ROOM;
+use said::Said;
+use said::Why;
 use tasks::Mistake;
-ghost use Rattle.sayings.specs.Sayings.{Says};
+ghost use Rattle.said.specs.Saying.{Says};
 ghost use Rattle.pile.specs.declared.Added.the-variants.{Refused};
 ghost use Rattle.piled.specs.Lines.{sayPiled};
 
@@ -35,7 +35,7 @@ pub fn say(added: Added, line: &mut [u8; ANSWER_ROOM]) -> Said
     ensures { λ r. ⌜ Says (sayPiled added) (now (line .entry)) r (now (line .exit)) ⌝ }
 {
     match added {
-        Added::Grown(pile) => sayings::numbered(b"written ", pile.length as u64, line),
+        Added::Grown(pile) => said::numbered(b"written ", pile.length as u64, line),
         Added::Refused(x) => refused(x, line),
         Added::Full => tasks::tell(Mistake::Files, line),
     }

@@ -10,8 +10,8 @@ use Rattle.number.specs.Choice.{if_then_else_, _=?_}
 use Rattle.number.specs.Limits.{fileLimit}
 use Rattle.number.proofs.Choice.{both}
 use Rattle.store.specs.declared.Loaded.{Loaded}
-use Rattle.sayings.specs.Sayings.{Says}
-use Rattle.sayings.specs.declared.Why.the-variants.{Answered}
+use Rattle.said.specs.Saying.{Says}
+use Rattle.said.specs.declared.Why.the-variants.{Answered}
 use Rattle.pile.specs.declared.Added.{Added}
 use Rattle.pile.specs.declared.Added.the-variants.{Grown, Refused, Full}
 use Rattle.pile.specs.Pile.{turn, answerIn, firstIn, secondIn, heldBy, leftOf, piled}

@@ -10,8 +10,8 @@ use Rattle.number.specs.Choice.{if_then_else_, _=?_}
 use Rattle.number.specs.Limits.{fileLimit}
 use Rattle.kept.specs.Table.{Tidy}
 use Rattle.store.specs.declared.Loaded.{Loaded}
-use Rattle.sayings.specs.Sayings.{answerRoom, Saying, Says}
-use Rattle.sayings.specs.declared.Why.the-variants.{Answered}
+use Rattle.said.specs.Saying.{answerRoom, Saying, Says}
+use Rattle.said.specs.declared.Why.the-variants.{Answered}
 use Rattle.pile.specs.declared.Pile.{Pile}
 use Rattle.pile.specs.declared.Added.{Added}
 use Rattle.pile.specs.declared.Added.the-variants.{Grown, Refused, Full}

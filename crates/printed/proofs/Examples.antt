@@ -20,7 +20,8 @@ use Rattle.lookup.specs.Method.{methodsIn, slotOf, totalOf}
 use Rattle.lookup.specs.Constant.{signed, valueOf}
 use Rattle.lookup.specs.Question.{slotAs}
 use Rattle.printed.specs.Marked.{listed3}
-use Rattle.printed.specs.Listing.{spaceText, parentText, slotText, signedText, valueText, entryLine, methodLine, constantLine, methodLines, constantLines, ownLines, entryLines, listingOf, printedOf}
+use Rattle.text.specs.Signed.{signedText}
+use Rattle.printed.specs.Listing.{spaceText, parentText, slotText, valueText, entryLine, methodLine, constantLine, methodLines, constantLines, ownLines, entryLines, listingOf, printedOf}
 
 lists3 : listingOf (got says3 82) ≡ listed3
 unfolding listingOf entryLines ownLines constantLines methodLines constantLine methodLine entryLine valueText signedText slotText parentText spaceText slotAs valueOf signed totalOf slotOf methodsIn chainOf descriptorAt chainWithin ofEntry ofParent under levels ending headerOf entriesIn parentIndex descriptorIn noEntry entryDescriptor entryIid entryKey constantsOf methodsOf parentOf constantName argumentCount methodName hexOf hexDigit lineOf digitsOf digitsWithin keySpace keyName if_then_else_ _<?_ _=?_ says3 listed3

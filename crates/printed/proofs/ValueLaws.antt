@@ -16,20 +16,9 @@ use Rattle.reader.specs.Values.{Constant, constant, constantType, constantValue
 use Rattle.reader.specs.Records.{Bytes, ShowsConstant}
 use Rattle.reader.specs.Layout.{Stands, Tells}
 use Rattle.lookup.specs.Constant.{signed, valueOf}
-use Rattle.printed.specs.Listing.{hyphen, signedText, valueText}
-
--- a number of k + 1 bits
-module _ (k v : ℕ) where
-  pub signed-low : v < 2 ^ k → signedText (signed k v) ≡ digitsOf v
-  unfolding signed signedText
-  signed-low h = ap signedText (sym (is-lt v (2 ^ k) _ _ h refl))
-
-  pub signed-high : 2 ^ k ≤ v → v < 2 ^ k + 2 ^ k → signedText (signed k v) ≡ hyphen ++ digitsOf (2 ^ k + 2 ^ k - v)
-  unfolding signed signedText
-  signed-high h l =
-      let q : 2 ^ (k + 1) ≡ 2 ^ k + 2 ^ k = rw (add-one k, pow-suc 2 k) (omega arith) in
-      let e : 2 ^ (k + 1) - 1 - v + 1 ≡ 2 ^ k + 2 ^ k - v = omega arith in
-      ap signedText (sym (no-lt v (2 ^ k) _ _ h refl)) ∙ ap (λ (n : ℕ). hyphen ++ digitsOf n) e
+use Rattle.text.specs.Line.{hyphen}
+use Rattle.text.specs.Signed.{signedText}
+use Rattle.printed.specs.Listing.{valueText}
 
 -- ---- constants
 

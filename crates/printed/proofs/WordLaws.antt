@@ -14,7 +14,8 @@ use Rattle.key.specs.Key.{spaceAt}
 use Rattle.key.specs.Pointer.{Spaced}
 use Rattle.key.proofs.Ends.{word-zero, word-nonzero, length-word, word-byte, word-nil, word-cons}
 use Rattle.key.proofs.Walks.{space-default, space-word}
-use Rattle.printed.specs.Listing.{hyphen, spaceText}
+use Rattle.text.specs.Line.{hyphen}
+use Rattle.printed.specs.Listing.{spaceText}
 
 -- the first i bytes of the word at `from` have been copied
 module _ (s : List ℕ) (from i : ℕ) (h : wordEnd s from < length s) (k : from + i ≤ wordEnd s from) where

@@ -3,14 +3,14 @@
 use mathlib.Core.List.{List, [], _∷_, _++_}
 use mathlib.Core.Option.{Option, none, some}
 use Prim.Native.Nat.{ℕ, _+_}
-use lib.IntN.{ℤ, pos, negsuc}
 use lib.ListN.{length}
 use Rattle.number.specs.Choice.{if_then_else_, _<?_}
 use Rattle.reading.specs.Got.{Got, got, bad}
 use Rattle.reading.specs.declared.Verdict.the-variants.{Accepted, Refused}
 use Rattle.key.specs.Key.{keySpace, keyName}
 use Rattle.decimal.specs.Digits.{digitsOf}
-use Rattle.text.specs.Line.{lineOf, space, newline}
+use Rattle.text.specs.Line.{lineOf, space, hyphen, newline}
+use Rattle.text.specs.Signed.{signedText}
 use Rattle.text.specs.Hex.{hexOf}
 use Rattle.reader.specs.Values.{Method, methodName, argumentCount, Constant, constantName, Descriptor, parentOf, methodsOf, constantsOf, Entry, entryKey, entryIid, entryDescriptor, parentIndex, Typelib, headerOf, entriesIn}
 use Rattle.reader.specs.Reader.{decode}
@@ -34,10 +34,6 @@ methodWord = 77 ∷ 32 ∷ []
 
 abbrev pub constantWord : List ℕ
 constantWord = 67 ∷ 32 ∷ []
-
--- `-`, before a number below zero, and for the default namespace
-abbrev pub hyphen : List ℕ
-hyphen = 45 ∷ []
 
 -- `?`, for an unknown slot or total
 abbrev pub mark : List ℕ
@@ -70,10 +66,6 @@ parentText (some d) = parentWord ++ digitsOf (parentIndex (parentOf d))
 unfoldable pub slotText : Slot → List ℕ
 slotText (Known s) = digitsOf s
 slotText (Undetermined r) = mark
-
-unfoldable pub signedText : ℤ → List ℕ
-signedText (pos n) = digitsOf n
-signedText (negsuc n) = hyphen ++ digitsOf (n + 1)
 
 unfoldable pub valueText : Value → List ℕ
 valueText (I16 z) = signedText z

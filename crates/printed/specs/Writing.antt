@@ -1,23 +1,13 @@
--- What a writer into a lent buffer promises.
+-- What a writer of the listing promises.
 -- Assumes nothing.
-use mathlib.Core.Path.{_≡_}
 use mathlib.Core.List.{List}
-use Prim.Native.Nat.{ℕ, _+_, _≤_}
+use Prim.Native.Nat.{ℕ, _≤_}
 use lib.ListN.{length}
-use lib.Seq.{sets}
 use Rattle.number.specs.Limits.{fileLimit}
+use Rattle.text.specs.Writing.{Wrote}
 use Rattle.reader.specs.Values.{Method, methodName, Constant, constantName}
 use Rattle.reader.specs.Records.{ShowsMethod, ShowsConstant}
 use Rattle.reader.specs.Rules.{Identifier}
-
--- the bytes were stored from `at` on, nothing else was changed, and r is the place after them
-pub record Wrote (before : List ℕ) (at : ℕ) (bytes : List ℕ) (r : ℕ) (after : List ℕ) : Type 0 where
-  pub next : r ≡ at + length bytes
-  pub stored : after ≡ sets before at bytes
-
--- so many bytes from `at` on lie in the buffer
-abbrev pub Room : List ℕ → ℕ → ℕ → Type 0
-Room out at n = at + n ≤ length out
 
 -- room that any line of the listing fits in
 abbrev pub lineRoom : ℕ

@@ -14,7 +14,8 @@ ghost use Rattle.reader.specs.Values.{Entry, Descriptor, noEntry};
 ghost use Rattle.reader.specs.Records.{ShowsOwn};
 ghost use Rattle.reader.specs.Layout.{LaidOut, Lies, Stands};
 ghost use Rattle.printed.specs.Listing.{entryWord, parentText, slotText, entryLine, methodLine, constantLine};
-ghost use Rattle.printed.specs.Writing.{lineRoom, Wrote, WroteOf, Room, Small, NamedMethod, NamedConstant};
+ghost use Rattle.text.specs.Writing.{Wrote, Room};
+ghost use Rattle.printed.specs.Writing.{lineRoom, WroteOf, Small, NamedMethod, NamedConstant};
 
 // The index i, and the IID at `place` of the file.
 fn put_front(file: &[u8], place: usize, i: usize, out: &mut [u8], at: usize) -> usize

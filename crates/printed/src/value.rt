@@ -4,8 +4,10 @@ ghost use Prim.Native.Nat.{ℕ, _+_, _^_, _≤_, _<_};
 ghost use Rattle.reader.specs.Layout.{Stands};
 ghost use Rattle.reader.specs.Records.{ShowsConstant};
 ghost use Rattle.lookup.specs.Constant.{signed, valueOf};
-ghost use Rattle.printed.specs.Listing.{signedText, valueText};
-ghost use Rattle.printed.specs.Writing.{Wrote, WroteOf, Room, Small};
+ghost use Rattle.text.specs.Signed.{signedText};
+ghost use Rattle.printed.specs.Listing.{valueText};
+ghost use Rattle.text.specs.Writing.{Wrote, Room};
+ghost use Rattle.printed.specs.Writing.{WroteOf, Small};
 
 // A number in two's complement, where `half` is 2^k and the number has k + 1 bits.
 pub fn put_signed(out: &mut [u8], at: usize, half: u64, v: u64) -> usize

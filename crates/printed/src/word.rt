@@ -7,7 +7,8 @@ ghost use Rattle.key.specs.Key.{spaceAt};
 ghost use Rattle.key.specs.Pointer.{Spaced, Pointed};
 ghost use Rattle.text.specs.Line.{space};
 ghost use Rattle.printed.specs.Listing.{spaceText};
-ghost use Rattle.printed.specs.Writing.{Wrote, Room, Small};
+ghost use Rattle.text.specs.Writing.{Wrote, Room};
+ghost use Rattle.printed.specs.Writing.{Small};
 
 // The word that the pool pointer q leads to.
 pub fn put_word(pool: &[u8], q: usize, out: &mut [u8], at: usize) -> usize

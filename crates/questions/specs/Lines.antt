@@ -3,7 +3,7 @@
 use mathlib.Core.List.{List}
 use Prim.Native.Nat.{ℕ}
 use Rattle.words.specs.Words.{wordIn}
-use Rattle.sayings.specs.Sayings.{Saying}
+use Rattle.said.specs.Saying.{Saying}
 use Rattle.answers.specs.Commands.{checkSaying, iidSaying, looksSaying, keySaying, methodSaying, slotSaying, constantSaying}
 use Rattle.verbs.specs.declared.Question.{Question}
 use Rattle.verbs.specs.declared.Question.the-variants.{Check, Iid, Looks, Key, Method, Slot, Constant}

@@ -1,10 +1,10 @@
 // The line that answers a command about a file, from the words of its line.
 ghost use Rattle.words.specs.Words.{wordsOf};
-ghost use Rattle.sayings.specs.Sayings.{Says};
+ghost use Rattle.said.specs.Saying.{Says};
 ghost use Rattle.questions.specs.Lines.{askedSaying};
 ghost use Rattle.verbs.specs.declared.Question.the-variants.{Iid, Looks, Key, Method, Slot, Constant};
-use sayings::ANSWER_ROOM;
-use sayings::Said;
+use said::ANSWER_ROOM;
+use said::Said;
 use verbs::Question;
 
 fn ask_iid(line: &[u8], separator: u8, file: &[u8], text: &mut [u8; ANSWER_ROOM]) -> Said

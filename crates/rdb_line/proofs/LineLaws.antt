@@ -19,7 +19,7 @@ use Rattle.decimal.specs.Digits.{digitsOf}
 use Rattle.text.specs.Line.{space, newline}
 use Rattle.decimal.proofs.Laws.{length-u64}
 use Rattle.decimal.proofs.Stores.{front}
-use Rattle.printed.specs.Writing.{Wrote}
+use Rattle.text.specs.Writing.{Wrote}
 use Rattle.rdb_map.specs.Map.{entryBytes, keyAt}
 use Rattle.rdb_path.specs.Path.{joined}
 use Rattle.rdb_list.specs.Listed.{Line, entityLine, constantLine, valueIn}

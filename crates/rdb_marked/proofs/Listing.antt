@@ -10,7 +10,7 @@ use Rattle.key.specs.Word.{zeroByte, wordEnd, wordAt}
 use Rattle.signed.specs.Bits.{signed}
 use Rattle.decimal.specs.Digits.{digitsWithin, digitsOf}
 use Rattle.text.specs.Hex.{hexDigit, hexOf}
-use Rattle.printed.specs.Listing.{signedText}
+use Rattle.text.specs.Signed.{signedText}
 use Rattle.rdb_map.specs.Map.{keyAt}
 use Rattle.rdb_record.specs.Constant.{valueSize}
 use Rattle.rdb_value.specs.Value.{float32, float64, valueOf}

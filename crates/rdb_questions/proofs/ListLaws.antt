@@ -7,10 +7,10 @@ use Prim.Native.Nat.{ℕ}
 use Rattle.reading.specs.declared.Refusal.{Refusal}
 use Rattle.reading.specs.declared.Verdict.{Verdict}
 use Rattle.reading.specs.declared.Verdict.the-variants as verdict
-use Rattle.sayings.specs.declared.Said.{Said}
-use Rattle.sayings.specs.declared.Why.the-variants.{Refused}
-use Rattle.sayings.specs.Texts.{refusedLine}
-use Rattle.sayings.specs.Sayings.{Says, saying, verdictWhy}
+use Rattle.said.specs.declared.Said.{Said}
+use Rattle.said.specs.declared.Why.the-variants.{Refused}
+use Rattle.said.specs.Texts.{refusedLine}
+use Rattle.said.specs.Saying.{Says, saying, verdictWhy}
 use Rattle.rdb_interface.specs.declared.SetCount.{SetCount}
 use Rattle.rdb_file.specs.File.{readFile, verdictOf}
 use Rattle.rdb.proofs.AnswerLaws.{accepted, refused, checked-file}

@@ -12,9 +12,9 @@ use Rattle.rdb_parts.specs.declared.PartAnswer.{PartAnswer}
 use Rattle.rdb_parts.specs.Parts.{saidOf}
 use Rattle.rdb_told.specs.Told.{sayPart}
 use Rattle.rdb_told.proofs.ToldLaws.{small-said}
-use Rattle.sayings.specs.declared.Said.{Said}
-use Rattle.sayings.specs.Texts.{notDecimalMistake, tooLargeMistake}
-use Rattle.sayings.specs.Sayings.{Saying, Says, mistaken}
+use Rattle.said.specs.declared.Said.{Said}
+use Rattle.said.specs.Texts.{notDecimalMistake, tooLargeMistake}
+use Rattle.said.specs.Saying.{Saying, Says, mistaken}
 use Rattle.streamed.specs.declared.Begun.{Begun}
 use Rattle.streamed.specs.Stream.{spoken, telling, Opens}
 use Rattle.streamed.proofs.StreamLaws.{said-opens, telling-opens}

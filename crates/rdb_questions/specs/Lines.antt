@@ -9,8 +9,8 @@ use Rattle.words.specs.declared.Number.the-variants.{Is, NotDecimal, TooLarge}
 use Rattle.words.specs.Numbers.{numberOf}
 use Rattle.words.specs.Words.{wordIn}
 use Rattle.reading.specs.Got.{Got, got, bad}
-use Rattle.sayings.specs.Texts.{refusedLine, notDecimalMistake, tooLargeMistake}
-use Rattle.sayings.specs.Sayings.{Saying, saying, mistaken, verdictWhy}
+use Rattle.said.specs.Texts.{refusedLine, notDecimalMistake, tooLargeMistake}
+use Rattle.said.specs.Saying.{Saying, saying, mistaken, verdictWhy}
 use Rattle.listed.specs.Text.{shown, closing}
 use Rattle.rdb_interface.specs.declared.SetCount.{SetCount}
 use Rattle.rdb_file.specs.Visit.{Sound}

@@ -1,7 +1,7 @@
 // The answer to a command about a types.rdb, from the words of its line.
 ghost use mathlib.Core.Bool.{Bool};
 ghost use Rattle.words.specs.Words.{wordsOf, wordIn};
-ghost use Rattle.sayings.specs.Sayings.{Says};
+ghost use Rattle.said.specs.Saying.{Says};
 ghost use Rattle.rdb_said.specs.Sayings.{entitySaying, constantSaying};
 ghost use Rattle.streamed.specs.Stream.{Opens};
 ghost use Rattle.rdb_questions.specs.Lines.{pathsSaying, partSaying, secondSaying, innerSaying, typesSaying};
@@ -10,8 +10,8 @@ use rdb_parts::Inner;
 use rdb_parts::Part;
 use rdb_tasks::Asked;
 use reading::Verdict;
-use sayings::ANSWER_ROOM;
-use sayings::Said;
+use said::ANSWER_ROOM;
+use said::Said;
 use streamed::Begun;
 use words::Number;
 
@@ -20,7 +20,7 @@ fn ask_list(m: SetCount, file: &[u8], text: &mut [u8; ANSWER_ROOM]) -> Begun
 {
     match rdb_file::check(file, m) {
         Verdict::Accepted(_) => streamed::paths(),
-        Verdict::Refused(why) => streamed::said(sayings::refused(why, text)),
+        Verdict::Refused(why) => streamed::said(said::refused(why, text)),
     }
 }
 
@@ -70,9 +70,9 @@ fn part_at(
             streamed::tell(rdb_parts::part_by_path(file, m, path, which, i as usize))
         }
         Number::NotDecimal => {
-            streamed::said(sayings::mistake(b"error the position is not decimal\n", text))
+            streamed::said(said::mistake(b"error the position is not decimal\n", text))
         }
-        Number::TooLarge => streamed::said(sayings::mistake(
+        Number::TooLarge => streamed::said(said::mistake(
             b"error the position does not fit 64 bits\n",
             text,
         )),
@@ -100,11 +100,11 @@ fn inner_at(
             i,
             j as usize,
         )),
-        Number::NotDecimal => streamed::said(sayings::mistake(
+        Number::NotDecimal => streamed::said(said::mistake(
             b"error the second position is not decimal\n",
             text,
         )),
-        Number::TooLarge => streamed::said(sayings::mistake(
+        Number::TooLarge => streamed::said(said::mistake(
             b"error the second position does not fit 64 bits\n",
             text,
         )),
@@ -126,9 +126,9 @@ fn inner_of(
     match words::number_of(first) {
         Number::Is(i) => inner_at(file, m, path, which, i as usize, second, text),
         Number::NotDecimal => {
-            streamed::said(sayings::mistake(b"error the position is not decimal\n", text))
+            streamed::said(said::mistake(b"error the position is not decimal\n", text))
         }
-        Number::TooLarge => streamed::said(sayings::mistake(
+        Number::TooLarge => streamed::said(said::mistake(
             b"error the position does not fit 64 bits\n",
             text,
         )),

@@ -5,9 +5,9 @@ use mathlib.Core.List.{List, _++_}
 use Prim.Native.Nat.{ℕ}
 use Rattle.reading.specs.Got.{Accepted}
 use Rattle.text.specs.Line.{newline}
-use Rattle.sayings.specs.declared.Why.the-variants.{Answered}
-use Rattle.sayings.specs.Texts.{found}
-use Rattle.sayings.specs.Sayings.{Saying, saying}
+use Rattle.said.specs.declared.Why.the-variants.{Answered}
+use Rattle.said.specs.Texts.{found}
+use Rattle.said.specs.Saying.{Saying, saying}
 use Rattle.rdb_record.specs.Constant.{readConstant}
 use Rattle.rdb.specs.declared.ConstantAnswer.{ConstantAnswer}
 use Rattle.rdb.specs.Questions.{constantSaid}

@@ -4,10 +4,10 @@ use mathlib.Core.List.{List, _++_}
 use Prim.Native.Nat.{ℕ}
 use Rattle.decimal.specs.Digits.{digitsOf}
 use Rattle.text.specs.Line.{space, newline}
-use Rattle.sayings.specs.declared.Why.{Why}
-use Rattle.sayings.specs.declared.Why.the-variants.{Answered, Refused}
-use Rattle.sayings.specs.Texts.{found, noneLine, refusedLine}
-use Rattle.sayings.specs.Sayings.{Saying, saying, sayVerdict}
+use Rattle.said.specs.declared.Why.{Why}
+use Rattle.said.specs.declared.Why.the-variants.{Answered, Refused}
+use Rattle.said.specs.Texts.{found, noneLine, refusedLine}
+use Rattle.said.specs.Saying.{Saying, saying, sayVerdict}
 use Rattle.rdb_interface.specs.declared.SetCount.{SetCount}
 use Rattle.rdb_file.specs.File.{readFile, verdictOf}
 use Rattle.rdb.specs.declared.Entity.{Entity}

@@ -8,7 +8,7 @@ ghost use Rattle.rdb_path.specs.Path.{cut, constantAt};
 ghost use Rattle.rdb_path.specs.Reached.{Checked};
 ghost use Rattle.rdb.specs.declared.EntityAnswer.the-variants as entity;
 ghost use Rattle.rdb.specs.Questions.{constantSaid, constantFound};
-ghost use Rattle.sayings.specs.Sayings.{Says};
+ghost use Rattle.said.specs.Saying.{Says};
 ghost use Rattle.rdb_said.specs.Sayings.{sayEntity, sayConstant, checkSaying, entitySaying, constantSaying};
 use lookup::InterfaceAnswer;
 use rdb::Entity;
@@ -16,17 +16,17 @@ use rdb::EntityAnswer;
 use rdb_interface::SetCount;
 use rdb_path::Place;
 use reading::Verdict;
-use sayings::ANSWER_ROOM;
-use sayings::Said;
-use sayings::Why;
+use said::ANSWER_ROOM;
+use said::Said;
+use said::Why;
 
 // The check of a file.
 pub fn check(file: &[u8], m: SetCount, line: &mut [u8; ANSWER_ROOM]) -> Said
     ensures { λ r. ⌜ Says (checkSaying m (now (file .entry))) (now (line .entry)) r (now (line .exit)) ⌝ }
 {
     match rdb_file::check(file, m) {
-        Verdict::Accepted(n) => sayings::numbered(b"accepted ", n as u64, line),
-        Verdict::Refused(why) => sayings::refused(why, line),
+        Verdict::Accepted(n) => said::numbered(b"accepted ", n as u64, line),
+        Verdict::Refused(why) => said::refused(why, line),
     }
 }
 
@@ -52,7 +52,7 @@ pub fn entity(file: &[u8], m: SetCount, path: &[u8], line: &mut [u8; ANSWER_ROOM
     match rdb::entity_by_path(file, m, path) {
         EntityAnswer::Found(x) => found_entity(x, line),
         EntityAnswer::None => sayings::interface(InterfaceAnswer::None, line),
-        EntityAnswer::Refused(why) => sayings::refused(why, line),
+        EntityAnswer::Refused(why) => said::refused(why, line),
     }
 }
 
@@ -87,6 +87,6 @@ pub fn constant(file: &[u8], m: SetCount, path: &[u8], line: &mut [u8; ANSWER_RO
 {
     match rdb_file::check(file, m) {
         Verdict::Accepted(_) => found_constant(file, path, line),
-        Verdict::Refused(why) => sayings::refused(why, line),
+        Verdict::Refused(why) => said::refused(why, line),
     }
 }

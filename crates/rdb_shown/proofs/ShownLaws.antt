@@ -19,8 +19,8 @@ use Rattle.decimal.proofs.Stores.{chain}
 use Rattle.text.specs.Hex.{hexDigit, hexOf}
 use Rattle.text.proofs.HexLaws.{length-hex}
 use Rattle.signed.specs.Bits.{signed}
-use Rattle.printed.specs.Listing.{signedText}
-use Rattle.printed.specs.Writing.{Wrote}
+use Rattle.text.specs.Signed.{signedText}
+use Rattle.text.specs.Writing.{Wrote}
 use Rattle.rdb_record.specs.Constant.{valueSize}
 use Rattle.rdb_value.specs.declared.Value.{Value}
 use Rattle.rdb_value.specs.declared.Value.the-variants.{Boolean, Byte, Short, UnsignedShort, Long, UnsignedLong, Hyper, UnsignedHyper, Float, Double, FloatNan, DoubleNan}

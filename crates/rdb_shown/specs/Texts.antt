@@ -7,7 +7,7 @@ use lib.Ieee.{binary32, binary64, toBits}
 use Rattle.ascii.specs.Ascii.{ascii}
 use Rattle.decimal.specs.Digits.{digitsOf}
 use Rattle.text.specs.Hex.{hexOf}
-use Rattle.printed.specs.Listing.{signedText}
+use Rattle.text.specs.Signed.{signedText}
 use Rattle.rdb_value.specs.declared.Value.{Value}
 use Rattle.rdb_value.specs.declared.Value.the-variants.{Boolean, Byte, Short, UnsignedShort, Long, UnsignedLong, Hyper, UnsignedHyper, Float, Double, FloatNan, DoubleNan}
 

@@ -2,13 +2,13 @@
 use rdb_interface::SetCount;
 use rdb_parts::Inner;
 use rdb_parts::Part;
-use sayings::ANSWER_ROOM;
-use sayings::Said;
-use sayings::Why;
+use said::ANSWER_ROOM;
+use said::Said;
+use said::Why;
 ghost use mathlib.Core.Path.{_≡_};
 ghost use Prim.Native.Nat.{_+_, _≤_};
-ghost use Rattle.printed.specs.Writing.{Wrote};
-ghost use Rattle.sayings.specs.Sayings.{Says, mistaken};
+ghost use Rattle.text.specs.Writing.{Wrote};
+ghost use Rattle.said.specs.Saying.{Says, mistaken};
 ghost use Rattle.rdb_tasks.specs.Asked.{isTypes, readingOf, listOf, noteOf, whichOf, askedOf, hasWords, commandName, askedWords, usageText};
 
 // `Part` and `Inner` ask for a part of an entity, and `Which` for one that there is not.

@@ -7,10 +7,10 @@ use Rattle.number.specs.Choice.{if_then_else_, _=?_}
 use Rattle.number.specs.Limits.{fileLimit}
 use Rattle.decimal.specs.Digits.{digitsOf}
 use Rattle.text.specs.Line.{space, newline}
-use Rattle.sayings.specs.declared.Why.{Why}
-use Rattle.sayings.specs.declared.Why.the-variants.{Answered, Refused}
-use Rattle.sayings.specs.Texts.{found, noneLine, refusedLine}
-use Rattle.sayings.specs.Sayings.{Saying, saying}
+use Rattle.said.specs.declared.Why.{Why}
+use Rattle.said.specs.declared.Why.the-variants.{Answered, Refused}
+use Rattle.said.specs.Texts.{found, noneLine, refusedLine}
+use Rattle.said.specs.Saying.{Saying, saying}
 use Rattle.window.specs.Shown.{bytesShown}
 use Rattle.rdb_text.specs.declared.Text.{Text}
 use Rattle.rdb_parts.specs.declared.PartAnswer.{PartAnswer}

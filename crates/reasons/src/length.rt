@@ -8,7 +8,7 @@ ghost use Prim.Native.Nat.{_+_, _≤_, _<_};
 ghost use lib.ListN.{length};
 ghost use Rattle.ascii.specs.Ascii.{ascii};
 ghost use Rattle.decimal.specs.Digits.{digitsOf};
-ghost use Rattle.printed.specs.Writing.{Wrote};
+ghost use Rattle.text.specs.Writing.{Wrote};
 ghost use Rattle.failures.specs.Room.{room};
 ghost use Rattle.reasons.specs.Lengths.{cutText, withoutText, paddedText, saidLength, lengthText};
 

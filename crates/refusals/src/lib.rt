@@ -10,9 +10,9 @@ use verbs::Question;
 use verbs::Verb;
 ghost use Prim.Native.Nat.{_≤_};
 ghost use lib.ListN.{length};
+ghost use Rattle.number.specs.Limits.{pileLimit};
 ghost use Rattle.failures.specs.Room.{wordLimit};
 ghost use Rattle.kept.specs.Table.{Tidy};
-ghost use Rattle.pile.specs.Pile.{pileLimit};
 
 fn is_adopting(line: &[u8], separator: u8) -> bool {
     if let Task::Run(verb) = tasks::task_of(line, separator) {

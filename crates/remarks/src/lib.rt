@@ -1,4 +1,4 @@
-// Lines on standard error: why a file, a question or a link was refused, and what an `error` line on standard output says. Each goes out in one write.
+// Lines on standard error: why a file, a question or a link was refused. Each goes out in one write.
 use failures::ROOM;
 use faults::Fault;
 use rdb_interface::SetCount;
@@ -12,14 +12,6 @@ ghost use Rattle.number.specs.Choice.{if_then_else_};
 ghost use Rattle.reader.specs.Rules.{isIdentifier};
 ghost use Rattle.failures.specs.Room.{room, wordLimit};
 ghost use Rattle.remarks.specs.Words.{faultyWord};
-
-// The first n bytes on standard error.
-fn put(text: &[u8; ROOM], n: usize)
-    requires { ⌜ n ≤ room ⌝ }
-{
-    let all: &[u8] = text;
-    io::write_all(2, &all[..n]);
-}
 
 // By the name of a malformed question: 3 where it is at fault, else the other word.
 fn name_or(name: &[u8], other: u8) -> u8
@@ -59,7 +51,7 @@ fn refused_by(
     let n = faults::key_of(file, fault.entry, key);
     let all: &[u8] = key;
     let end = reasons::refused(name, why, fault.rule, &all[..n], text);
-    put(text, end);
+    streams::remark(text, end);
 }
 
 fn refused_inside(name: &[u8], file: &[u8], why: Refusal, text: &mut [u8; ROOM])
@@ -89,16 +81,16 @@ fn refused_length(name: &[u8], file: &[u8], why: Refusal, text: &mut [u8; ROOM])
     requires { ⌜ length (now name) ≤ wordLimit ⌝ }
 {
     let end = reasons::wrong_length(name, file, why, text);
-    put(text, end);
+    streams::remark(text, end);
 }
 
 // Why a file was refused whose pool or directory is out of place: libxpt may have written it.
 fn refused_place(name: &[u8], file: &[u8], why: Refusal, text: &mut [u8; ROOM])
     requires { ⌜ length (now name) ≤ wordLimit ⌝ }
 {
-    if adopt::genuine::is_genuine(file) {
+    if genuine::is_genuine(file) {
         let end = reasons::refused(name, why, 5, b"", text);
-        put(text, end);
+        streams::remark(text, end);
         return;
     }
     refused_inside(name, file, why, text)
@@ -118,7 +110,7 @@ pub fn refused(name: &[u8], file: &[u8], why: Refusal, text: &mut [u8; ROOM])
 // Where a types.rdb is refused as document 001 reads it, whether `office` accepts it.
 fn other_reading(name: &[u8], file: &[u8], text: &mut [u8; ROOM]) {
     if let Verdict::Accepted(_) = rdb_file::check(file, SetCount::UnlessReadOnly) {
-        error(
+        streams::error(
             name,
             b"error office suites write it so: `xpt office` accepts it, reading no set exceptions for read-only attributes\n",
             text,
@@ -131,7 +123,7 @@ pub fn types_refused(name: &[u8], file: &[u8], m: SetCount, why: Refusal, text: 
     requires { ⌜ length (now name) ≤ wordLimit ⌝ }
 {
     let end = reasons::refused(name, why, 0, b"", text);
-    put(text, end);
+    streams::remark(text, end);
     if let SetCount::Always = m {
         other_reading(name, file, text);
     }
@@ -143,7 +135,7 @@ pub fn unadopted(name: &[u8], file: &[u8], why: Refusal, text: &mut [u8; ROOM])
 {
     if why.no == 8 && why.place == 24 {
         let end = reasons::refused(name, why, 2, b"", text);
-        put(text, end);
+        streams::remark(text, end);
         return;
     }
     refused(name, file, why, text)
@@ -154,7 +146,7 @@ pub fn asked(name: &[u8], question: Question, word: &[u8], text: &mut [u8; ROOM]
     requires { ⌜ length (now name) ≤ wordLimit ⌝ }
 {
     let end = reasons::asked(name, faulty_word(question, word), text);
-    put(text, end);
+    streams::remark(text, end);
 }
 
 // Why a link was refused; the place of 21 to 24 counts interfaces of the first file.
@@ -171,7 +163,7 @@ fn united_by(
     let n = faults::key_of(file, why.place, key);
     let all: &[u8] = key;
     let end = reasons::united(first, second, why, &all[..n], text);
-    put(text, end);
+    streams::remark(text, end);
 }
 
 pub fn united(first: &[u8], second: &[u8], file: &[u8], why: Refusal, text: &mut [u8; ROOM])
@@ -179,24 +171,4 @@ pub fn united(first: &[u8], second: &[u8], file: &[u8], why: Refusal, text: &mut
 {
     let mut key = [0u8; 512];
     united_by(first, second, file, why, &mut key, text);
-}
-
-// What the line on standard output says, which begins with `error `, of the file of this name, or of none.
-pub fn error(name: &[u8], line: &[u8], text: &mut [u8; ROOM])
-    requires { ⌜ length (now line) ≤ room ⌝ }
-{
-    let end = failures::aside(name, line, text);
-    put(text, end);
-}
-
-// Where a mistake in the words of a single command is told: what to do.
-pub fn hint(text: &mut [u8; ROOM]) {
-    let end = failures::hint(text);
-    put(text, end);
-}
-
-// Standard output does not take what is left.
-pub fn output_gone(text: &mut [u8; ROOM]) {
-    let end = failures::output_gone(text);
-    put(text, end);
 }

@@ -8,10 +8,10 @@ use kept::STORE_ROOM;
 use link::Which;
 use made::Save;
 use number::FILE_LIMIT;
+use said::ANSWER_ROOM;
+use said::Said;
+use said::Why;
 use saving::Saved;
-use sayings::ANSWER_ROOM;
-use sayings::Said;
-use sayings::Why;
 use streamed::Stream;
 use tasks::Task;
 use told::Ran;
@@ -23,7 +23,7 @@ ghost use Rattle.number.specs.Limits.{fileLimit};
 ghost use Rattle.failures.specs.Room.{wordLimit};
 ghost use Rattle.words.specs.Words.{wordsOf};
 ghost use Rattle.tasks.specs.Tasks.{inBatch, argument, taskOf, filesOf};
-ghost use Rattle.sayings.specs.Sayings.{answerRoom};
+ghost use Rattle.said.specs.Saying.{answerRoom};
 ghost use Rattle.kept.specs.Table.{Tidy};
 ghost use Rattle.kept.specs.Files.{keptFile};
 ghost use Rattle.streamed.specs.Stream.{LeftOf};
@@ -71,7 +71,7 @@ fn put_rest(
     let from = file.from;
     let end = file.end;
     let all: &[u8] = store;
-    told::streams::put_rest(&all[from..end], rest, tasks::in_batch(separator))
+    told::answer::put_rest(&all[from..end], rest, tasks::in_batch(separator))
 }
 
 // On standard error: nothing, the mistake, or why something was refused.
@@ -117,7 +117,7 @@ fn say_reply(
     let rest = reply.rest;
     let whose = reply.whose;
     let n = said.length;
-    if !told::streams::put(head, n) {
+    if !told::answer::put(head, n) {
         return Told::Closed;
     }
     if !put_rest(line, separator, rest, kept, rows, store) {

@@ -9,8 +9,8 @@ use lib.ListN.{length, length-append, getD, take, drop}
 use lib.Seq.{sets, getD-take, take-suc, take-all}
 use Rattle.decimal.proofs.Stores.{front, chain}
 use Rattle.facts.proofs.Sets.{getD-map, length-map}
-use Rattle.printed.specs.Writing.{Wrote}
-use Rattle.printed.proofs.WritingLaws.{wrote-then, wrote-as}
+use Rattle.text.specs.Writing.{Wrote}
+use Rattle.text.proofs.WritingLaws.{wrote-then, wrote-as}
 use Rattle.text.specs.Line.{newline}
 use Rattle.listed.specs.Text.{shown, closing}
 use Rattle.listed.proofs.RestLaws.{length-shown, shown-sets}

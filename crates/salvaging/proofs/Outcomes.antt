@@ -15,11 +15,11 @@ use Rattle.salvage.specs.declared.Remains.{Remains}
 use Rattle.salvage.specs.declared.Salvaged.{Salvaged}
 use Rattle.salvage.specs.declared.Salvaged.the-variants as salvaged
 use Rattle.salvage.specs.Salvage.{salvageOf, reportsIn, salvagedAs, listed, Lent, roomIn, outcomeOf, Salvages}
-use Rattle.sayings.specs.declared.Said.{Said}
-use Rattle.sayings.specs.declared.Why.the-variants as why
-use Rattle.sayings.specs.Texts.{refusedLine}
-use Rattle.sayings.specs.Sayings.{Says, saying}
-use Rattle.sayings.proofs.SayingLaws.{says-as}
+use Rattle.said.specs.declared.Said.{Said}
+use Rattle.said.specs.declared.Why.the-variants as why
+use Rattle.said.specs.Texts.{refusedLine}
+use Rattle.said.specs.Saying.{Says, saying}
+use Rattle.said.proofs.SayingLaws.{says-as}
 use Rattle.salvaging.specs.Text.{sayingSalvaged, salvageIn, salvageSaying, salvageAnswer, salvageBuffer}
 use Rattle.salvaging.specs.Lists.{listText}
 use Rattle.salvaging.specs.Tells.{Tells}

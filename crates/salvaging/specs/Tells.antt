@@ -4,7 +4,7 @@ use mathlib.Core.Path.{_≡_}
 use mathlib.Core.Bool.{Bool}
 use mathlib.Core.List.{List}
 use Prim.Native.Nat.{ℕ}
-use Rattle.sayings.specs.Sayings.{Says}
+use Rattle.said.specs.Saying.{Says}
 use Rattle.salvaging.specs.declared.Told.{Told}
 use Rattle.salvaging.specs.Text.{salvageSaying, salvageAnswer, salvageBuffer}
 

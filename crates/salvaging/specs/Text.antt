@@ -10,13 +10,12 @@ use Rattle.reading.specs.declared.Refusal.{Refusal}
 use Rattle.ascii.specs.Ascii.{ascii}
 use Rattle.decimal.specs.Digits.{digitsOf}
 use Rattle.text.specs.Line.{space, newline}
-use Rattle.sayings.specs.declared.Why.the-variants.{Answered, Refused}
-use Rattle.sayings.specs.Texts.{refusedLine}
-use Rattle.sayings.specs.Sayings.{Saying, saying}
+use Rattle.said.specs.declared.Why.the-variants.{Answered, Refused}
+use Rattle.said.specs.Texts.{refusedLine, written}
+use Rattle.said.specs.Saying.{Saying, saying}
 use Rattle.joining.specs.declared.Normalised.{Normalised}
 use Rattle.joining.specs.Outcome as joining
 use Rattle.joining.specs.Outcome.{Outcome, after, normalisedAs}
-use Rattle.outcomes.specs.Lines.{written}
 use Rattle.listed.specs.Text.{shown, closing}
 use Rattle.mend.specs.Left.{Report, indexOf, numberOf, placeOf, readLeft}
 use Rattle.salvage.specs.Salvage.{salvageOf, reportsIn}

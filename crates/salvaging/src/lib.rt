@@ -2,19 +2,19 @@
 use joining::Normalised;
 use number::ENTRY_LIMIT;
 use number::FILE_LIMIT;
+use said::ANSWER_ROOM;
+use said::Said;
+use said::Why;
 use salvage::Salvaged;
-use sayings::ANSWER_ROOM;
-use sayings::Said;
-use sayings::Why;
 ghost use mathlib.Core.Path.{_≡_};
 ghost use mathlib.Core.List.{_++_};
 ghost use Prim.Native.Nat.{_+_, _*_, _≤_, _<_};
 ghost use lib.ListN.{length, take, drop};
 ghost use lib.Seq.{sets};
 ghost use Rattle.number.specs.Limits.{entryLimit};
-ghost use Rattle.printed.specs.Writing.{Wrote};
-ghost use Rattle.sayings.specs.declared.Why.the-variants.{Answered};
-ghost use Rattle.sayings.specs.Sayings.{answerRoom, Says, saying};
+ghost use Rattle.text.specs.Writing.{Wrote};
+ghost use Rattle.said.specs.declared.Why.the-variants.{Answered};
+ghost use Rattle.said.specs.Saying.{answerRoom, Says, saying};
 ghost use Rattle.listed.specs.Text.{shown, closing};
 ghost use Rattle.salvaging.specs.Text.{numbersLine, changedLine, inOneLine};
 ghost use Rattle.salvaging.specs.Lists.{listLines, listText};
@@ -134,7 +134,7 @@ fn salvage_listed(
             }
         }
         Salvaged::Refused(why) => Told {
-            said: sayings::refused(why, text),
+            said: said::refused(why, text),
             done: Normalised::Refused(why),
         },
     }

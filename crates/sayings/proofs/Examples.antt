@@ -9,8 +9,10 @@ use Rattle.lookup.specs.declared.Slot.the-variants.{Known, Undetermined}
 use Rattle.lookup.specs.declared.Value.the-variants.{I16}
 use Rattle.lookup.specs.declared.MethodAnswer.the-variants as method
 use Rattle.lookup.specs.declared.ConstantAnswer.the-variants as constant
-use Rattle.printed.specs.Listing.{slotText, valueText, signedText}
-use Rattle.sayings.specs.Texts.{methodText, foundText, slotPart, totalPart, constantText, kindText, tooLargeMistake, theSlot}
+use Rattle.text.specs.Signed.{signedText}
+use Rattle.printed.specs.Listing.{slotText, valueText}
+use Rattle.said.specs.Texts.{tooLargeMistake, theSlot}
+use Rattle.sayings.specs.Texts.{methodText, foundText, slotPart, totalPart, constantText, kindText}
 
 -- `found 2 0 slot 3 distance 1 total 8`
 known : methodText (method.Found (record { owner = 2; position = 0; slot = Known 3; distance = 1; total = Known 8 })) ≡ 102 ∷ 111 ∷ 117 ∷ 110 ∷ 100 ∷ 32 ∷ 50 ∷ 32 ∷ 48 ∷ 32 ∷ 115 ∷ 108 ∷ 111 ∷ 116 ∷ 32 ∷ 51 ∷ 32 ∷ 100 ∷ 105 ∷ 115 ∷ 116 ∷ 97 ∷ 110 ∷ 99 ∷ 101 ∷ 32 ∷ 49 ∷ 32 ∷ 116 ∷ 111 ∷ 116 ∷ 97 ∷ 108 ∷ 32 ∷ 56 ∷ 10 ∷ []

@@ -3,9 +3,8 @@
 use mathlib.Core.List.{List, [], _∷_, _++_}
 use Prim.Native.Nat.{ℕ}
 use Rattle.decimal.specs.Digits.{digitsOf}
-use Rattle.reading.specs.declared.Refusal.{Refusal}
-use Rattle.reading.specs.declared.Verdict.the-variants.{Refused}
-use Rattle.text.specs.Line.{lineOf, space, newline}
+use Rattle.text.specs.Line.{space, newline}
+use Rattle.said.specs.Texts.{found, nothing, undetermined, numbered, noneLine, refusedLine, error}
 use Rattle.lookup.specs.declared.Slot.{Slot}
 use Rattle.lookup.specs.declared.Slot.the-variants as slot
 use Rattle.lookup.specs.declared.FoundMethod.{FoundMethod}
@@ -22,18 +21,6 @@ use Rattle.lookup.specs.declared.ConstantAnswer.the-variants as constant
 use Rattle.printed.specs.Listing.{mark, slotText, valueText}
 
 -- ---- words of answers
-
--- `found `, with its space
-abbrev pub found : List ℕ
-found = 102 ∷ 111 ∷ 117 ∷ 110 ∷ 100 ∷ 32 ∷ []
-
--- `none`
-abbrev pub nothing : List ℕ
-nothing = 110 ∷ 111 ∷ 110 ∷ 101 ∷ []
-
--- `undetermined `, with its space
-abbrev pub undetermined : List ℕ
-undetermined = 117 ∷ 110 ∷ 100 ∷ 101 ∷ 116 ∷ 101 ∷ 114 ∷ 109 ∷ 105 ∷ 110 ∷ 101 ∷ 100 ∷ 32 ∷ []
 
 -- ` looked `, with its spaces
 abbrev pub looked : List ℕ
@@ -52,22 +39,6 @@ abbrev pub inTotal : List ℕ
 inTotal = 32 ∷ 116 ∷ 111 ∷ 116 ∷ 97 ∷ 108 ∷ 32 ∷ []
 
 -- ---- answers
-
--- a word, a number and the newline
-abbrev pub numbered : List ℕ → ℕ → List ℕ
-numbered word n = (word ++ digitsOf n) ++ newline
-
--- a word, a refusal's number, its place and the newline
-abbrev pub placed : List ℕ → Refusal → List ℕ
-placed word why = ((word ++ digitsOf (why .no)) ++ (space ++ digitsOf (why .place))) ++ newline
-
--- `none`, with its newline
-abbrev pub noneLine : List ℕ
-noneLine = nothing ++ newline
-
--- `refused NO PLACE`
-abbrev pub refusedLine : Refusal → List ℕ
-refusedLine why = lineOf (Refused why)
 
 -- `found INDEX`, `none` or `refused NO PLACE`
 unfoldable pub interfaceText : InterfaceAnswer → List ℕ
@@ -121,37 +92,9 @@ constantText (constant.Refused why) = refusedLine why
 
 -- ---- mistakes
 
--- `error `, with its space
-abbrev pub error : List ℕ
-error = 101 ∷ 114 ∷ 114 ∷ 111 ∷ 114 ∷ 32 ∷ []
-
--- `the index`
-abbrev pub theIndex : List ℕ
-theIndex = 116 ∷ 104 ∷ 101 ∷ 32 ∷ 105 ∷ 110 ∷ 100 ∷ 101 ∷ 120 ∷ []
-
--- `the slot`
-abbrev pub theSlot : List ℕ
-theSlot = 116 ∷ 104 ∷ 101 ∷ 32 ∷ 115 ∷ 108 ∷ 111 ∷ 116 ∷ []
-
--- ` is not decimal`, with its space
-abbrev pub notDecimal : List ℕ
-notDecimal = 32 ∷ 105 ∷ 115 ∷ 32 ∷ 110 ∷ 111 ∷ 116 ∷ 32 ∷ 100 ∷ 101 ∷ 99 ∷ 105 ∷ 109 ∷ 97 ∷ 108 ∷ []
-
--- ` does not fit 64 bits`, with its space
-abbrev pub tooLarge : List ℕ
-tooLarge = 32 ∷ 100 ∷ 111 ∷ 101 ∷ 115 ∷ 32 ∷ 110 ∷ 111 ∷ 116 ∷ 32 ∷ 102 ∷ 105 ∷ 116 ∷ 32 ∷ 54 ∷ 52 ∷ 32 ∷ 98 ∷ 105 ∷ 116 ∷ 115 ∷ []
-
 -- `error the IID is not hexadecimal digits in pairs`
 abbrev pub iidMistake : List ℕ
 iidMistake = error ++ (116 ∷ 104 ∷ 101 ∷ 32 ∷ 73 ∷ 73 ∷ 68 ∷ 32 ∷ 105 ∷ 115 ∷ 32 ∷ 110 ∷ 111 ∷ 116 ∷ 32 ∷ 104 ∷ 101 ∷ 120 ∷ 97 ∷ 100 ∷ 101 ∷ 99 ∷ 105 ∷ 109 ∷ 97 ∷ 108 ∷ 32 ∷ 100 ∷ 105 ∷ 103 ∷ 105 ∷ 116 ∷ 115 ∷ 32 ∷ 105 ∷ 110 ∷ 32 ∷ 112 ∷ 97 ∷ 105 ∷ 114 ∷ 115 ∷ newline)
-
--- `error the index is not decimal`, and the same of a slot or a position
-abbrev pub notDecimalMistake : List ℕ → List ℕ
-notDecimalMistake what = error ++ (what ++ (notDecimal ++ newline))
-
--- `error the index does not fit 64 bits`, and the same of a slot or a position
-abbrev pub tooLargeMistake : List ℕ → List ℕ
-tooLargeMistake what = error ++ (what ++ (tooLarge ++ newline))
 
 -- `error the kind is not getter, setter or plain`
 abbrev pub kindMistake : List ℕ

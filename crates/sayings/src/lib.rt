@@ -7,11 +7,12 @@ ghost use Rattle.text.specs.Line.{newline};
 ghost use Rattle.lookup.specs.Constant.{signed};
 ghost use Rattle.lookup.specs.declared.ConstantAnswer.the-variants as constant;
 ghost use Rattle.lookup.specs.declared.CountedAnswer.the-variants as counted;
-ghost use Rattle.printed.specs.Listing.{signedText};
-ghost use Rattle.printed.specs.Writing.{Wrote};
-ghost use Rattle.sayings.specs.declared.Why.the-variants.{Answered, Refused};
-ghost use Rattle.sayings.specs.Texts.{numbered, placed, noneLine, refusedLine, slotPart, totalPart, foundText, theIndex, notDecimalMistake, tooLargeMistake};
-ghost use Rattle.sayings.specs.Sayings.{answerRoom, Says, saying, mistaken, sayInterface, sayCounted, sayMethod, sayConstant};
+ghost use Rattle.text.specs.Signed.{signedText};
+ghost use Rattle.text.specs.Writing.{Wrote};
+ghost use Rattle.said.specs.declared.Why.the-variants.{Answered};
+ghost use Rattle.sayings.specs.Texts.{slotPart, totalPart, foundText};
+ghost use Rattle.said.specs.Saying.{Says, saying};
+ghost use Rattle.sayings.specs.Sayings.{sayInterface, sayCounted, sayMethod, sayConstant};
 use lookup::ConstantAnswer;
 use lookup::CountedAnswer;
 use lookup::FoundMethod;
@@ -19,105 +20,18 @@ use lookup::InterfaceAnswer;
 use lookup::MethodAnswer;
 use lookup::Slot;
 use lookup::Value;
-use reading::Refusal;
-
-// Room for every answer that is made whole: all but listings, tables, and the parts and paths of a types.rdb. A line, and up to 1,024 of three numbers.
-pub const ANSWER_ROOM: usize = 65536;
-
-// Whether a command was answered, was refused, or had a mistake in its words.
-pub enum Why {
-    Answered,
-    Refused(Refusal),
-    Mistaken,
-}
-
-// What was made at the front of the line's buffer: its length, newline included, and why.
-pub struct Said {
-    pub length: usize,
-    pub why: Why,
-}
-
-// A mistake in the words.
-pub fn mistake(text: &[u8], line: &mut [u8; ANSWER_ROOM]) -> Said
-    requires { ⌜ length (now text) ≤ answerRoom ⌝ }
-    ensures { λ r. ⌜ Says (mistaken (now (text .entry))) (now (line .entry)) r (now (line .exit)) ⌝ }
-{
-    let length = text::put_bytes(line, 0, text);
-    Said {
-        length,
-        why: Why::Mistaken,
-    }
-}
-
-// The index is not decimal.
-pub fn index_not_decimal(line: &mut [u8; ANSWER_ROOM]) -> Said
-    ensures { λ r. ⌜ Says (mistaken (notDecimalMistake theIndex)) (now (line .entry)) r (now (line .exit)) ⌝ }
-{
-    mistake(b"error the index is not decimal\n", line)
-}
-
-// The index does not fit 64 bits.
-pub fn index_too_large(line: &mut [u8; ANSWER_ROOM]) -> Said
-    ensures { λ r. ⌜ Says (mistaken (tooLargeMistake theIndex)) (now (line .entry)) r (now (line .exit)) ⌝ }
-{
-    mistake(b"error the index does not fit 64 bits\n", line)
-}
-
-// An answer that is a label and a number.
-pub fn numbered(label: &[u8], n: u64, line: &mut [u8; ANSWER_ROOM]) -> Said
-    requires { ⌜ length (now label) ≤ 64 ⌝ }
-    ensures { λ r. ⌜ Says (saying (numbered (now (label .entry)) n) Answered) (now (line .entry)) r (now (line .exit)) ⌝ }
-{
-    let end = text::put_labelled(line, 0, label, n);
-    let length = text::put_bytes(line, end, b"\n");
-    Said {
-        length,
-        why: Why::Answered,
-    }
-}
-
-// The answer `none`.
-fn none(line: &mut [u8; ANSWER_ROOM]) -> Said
-    ensures { λ r. ⌜ Says (saying noneLine Answered) (now (line .entry)) r (now (line .exit)) ⌝ }
-{
-    let length = text::put_bytes(line, 0, b"none\n");
-    Said {
-        length,
-        why: Why::Answered,
-    }
-}
-
-// A label, a refusal's number and place, and a newline, from `at` on.
-pub fn put_refusal(label: &[u8], why: Refusal, line: &mut [u8; ANSWER_ROOM], at: usize) -> usize
-    requires { ⌜ at + length (now label) ≤ 64 ⌝ }
-    ensures { λ r. ⌜ Wrote (now (line .entry)) at (placed (now (label .entry)) why) r (now (line .exit)) × (r ≤ answerRoom) ⌝ }
-{
-    let no = why.no as u64;
-    let place = why.place as u64;
-    let space = text::put_labelled(line, at, label, no);
-    let end = text::put_labelled(line, space, b" ", place);
-    text::put_bytes(line, end, b"\n")
-}
-
-// A refusal.
-pub fn refused(why: Refusal, line: &mut [u8; ANSWER_ROOM]) -> Said
-    ensures { λ r. ⌜ Says (saying (refusedLine why) (Refused why)) (now (line .entry)) r (now (line .exit)) ⌝ }
-{
-    let length = put_refusal(b"refused ", why, line, 0);
-    Said {
-        length,
-        why: Why::Refused(why),
-    }
-}
+use said::ANSWER_ROOM;
+use said::Said;
+use said::Why;
 
 // What an interface's index, or none, is said as.
 pub fn interface(a: InterfaceAnswer, line: &mut [u8; ANSWER_ROOM]) -> Said
     ensures { λ r. ⌜ Says (sayInterface a) (now (line .entry)) r (now (line .exit)) ⌝ }
 {
     match a {
-        InterfaceAnswer::Found(i) => numbered(b"found ", i as u64, line),
-        InterfaceAnswer::None => none(line),
-        InterfaceAnswer::Refused(why) => refused(why, line),
+        InterfaceAnswer::Found(i) => said::numbered(b"found ", i as u64, line),
+        InterfaceAnswer::None => said::none(line),
+        InterfaceAnswer::Refused(why) => said::refused(why, line),
     }
 }
 
@@ -140,8 +54,8 @@ pub fn counted(a: CountedAnswer, line: &mut [u8; ANSWER_ROOM]) -> Said
 {
     match a {
         CountedAnswer::Found(i, k) => looked(i as u64, k as u64, line),
-        CountedAnswer::None(k) => numbered(b"none looked ", k as u64, line),
-        CountedAnswer::Refused(why) => refused(why, line),
+        CountedAnswer::None(k) => said::numbered(b"none looked ", k as u64, line),
+        CountedAnswer::Refused(why) => said::refused(why, line),
     }
 }
 
@@ -193,9 +107,9 @@ pub fn method(a: MethodAnswer, line: &mut [u8; ANSWER_ROOM]) -> Said
 {
     match a {
         MethodAnswer::Found(m) => found(m, line),
-        MethodAnswer::None => none(line),
-        MethodAnswer::Undetermined(i) => numbered(b"undetermined ", i as u64, line),
-        MethodAnswer::Refused(why) => refused(why, line),
+        MethodAnswer::None => said::none(line),
+        MethodAnswer::Undetermined(i) => said::numbered(b"undetermined ", i as u64, line),
+        MethodAnswer::Refused(why) => said::refused(why, line),
     }
 }
 
@@ -220,8 +134,8 @@ fn value(v: Value, line: &mut [u8; ANSWER_ROOM]) -> Said
     match v {
         Value::I16(x) => complement(b"found i16 ", 32768, signed::bits_16(x), line),
         Value::I32(x) => complement(b"found i32 ", 2147483648, signed::bits_32(x), line),
-        Value::U16(n) => numbered(b"found u16 ", n as u64, line),
-        Value::U32(n) => numbered(b"found u32 ", n as u64, line),
+        Value::U16(n) => said::numbered(b"found u16 ", n as u64, line),
+        Value::U32(n) => said::numbered(b"found u32 ", n as u64, line),
     }
 }
 
@@ -230,8 +144,8 @@ pub fn constant(a: ConstantAnswer, line: &mut [u8; ANSWER_ROOM]) -> Said
 {
     match a {
         ConstantAnswer::Found(v) => value(v, line),
-        ConstantAnswer::None => none(line),
-        ConstantAnswer::Undetermined(i) => numbered(b"undetermined ", i as u64, line),
-        ConstantAnswer::Refused(why) => refused(why, line),
+        ConstantAnswer::None => said::none(line),
+        ConstantAnswer::Undetermined(i) => said::numbered(b"undetermined ", i as u64, line),
+        ConstantAnswer::Refused(why) => said::refused(why, line),
     }
 }

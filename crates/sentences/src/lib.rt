@@ -1,7 +1,7 @@
 // The rule that a refusal is of, in plain words, written from a place of a lent buffer on.
 use failures::ROOM;
 ghost use Prim.Native.Nat.{_+_, _≤_};
-ghost use Rattle.printed.specs.Writing.{Wrote};
+ghost use Rattle.text.specs.Writing.{Wrote};
 ghost use Rattle.failures.specs.Room.{room};
 ghost use Rattle.sentences.specs.Sentences.{positionText, betweenText, wordText, headerText, directoryText, ownText, linkText, typesText, sentenceText};
 

@@ -23,7 +23,8 @@ use Rattle.lookup.specs.Holding.{Answers, PoolOf, NamedMethod, NamedDescriptor}
 use Rattle.lookup.proofs.ChainLaws.{chain-parts, under-levels}
 use Rattle.lookup.proofs.Walks.{methods-in, above-none, above-some, lacks, Described, described, stands-own, up-chained, up-within, Rises, rise-start, rise-next}
 use Rattle.printed.specs.Listing.{slotText}
-use Rattle.printed.specs.Writing.{Wrote, WroteOf}
+use Rattle.text.specs.Writing.{Wrote}
+use Rattle.printed.specs.Writing.{WroteOf}
 use Rattle.slots.specs.declared.TableAt.{TableAt}
 use Rattle.slots.specs.Table.{Row, ownRows, levelRows, rowsOn, rowsOf, ownerText, callText, rowLine, rowLines}
 use Rattle.slots.specs.Cursor.{higher, firstRows, rowsBelow, Reached, noRows, RowsLeft, RowWritten, Begins}

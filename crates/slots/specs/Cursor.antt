@@ -14,7 +14,8 @@ use Rattle.lookup.specs.Chain.{Chain, chain, levels, ending, chainOf}
 use Rattle.lookup.specs.Method.{slotOf, totalOf}
 use Rattle.lookup.specs.Question.{slotAs, slotNumber}
 use Rattle.lookup.specs.Holding.{NamedMethod}
-use Rattle.printed.specs.Writing.{lineRoom, Wrote}
+use Rattle.text.specs.Writing.{Wrote}
+use Rattle.printed.specs.Writing.{lineRoom}
 use Rattle.slots.specs.declared.TableAt.{TableAt}
 use Rattle.slots.specs.declared.Piece.{Piece}
 use Rattle.slots.specs.Table.{Row, ownRows, levelRows, rowsOf, rowLines}

@@ -12,7 +12,7 @@ use Rattle.lookup.specs.Chain.{Level, level, Ending, root, unresolved, Chain, c
 use Rattle.lookup.specs.Method.{SlotOf, slotOf, isKind}
 use Rattle.lookup.specs.Question.{slotAs}
 use Rattle.printed.specs.Listing.{spaceText, slotText}
-use Rattle.sayings.specs.Texts.{undetermined, numbered}
+use Rattle.said.specs.Texts.{undetermined, numbered}
 
 -- ---- words
 

@@ -11,7 +11,8 @@ ghost use mathlib.Core.List.{List};
 ghost use Prim.Native.Nat.{ℕ, _≤_, _<_};
 ghost use Rattle.reader.specs.Layout.{Lies};
 ghost use Rattle.lookup.specs.Holding.{PoolOf};
-ghost use Rattle.printed.specs.Writing.{lineRoom, Room};
+ghost use Rattle.text.specs.Writing.{Room};
+ghost use Rattle.printed.specs.Writing.{lineRoom};
 ghost use Rattle.slots.specs.Cursor.{RowsLeft, noRows, rowTurns, Stepped, Begins};
 
 // Where the table of the asked interface goes on: the owner's methods that are left, the place of the next in the pool and its slot; and how many

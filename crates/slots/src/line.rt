@@ -9,7 +9,8 @@ ghost use Rattle.text.specs.Line.{space};
 ghost use Rattle.reader.specs.Values.{Method, Entry, keysIn};
 ghost use Rattle.reader.specs.Layout.{LaidOut, Lies, Stands};
 ghost use Rattle.lookup.specs.Holding.{PoolOf, NamedMethod};
-ghost use Rattle.printed.specs.Writing.{lineRoom, Wrote, WroteOf, Room, Small};
+ghost use Rattle.text.specs.Writing.{Wrote, Room};
+ghost use Rattle.printed.specs.Writing.{lineRoom, WroteOf, Small};
 ghost use Rattle.printed.specs.Listing.{slotText};
 ghost use Rattle.slots.specs.Table.{kindText, ownerText, callText};
 

@@ -11,9 +11,9 @@ use lib.Seq.{length-sets, length-take-le, drop-drop}
 use Rattle.number.proofs.Choice.{from-yes-le, from-not-le}
 use Rattle.lines.specs.declared.Cursor.the-variants.{Done}
 use Rattle.lines.specs.Cursor.{turns}
-use Rattle.sayings.specs.declared.Said.{Said}
-use Rattle.sayings.specs.declared.Why.the-variants.{Answered}
-use Rattle.sayings.specs.Sayings.{Saying, Says, saying}
+use Rattle.said.specs.declared.Said.{Said}
+use Rattle.said.specs.declared.Why.the-variants.{Answered}
+use Rattle.said.specs.Saying.{Saying, Says, saying}
 use Rattle.listed.specs.declared.Rest.{Rest}
 use Rattle.listed.specs.declared.Opened.{Opened}
 use Rattle.listed.specs.declared.More.{More}

@@ -7,9 +7,9 @@ use mathlib.Core.List.{List, _++_}
 use Prim.Native.Nat.{ℕ, _+_, _-_, _≤_, _<_}
 use lib.ListN.{length, drop}
 use Rattle.lines.specs.declared.Cursor.the-variants.{Done}
-use Rattle.sayings.specs.declared.Said.{Said}
-use Rattle.sayings.specs.declared.Why.the-variants.{Answered}
-use Rattle.sayings.specs.Sayings.{Saying}
+use Rattle.said.specs.declared.Said.{Said}
+use Rattle.said.specs.declared.Why.the-variants.{Answered}
+use Rattle.said.specs.Saying.{Saying}
 use Rattle.listed.specs.declared.Opened.{Opened}
 use Rattle.listed.specs.Text.{shown, closing}
 use Rattle.listed.specs.Rest as rest

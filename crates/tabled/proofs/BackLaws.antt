@@ -19,7 +19,7 @@ use Rattle.lookup.specs.Chain.{Level, level, Ending, root, unresolved, Chain, c
 use Rattle.lookup.specs.Method.{SlotOf, slotOf, isKind}
 use Rattle.lookup.specs.Question.{slotAs}
 use Rattle.lookup.proofs.ChainLaws.{Way, open-ended, topmost, onward, way, under-levels, within-unresolved, within-top, within-child, rule-within, accepted-entries}
-use Rattle.sayings.specs.Texts.{undetermined, numbered}
+use Rattle.said.specs.Texts.{undetermined, numbered}
 use Rattle.lines.specs.Tabs.{tabbed, untabbed}
 use Rattle.lines.proofs.BackLaws.{Tabless, no-tabs, tabless-append, tabless-after, tabless-back, tabless-digits, tabless-looked, tabless-namespace, tabless-newline, tabless-slot, tabless-word, tabsIn}
 use Rattle.slots.specs.Table.{getterWord, setterWord, plainWord, kindText, Row, row, ownRows, levelRows, rowsOn, ownerText, callText, rowLine, rowLines, headLine, chainText, tableOf}

@@ -30,10 +30,11 @@ use Rattle.slots.specs.Table.{rowsOf, rowLines, headLine, chainText, tableOf}
 use Rattle.slots.specs.Cursor.{RowsLeft}
 use Rattle.lines.specs.Tabs.{tabbed}
 use Rattle.lines.specs.declared.Cursor.the-variants.{AtTable}
-use Rattle.sayings.specs.declared.Said.{Said}
-use Rattle.sayings.specs.declared.Why.the-variants.{Answered}
-use Rattle.sayings.specs.Texts.{undetermined, numbered}
-use Rattle.sayings.specs.Sayings.{answerRoom, Saying, Says, saying, sayInterface}
+use Rattle.said.specs.declared.Said.{Said}
+use Rattle.said.specs.declared.Why.the-variants.{Answered}
+use Rattle.said.specs.Texts.{undetermined, numbered}
+use Rattle.said.specs.Saying.{answerRoom, Saying, Says, saying}
+use Rattle.sayings.specs.Sayings.{sayInterface}
 use Rattle.listed.specs.declared.Rest.{Rest}
 use Rattle.listed.specs.declared.Opened.{Opened}
 use Rattle.listed.specs.Text.{shown, closing}

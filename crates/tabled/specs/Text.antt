@@ -10,8 +10,9 @@ use Rattle.lookup.specs.declared.InterfaceAnswer.{InterfaceAnswer}
 use Rattle.lookup.specs.declared.InterfaceAnswer.the-variants.{Found, None, Refused}
 use Rattle.lookup.specs.Question.{refusal, keyAnswer}
 use Rattle.slots.specs.Table.{tableOf}
-use Rattle.sayings.specs.declared.Why.the-variants.{Answered}
-use Rattle.sayings.specs.Sayings.{Saying, saying, sayInterface}
+use Rattle.said.specs.declared.Why.the-variants.{Answered}
+use Rattle.said.specs.Saying.{Saying, saying}
+use Rattle.sayings.specs.Sayings.{sayInterface}
 use Rattle.answers.specs.Commands.{spaceOf}
 use Rattle.listed.specs.Text.{shown, closing}
 

@@ -5,9 +5,9 @@ use lookup::InterfaceAnswer;
 use lookup::Slot;
 use reader::Layout;
 use reading::Verdict;
-use sayings::ANSWER_ROOM;
-use sayings::Said;
-use sayings::Why;
+use said::ANSWER_ROOM;
+use said::Said;
+use said::Why;
 ghost use mathlib.Core.List.{List};
 ghost use Prim.Native.Nat.{ℕ, _≤_};
 ghost use Rattle.reader.specs.Values.{Entry};
@@ -41,7 +41,7 @@ fn of_index(
             rest,
         },
         Slot::Undetermined(ancestor) => {
-            let said = sayings::numbered(b"undetermined ", ancestor as u64, text);
+            let said = said::numbered(b"undetermined ", ancestor as u64, text);
             listed::tab(text, said.length, in_batch);
             Opened { said, rest }
         }

@@ -4,9 +4,9 @@ use mathlib.Core.List.{List}
 use Prim.Native.Nat.{ℕ, _+_, _-_, _≤_}
 use native.Mathlib.Omega.{arith}
 use lib.ListN.{length, getD}
+use Rattle.number.specs.Limits.{pileLimit}
 use Rattle.number.specs.Choice.{_<?_, _=?_}
 use Rattle.number.proofs.Choice.{both, from-not-lt}
-use Rattle.pile.specs.Pile.{pileLimit}
 use Rattle.words.specs.Words.{wordsOf, wordIn}
 use Rattle.verbs.specs.declared.Question.the-variants.{Check, Iid, Looks, Key, Method, Slot, Constant}
 use Rattle.verbs.specs.declared.Verb.{Verb}

@@ -4,10 +4,10 @@ use mathlib.Core.Bool.{Bool, true, false}
 use mathlib.Core.List.{List}
 use Prim.Native.Nat.{ℕ, _+_, _-_}
 use lib.ListN.{length, getD}
+use Rattle.number.specs.Limits.{pileLimit}
 use Rattle.ascii.specs.Ascii.{ascii}
 use Rattle.number.specs.Choice.{if_then_else_, _<?_, _=?_}
 use Rattle.key.specs.Word.{sameWord}
-use Rattle.pile.specs.Pile.{pileLimit}
 use Rattle.words.specs.Words.{wordsOf, wordIn}
 use Rattle.verbs.specs.declared.Verb.{Verb}
 use Rattle.verbs.specs.declared.Verb.the-variants as verb

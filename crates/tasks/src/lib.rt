@@ -1,10 +1,10 @@
 // What a line asks for: a command with its words, or a mistake. Words are parted by a separator, which is a space in a batch and a zero byte between
 // arguments.
-use pile::MOST_FILES;
+use number::PILE_LIMIT;
 use rdb_interface::SetCount;
 use rdb_tasks::Asked;
-use sayings::ANSWER_ROOM;
-use sayings::Said;
+use said::ANSWER_ROOM;
+use said::Said;
 use verbs::Question;
 use verbs::Verb;
 use words::Span;
@@ -13,7 +13,7 @@ ghost use Prim.Native.Nat.{_+_, _≤_};
 ghost use Rattle.words.specs.Words.{wordsOf, wordIn, Spans};
 ghost use Rattle.verbs.specs.Verbs.{verbOf};
 ghost use Rattle.verbs.specs.declared.Verb.the-variants.{Ask};
-ghost use Rattle.sayings.specs.Sayings.{Says, mistaken};
+ghost use Rattle.said.specs.Saying.{Says, mistaken};
 ghost use Rattle.rdb_tasks.specs.Asked.{isTypes};
 ghost use Rattle.tasks.specs.Tasks.{inBatch, writesFile, isForced, shift, pileTask, otherTask, verbTask, askedIn, typesTask, wordsTask, lineTask, taskOf, filesRead, filesOf, isWriting};
 ghost use Rattle.tasks.specs.Mistakes.{usageText, mistakeText};
@@ -122,7 +122,7 @@ fn pile_task(n: usize, more: usize) -> Task
         return Task::Mistaken(Mistake::Words(Verb::Link));
     }
     let files = n - (2 + more);
-    if MOST_FILES < files {
+    if PILE_LIMIT < files {
         return Task::Mistaken(Mistake::Files);
     }
     Task::Pile(files)
@@ -272,19 +272,16 @@ fn question_usage(question: Question, text: &mut [u8; ANSWER_ROOM]) -> Said
     ensures { λ r. ⌜ Says (mistaken (usageText (Ask question))) (now (text .entry)) r (now (text .exit)) ⌝ }
 {
     match question {
-        Question::Check => sayings::mistake(b"error the words are: check FILE\n", text),
-        Question::Iid => sayings::mistake(b"error the words are: iid FILE HEX\n", text),
-        Question::Looks => sayings::mistake(b"error the words are: looks FILE HEX\n", text),
-        Question::Key => sayings::mistake(b"error the words are: key FILE NAMESPACE NAME\n", text),
-        Question::Method => sayings::mistake(
+        Question::Check => said::mistake(b"error the words are: check FILE\n", text),
+        Question::Iid => said::mistake(b"error the words are: iid FILE HEX\n", text),
+        Question::Looks => said::mistake(b"error the words are: looks FILE HEX\n", text),
+        Question::Key => said::mistake(b"error the words are: key FILE NAMESPACE NAME\n", text),
+        Question::Method => said::mistake(
             b"error the words are: method FILE INDEX NAME getter|setter|plain\n",
             text,
         ),
-        Question::Slot => sayings::mistake(b"error the words are: slot FILE INDEX SLOT\n", text),
-        Question::Constant => sayings::mistake(
-            b"error the words are: const FILE INDEX NAME\n",
-            text,
-        ),
+        Question::Slot => said::mistake(b"error the words are: slot FILE INDEX SLOT\n", text),
+        Question::Constant => said::mistake(b"error the words are: const FILE INDEX NAME\n", text),
     }
 }
 
@@ -294,13 +291,13 @@ fn usage(verb: Verb, text: &mut [u8; ANSWER_ROOM]) -> Said
 {
     match verb {
         Verb::Ask(question) => question_usage(question, text),
-        Verb::List => sayings::mistake(b"error the words are: list FILE\n", text),
-        Verb::Table => sayings::mistake(b"error the words are: table FILE NAMESPACE NAME\n", text),
-        Verb::Normal => sayings::mistake(b"error the words are: normal [-f] FILE OUT\n", text),
-        Verb::Adopt => sayings::mistake(b"error the words are: adopt [-f] FILE OUT\n", text),
-        Verb::Link => sayings::mistake(b"error the words are: link [-f] A B .. OUT\n", text),
-        Verb::Salvage => sayings::mistake(b"error the words are: salvage [-f] FILE OUT\n", text),
-        Verb::Unknown => sayings::mistake(
+        Verb::List => said::mistake(b"error the words are: list FILE\n", text),
+        Verb::Table => said::mistake(b"error the words are: table FILE NAMESPACE NAME\n", text),
+        Verb::Normal => said::mistake(b"error the words are: normal [-f] FILE OUT\n", text),
+        Verb::Adopt => said::mistake(b"error the words are: adopt [-f] FILE OUT\n", text),
+        Verb::Link => said::mistake(b"error the words are: link [-f] A B .. OUT\n", text),
+        Verb::Salvage => said::mistake(b"error the words are: salvage [-f] FILE OUT\n", text),
+        Verb::Unknown => said::mistake(
             b"error unknown command; the commands are: check list table iid looks key method slot const normal adopt link salvage rdb office\n",
             text,
         ),
@@ -312,17 +309,17 @@ pub fn tell(what: Mistake, text: &mut [u8; ANSWER_ROOM]) -> Said
     ensures { λ r. ⌜ Says (mistaken (mistakeText what)) (now (text .entry)) r (now (text .exit)) ⌝ }
 {
     match what {
-        Mistake::Blank => sayings::mistake(b"error the line is blank\n", text),
-        Mistake::CarriageReturn => sayings::mistake(
+        Mistake::Blank => said::mistake(b"error the line is blank\n", text),
+        Mistake::CarriageReturn => said::mistake(
             b"error the line ends in a carriage return; a newline alone ends a line\n",
             text,
         ),
-        Mistake::Spaces => sayings::mistake(
+        Mistake::Spaces => said::mistake(
             b"error words are parted by single spaces, with none at the ends of a line\n",
             text,
         ),
         Mistake::Words(verb) => usage(verb, text),
-        Mistake::Files => sayings::mistake(b"error a link takes at most 256 files\n", text),
+        Mistake::Files => said::mistake(b"error a link takes at most 256 files\n", text),
         Mistake::TypesWords(m, asked) => rdb_tasks::usage(m, asked, text),
     }
 }

@@ -1,2 +1,4 @@
 pub mod Line
 pub mod Hex
+pub mod Writing
+pub mod Signed

@@ -18,6 +18,10 @@ refused = 114 ∷ 101 ∷ 102 ∷ 117 ∷ 115 ∷ 101 ∷ 100 ∷ 32 ∷ []
 abbrev pub space : List ℕ
 space = 32 ∷ []
 
+-- `-`, before a number below zero, and for the default namespace
+abbrev pub hyphen : List ℕ
+hyphen = 45 ∷ []
+
 abbrev pub newline : List ℕ
 newline = 10 ∷ []
 

@@ -1,37 +1,21 @@
--- Lines that were made and written.
+-- What is left of an answer as it is written, and what is told of it.
 -- Assumes nothing.
 use mathlib.Core.Path.{_≡_, refl, sym, ap, subst, _∙_}
 use mathlib.Core.Bool.{Bool, true, false}
 use mathlib.Core.Logic.{_⊎_, inl, inr}
 use mathlib.Core.List.{List, [], _++_, append-nil, append-assoc}
-use Prim.Native.Nat.{ℕ, _≤_}
-use lib.ListN.{length, take}
-use native.Mathlib.Omega.{arith}
+use Prim.Native.Nat.{ℕ}
 use Rattle.number.proofs.Scans.{clash}
-use Rattle.decimal.proofs.Stores.{front, length-kept}
-use Rattle.failures.specs.Room.{Made}
 use Rattle.listed.specs.Rest as lines
 use Rattle.listed.specs.declared.Next.{Next}
 use Rattle.listed.specs.declared.Next.the-variants as next
 use Rattle.streamed.specs.declared.Stream.{Stream}
 use Rattle.streamed.specs.declared.Stream.the-variants.{Lines, Part, Paths}
 use Rattle.streamed.specs.Stream.{isOver, LeftOf}
+use Rattle.streams.specs.Printed.{Printed, OutputGone}
 use Rattle.told.specs.declared.Told.{Told}
 use Rattle.told.specs.declared.Told.the-variants.{Answer, Mistake, Closed}
-use Rattle.told.specs.Printed.{Printed, OutputGone, Front, Prints, Tells, isOpen}
-
--- a line at the front of a buffer
-pub line-stored : (line buf : List ℕ) (n : ℕ) → Front line n buf → n ≤ length buf → take n buf ≡ line
-line-stored line buf n f h =
-    ap (λ (k : ℕ). take k buf) (f .long)
-    ∙ ap (take (length line)) (f .stored)
-    ∙ front (f .before) line (omega (arith, f .long, length-kept (f .before) line 0 (f .stored)))
-
-pub prints-line : (line buf : List ℕ) (n : ℕ) (all : Bool) → Front line n buf → n ≤ length buf → Prints (take n buf) all → Prints line all
-prints-line line buf n all f h p = subst (λ (l : List ℕ). Prints l all) (line-stored line buf n f h) p
-
-pub made-front : (line before buf : List ℕ) (n : ℕ) → Made line before n buf → Front line n buf
-made-front line before buf n m = record { long = m .long; before = before; stored = m .stored }
+use Rattle.told.specs.Tells.{Tells, isOpen}
 
 -- nothing is left of a text that is over
 pub over-left : (b : Bool) (s : List ℕ) (x : Stream) (text : List ℕ) → isOver x ≡ true → LeftOf b s x text → text ≡ []

@@ -1,25 +1,25 @@
 // What standard output gets of a command, each line in one write, and what is said of it on standard error.
-pub mod streams;
+pub mod answer;
 
 use failures::ROOM;
 use kept::Kept;
 use number::FILE_LIMIT;
+use said::ANSWER_ROOM;
 use saving::Saved;
-use sayings::ANSWER_ROOM;
 use store::Loaded;
 ghost use mathlib.Core.Path.{_≡_};
 ghost use mathlib.Core.Bool.{true};
 ghost use mathlib.Core.List.{List};
 ghost use Prim.Native.Nat.{ℕ, _≤_};
 ghost use lib.ListN.{length};
-ghost use Rattle.number.specs.Limits.{fileLimit};
+ghost use Rattle.number.specs.Limits.{fileLimit, pileLimit};
 ghost use Rattle.words.specs.Words.{wordsOf};
 ghost use Rattle.tasks.specs.Tasks.{argument};
 ghost use Rattle.failures.specs.Room.{room, wordLimit};
 ghost use Rattle.failures.specs.Lines.{lineTooLongText, inputInBatchText, unreadText};
-ghost use Rattle.sayings.specs.Sayings.{answerRoom};
-ghost use Rattle.pile.specs.Pile.{pileLimit};
-ghost use Rattle.told.specs.Printed.{Printed, Prints, Tells, isOpen};
+ghost use Rattle.said.specs.Saying.{answerRoom};
+ghost use Rattle.streams.specs.Printed.{Printed, Prints};
+ghost use Rattle.told.specs.Tells.{Tells, isOpen};
 
 // What standard output got: an answer, a line for a mistake in the words, or nothing any more.
 pub enum Told {
@@ -93,13 +93,13 @@ pub fn say_mistake(
 {
     let all: &[u8] = head;
     if tasks::files_of(tasks::task_of(line, separator)) == 0 {
-        remarks::error(&line[0..0], &all[..n], text);
+        streams::error(&line[0..0], &all[..n], text);
         return Told::Mistake;
     }
     let name = tasks::argument(line, separator, 1);
     let from = name.from;
     let end = name.end;
-    remarks::error(&line[from..end], &all[..n], text);
+    streams::error(&line[from..end], &all[..n], text);
     Told::Answer
 }
 
@@ -150,7 +150,7 @@ pub fn say_saved(
     requires { ⌜ (length (now line) ≤ wordLimit) × (n ≤ answerRoom) ⌝ }
 {
     if let Saved::Done = saved {
-        return answered(streams::put(head, n));
+        return answered(answer::put(head, n));
     }
     say_unsaved(line, separator, saved, text)
 }

@@ -38,7 +38,7 @@ fn is_open(told: Told, text: &mut [u8; ROOM]) -> bool {
         Told::Answer => true,
         Told::Mistake => true,
         Told::Closed => {
-            remarks::output_gone(text);
+            streams::output_gone(text);
             false
         }
     }
@@ -151,8 +151,8 @@ fn run_all(
 fn finish(told: Told, text: &mut [u8; ROOM]) {
     match told {
         Told::Answer => {}
-        Told::Mistake => remarks::hint(text),
-        Told::Closed => remarks::output_gone(text),
+        Told::Mistake => streams::hint(text),
+        Told::Closed => streams::output_gone(text),
     }
 }
 

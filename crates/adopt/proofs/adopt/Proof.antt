@@ -2,7 +2,7 @@
 -- Assumes nothing.
 use Rattle.number.proofs.Tools.{arith, needs}
 use Rattle.head.proofs.HeaderLaws.{header-read, header-refused}
-use Rattle.adopt.proofs.Front.{read-headed, refused-headed}
+use Rattle.genuine.proofs.Front.{read-headed, refused-headed}
 use Rattle.adopt.proofs.Answers as answers
 use Rattle.adopt.proofs.adopt.Statement.{statement}
 use Rattle.adopt.proofs.adopt.Tie as tie

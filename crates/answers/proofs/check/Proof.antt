@@ -3,7 +3,7 @@
 use Rattle.number.proofs.Tools.{needs}
 use Rattle.text.specs.Line.{lineOf}
 use Rattle.answers.specs.Commands.{checkSaying}
-use Rattle.sayings.specs.Sayings.{sayVerdict, verdictWhy}
+use Rattle.said.specs.Saying.{sayVerdict, verdictWhy}
 use Rattle.answers.proofs.check.Statement.{statement}
 use Rattle.answers.proofs.check.Tie as tie
 

@@ -3,7 +3,7 @@
 use Rattle.number.proofs.Tools.{sym, ap, _∙_, needs}
 use Rattle.answers.specs.Commands.{constantSaying}
 use Rattle.sayings.specs.Sayings.{sayConstant}
-use Rattle.sayings.proofs.SayingLaws.{says-as}
+use Rattle.said.proofs.SayingLaws.{says-as}
 use Rattle.answers.proofs.CommandLaws.{index-is, index-not-decimal, index-too-large}
 use Rattle.answers.proofs.constant.Statement.{statement}
 use Rattle.answers.proofs.constant.Tie as tie

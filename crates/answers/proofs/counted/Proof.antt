@@ -5,7 +5,7 @@ use Rattle.reader.specs.Reader.{decode}
 use Rattle.lookup.specs.Question.{askLooks}
 use Rattle.answers.specs.Commands.{withHex, countedSaying}
 use Rattle.sayings.specs.Sayings.{sayCounted}
-use Rattle.sayings.proofs.SayingLaws.{says-as}
+use Rattle.said.proofs.SayingLaws.{says-as}
 use Rattle.answers.proofs.CommandLaws.{bytes-whole, bytes-sixteen, looked-other}
 use Rattle.answers.proofs.counted.Statement.{statement}
 use Rattle.answers.proofs.counted.Tie as tie

@@ -2,7 +2,7 @@
 -- Assumes nothing.
 use Rattle.number.proofs.Tools.{sym, ap, _∙_, needs}
 use Rattle.sayings.specs.Sayings.{sayMethod}
-use Rattle.sayings.proofs.SayingLaws.{says-as}
+use Rattle.said.proofs.SayingLaws.{says-as}
 use Rattle.answers.proofs.CommandLaws.{slot-is, slot-not-decimal, slot-too-large}
 use Rattle.answers.proofs.in_slot.Statement.{statement}
 use Rattle.answers.proofs.in_slot.Tie as tie

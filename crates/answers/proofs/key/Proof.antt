@@ -7,7 +7,7 @@ use Rattle.reader.specs.Reader.{decode}
 use Rattle.lookup.specs.Question.{askKey}
 use Rattle.answers.specs.Commands.{keySaying}
 use Rattle.sayings.specs.Sayings.{sayInterface}
-use Rattle.sayings.proofs.SayingLaws.{says-as}
+use Rattle.said.proofs.SayingLaws.{says-as}
 use Rattle.answers.proofs.CommandLaws.{space-default, space-given}
 use Rattle.answers.proofs.key.Statement.{statement}
 use Rattle.answers.proofs.key.Tie as tie

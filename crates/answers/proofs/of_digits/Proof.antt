@@ -5,7 +5,7 @@ use Rattle.reader.specs.Reader.{decode}
 use Rattle.lookup.specs.Question.{askIid}
 use Rattle.answers.specs.Commands.{withHex, digitsSaying}
 use Rattle.sayings.specs.Sayings.{sayInterface}
-use Rattle.sayings.proofs.SayingLaws.{says-as}
+use Rattle.said.proofs.SayingLaws.{says-as}
 use Rattle.answers.proofs.CommandLaws.{bytes-whole, bytes-sixteen, asked-other}
 use Rattle.answers.proofs.of_digits.Statement.{statement}
 use Rattle.answers.proofs.of_digits.Tie as tie

@@ -2,7 +2,7 @@
 -- Assumes nothing.
 use Rattle.number.proofs.Tools.{sym, ap, _∙_, needs}
 use Rattle.sayings.specs.Sayings.{sayMethod}
-use Rattle.sayings.proofs.SayingLaws.{says-as}
+use Rattle.said.proofs.SayingLaws.{says-as}
 use Rattle.answers.proofs.CommandLaws.{kind-getter, kind-setter, kind-plain, kind-other}
 use Rattle.answers.proofs.of_kind.Statement.{statement}
 use Rattle.answers.proofs.of_kind.Tie as tie

@@ -3,7 +3,7 @@
 use mathlib.Core.List.{[]}
 use borrow.Author.Tests.{not-true, not-false}
 use Rattle.number.proofs.Tools.{subst, needs}
-use Rattle.told.specs.Printed.{Prints}
+use Rattle.streams.specs.Printed.{Prints}
 use Rattle.told.proofs.PrintLaws.{tells-open}
 use Rattle.asks.specs.Asked.{answerText, Replied, answered}
 use Rattle.asks.proofs.AskLaws.{answer-front}

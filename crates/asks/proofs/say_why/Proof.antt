@@ -1,7 +1,7 @@
 -- `asks::say_why` meets its contract.
 -- Assumes nothing.
 use Rattle.number.proofs.Tools.{refl, needs}
-use Rattle.told.specs.Printed.{isOpen}
+use Rattle.told.specs.Tells.{isOpen}
 use Rattle.asks.proofs.say_why.Statement.{statement}
 use Rattle.asks.proofs.say_why.Tie as tie
 

@@ -1,7 +1,7 @@
 -- `commands::table` meets its contract.
 -- Assumes nothing.
 use Rattle.number.proofs.Tools.{needs}
-use Rattle.tasks.proofs.SpanLaws.{word-bytes}
+use Rattle.words.proofs.SpanLaws.{word-bytes}
 use Rattle.streamed.proofs.StreamLaws.{listing-opens}
 use Rattle.commands.specs.Answer.{verbAnswer}
 use Rattle.commands.proofs.ReplyLaws.{opens-replies}

@@ -2,7 +2,7 @@
 -- Assumes nothing.
 use mathlib.Core.List.{_++_}
 use Rattle.number.proofs.Tools.{arith}
-use Rattle.printed.proofs.WritingLaws.{wrote, wrote-then}
+use Rattle.text.proofs.WritingLaws.{wrote, wrote-then}
 use Rattle.failures.specs.Shown.{shownWord}
 use Rattle.failures.proofs.MadeLaws.{made}
 use Rattle.failures.proofs.around.Statement.{statement}

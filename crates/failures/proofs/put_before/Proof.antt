@@ -1,7 +1,7 @@
 -- `failures::put_before` meets its contract.
 -- Assumes nothing.
 use Rattle.number.proofs.Tools.{refl, arith, needs, is-lt, no-lt, is-eq, no-eq}
-use Rattle.printed.proofs.WritingLaws.{wrote-as}
+use Rattle.text.proofs.WritingLaws.{wrote-as}
 use Rattle.failures.specs.Lines.{nameBefore}
 use Rattle.failures.proofs.MadeLaws.{none-written}
 use Rattle.failures.proofs.put_before.Statement.{statement}

@@ -1,7 +1,7 @@
 -- `failures::put_named` meets its contract.
 -- Assumes nothing.
 use Rattle.number.proofs.Tools.{arith}
-use Rattle.printed.proofs.WritingLaws.{wrote, wrote-then}
+use Rattle.text.proofs.WritingLaws.{wrote, wrote-then}
 use Rattle.failures.specs.Shown.{shownWord}
 use Rattle.failures.proofs.put_named.Statement.{statement}
 use Rattle.failures.proofs.put_named.Tie as tie

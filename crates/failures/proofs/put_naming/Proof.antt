@@ -2,7 +2,7 @@
 -- Assumes nothing.
 use Rattle.number.proofs.Tools.{arith, needs}
 use Rattle.ascii.specs.Ascii.{ascii}
-use Rattle.printed.proofs.WritingLaws.{wrote, wrote-then}
+use Rattle.text.proofs.WritingLaws.{wrote, wrote-then}
 use Rattle.failures.specs.Shown.{shownWord}
 use Rattle.failures.proofs.put_naming.Statement.{statement}
 use Rattle.failures.proofs.put_naming.Tie as tie

@@ -1,7 +1,7 @@
 -- `failures::put_question` meets its contract.
 -- Assumes nothing.
 use Rattle.number.proofs.Tools.{arith, needs}
-use Rattle.printed.proofs.WritingLaws.{wrote}
+use Rattle.text.proofs.WritingLaws.{wrote}
 use Rattle.failures.specs.Lines.{questionWords}
 use Rattle.failures.proofs.put_question.Statement.{statement}
 use Rattle.failures.proofs.put_question.Tie as tie

@@ -2,7 +2,7 @@
 -- Assumes nothing.
 use Rattle.number.proofs.Tools.{refl, arith, needs, is-lt, no-lt}
 use Rattle.number.proofs.Parts.{part-rest}
-use Rattle.printed.proofs.WritingLaws.{wrote, wrote-as}
+use Rattle.text.proofs.WritingLaws.{wrote, wrote-as}
 use Rattle.failures.specs.Lines.{withoutError}
 use Rattle.failures.proofs.put_rest.Statement.{statement}
 use Rattle.failures.proofs.put_rest.Tie as tie

@@ -1,7 +1,7 @@
 -- `failures::put_words` meets its contract.
 -- Assumes nothing.
 use Rattle.number.proofs.Tools.{arith, needs}
-use Rattle.printed.proofs.WritingLaws.{wrote}
+use Rattle.text.proofs.WritingLaws.{wrote}
 use Rattle.failures.specs.Lines.{verbWords}
 use Rattle.failures.proofs.MadeLaws.{none-written}
 use Rattle.failures.proofs.put_words.Statement.{statement}

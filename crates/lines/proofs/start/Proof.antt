@@ -6,7 +6,7 @@ use Rattle.text.specs.Line.{lineOf}
 use Rattle.reader.specs.Values.{entriesIn}
 use Rattle.reader.specs.Reader.Laws.{accepted-decodes}
 use Rattle.printed.specs.Listing.{entryLines}
-use Rattle.printed.proofs.WritingLaws.{wrote-as}
+use Rattle.text.proofs.WritingLaws.{wrote-as}
 use Rattle.lines.proofs.BeginLaws.{listed-refused, listed-accepted, starts-only, entries-start, verdict-wrote}
 use Rattle.lines.proofs.start.Statement.{statement}
 use Rattle.lines.proofs.start.Tie as tie

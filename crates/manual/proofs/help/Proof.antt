@@ -2,7 +2,7 @@
 -- Assumes nothing.
 use mathlib.Core.List.{_++_}
 use Rattle.number.proofs.Tools.{arith, needs}
-use Rattle.printed.proofs.WritingLaws.{wrote, wrote-then}
+use Rattle.text.proofs.WritingLaws.{wrote, wrote-then}
 use Rattle.failures.proofs.MadeLaws.{made}
 use Rattle.manual.specs.Manual.{introText, askingText, memberText, typesText, outputText, noteText, helpText}
 use Rattle.manual.proofs.help.Statement.{statement}

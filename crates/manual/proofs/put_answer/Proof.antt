@@ -1,7 +1,7 @@
 -- `manual::put_answer` meets its contract.
 -- Assumes nothing.
 use Rattle.number.proofs.Tools.{arith, needs}
-use Rattle.printed.proofs.WritingLaws.{wrote}
+use Rattle.text.proofs.WritingLaws.{wrote}
 use Rattle.manual.specs.Manual.{answerText}
 use Rattle.manual.proofs.put_answer.Statement.{statement}
 use Rattle.manual.proofs.put_answer.Tie as tie

@@ -2,7 +2,7 @@
 -- Assumes nothing.
 use mathlib.Core.List.{_++_}
 use Rattle.number.proofs.Tools.{arith}
-use Rattle.printed.proofs.WritingLaws.{wrote-then}
+use Rattle.text.proofs.WritingLaws.{wrote-then}
 use Rattle.verbs.specs.declared.Verb.the-variants as verb
 use Rattle.verbs.specs.declared.Question.the-variants.{Check, Iid, Looks, Key}
 use Rattle.manual.specs.Manual.{entryText, askingText}

@@ -4,7 +4,7 @@ use mathlib.Core.List.{_++_}
 use Rattle.number.proofs.Tools.{arith, needs}
 use Rattle.ascii.specs.Ascii.{ascii}
 use Rattle.text.specs.Line.{newline}
-use Rattle.printed.proofs.WritingLaws.{wrote, wrote-then}
+use Rattle.text.proofs.WritingLaws.{wrote, wrote-then}
 use Rattle.failures.specs.Lines.{verbWords}
 use Rattle.manual.specs.Manual.{purposeText, entryText}
 use Rattle.manual.proofs.put_entry.Statement.{statement}

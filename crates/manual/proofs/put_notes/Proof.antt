@@ -2,7 +2,7 @@
 -- Assumes nothing.
 use mathlib.Core.List.{_++_}
 use Rattle.number.proofs.Tools.{arith, needs}
-use Rattle.printed.proofs.WritingLaws.{wrote, wrote-then}
+use Rattle.text.proofs.WritingLaws.{wrote, wrote-then}
 use Rattle.manual.specs.Manual.{fileNote, hexNote, indexNote, streamNote, noteText}
 use Rattle.manual.proofs.put_notes.Statement.{statement}
 use Rattle.manual.proofs.put_notes.Tie as tie

@@ -2,7 +2,7 @@
 -- Assumes nothing.
 use mathlib.Core.List.{_++_}
 use Rattle.number.proofs.Tools.{arith, needs}
-use Rattle.printed.proofs.WritingLaws.{wrote, wrote-then}
+use Rattle.text.proofs.WritingLaws.{wrote, wrote-then}
 use Rattle.verbs.specs.declared.Verb.the-variants as verb
 use Rattle.manual.specs.Manual.{entryText, batchText, optionText, outputText}
 use Rattle.manual.proofs.put_outputs.Statement.{statement}

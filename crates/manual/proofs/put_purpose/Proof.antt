@@ -1,7 +1,7 @@
 -- `manual::put_purpose` meets its contract.
 -- Assumes nothing.
 use Rattle.number.proofs.Tools.{arith, needs}
-use Rattle.printed.proofs.WritingLaws.{wrote}
+use Rattle.text.proofs.WritingLaws.{wrote}
 use Rattle.failures.proofs.MadeLaws.{none-written}
 use Rattle.manual.specs.Manual.{purposeText}
 use Rattle.manual.proofs.put_purpose.Statement.{statement}

@@ -2,7 +2,7 @@
 -- Assumes nothing.
 use mathlib.Core.List.{_++_}
 use Rattle.number.proofs.Tools.{arith, needs}
-use Rattle.printed.proofs.WritingLaws.{wrote, wrote-then}
+use Rattle.text.proofs.WritingLaws.{wrote, wrote-then}
 use Rattle.manual.specs.Manual.{rdbCheckHelp, rdbListHelp, rdbEntityHelp, rdbConstHelp, rdbPartHelp, officeHelp, typesText}
 use Rattle.manual.proofs.put_types.Statement.{statement}
 use Rattle.manual.proofs.put_types.Tie as tie

@@ -1,7 +1,7 @@
 -- `named::fetch` meets its contract.
 -- Assumes nothing.
 use Rattle.number.proofs.Tools.{needs}
-use Rattle.tasks.proofs.SpanLaws.{word-bytes}
+use Rattle.words.proofs.SpanLaws.{word-bytes}
 use Rattle.named.proofs.fetch.Statement.{statement}
 use Rattle.named.proofs.fetch.Tie as tie
 

@@ -1,7 +1,7 @@
 -- `named::file_at` meets its contract.
 -- Assumes nothing.
 use Rattle.number.proofs.Tools.{needs}
-use Rattle.tasks.proofs.SpanLaws.{word-bytes}
+use Rattle.words.proofs.SpanLaws.{word-bytes}
 use Rattle.named.proofs.file_at.Statement.{statement}
 use Rattle.named.proofs.file_at.Tie as tie
 

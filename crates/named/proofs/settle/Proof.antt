@@ -3,7 +3,7 @@
 use Rattle.number.proofs.Tools.{sym, ap, _∙_, needs}
 use Rattle.number.proofs.Scans.{clash}
 use Rattle.tasks.specs.Tasks.{isWriting}
-use Rattle.tasks.proofs.SpanLaws.{word-bytes}
+use Rattle.words.proofs.SpanLaws.{word-bytes}
 use Rattle.named.proofs.settle.Statement.{statement}
 use Rattle.named.proofs.settle.Tie as tie
 

@@ -5,9 +5,10 @@ use Rattle.number.proofs.Tools.{refl, arith, needs}
 use Rattle.decimal.specs.Digits.{digitsOf}
 use Rattle.decimal.proofs.Laws.{length-u64}
 use Rattle.text.specs.Line.{space, lineOf}
-use Rattle.printed.proofs.WritingLaws.{wrote-label, wrote-then}
-use Rattle.sayings.proofs.SayingLaws.{says}
-use Rattle.outcomes.specs.Lines.{written, adoptedText}
+use Rattle.text.proofs.WritingLaws.{wrote-label, wrote-then}
+use Rattle.said.proofs.SayingLaws.{says}
+use Rattle.said.specs.Texts.{written}
+use Rattle.outcomes.specs.Lines.{adoptedText}
 use Rattle.outcomes.proofs.adopted.Statement.{statement}
 use Rattle.outcomes.proofs.adopted.Tie as tie
 

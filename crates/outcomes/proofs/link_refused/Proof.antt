@@ -6,10 +6,10 @@ use Rattle.number.proofs.Tools.{refl, ap, arith, needs}
 use Rattle.decimal.specs.Digits.{digitsOf}
 use Rattle.decimal.proofs.Laws.{length-byte}
 use Rattle.text.specs.Line.{refused, space}
-use Rattle.printed.proofs.WritingLaws.{wrote-label, wrote-then, wrote-as}
+use Rattle.text.proofs.WritingLaws.{wrote-label, wrote-then, wrote-as}
 use Rattle.outcomes.specs.Lines.{linkedText, sayLinked, linkedWhy}
-use Rattle.sayings.specs.Texts.{placed}
-use Rattle.sayings.proofs.SayingLaws.{says}
+use Rattle.said.specs.Texts.{placed}
+use Rattle.said.proofs.SayingLaws.{says}
 use Rattle.outcomes.proofs.link_refused.Statement.{statement}
 use Rattle.outcomes.proofs.link_refused.Tie as tie
 

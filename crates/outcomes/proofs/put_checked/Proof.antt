@@ -5,7 +5,7 @@ use Rattle.number.proofs.Tools.{arith, needs}
 use Rattle.decimal.specs.Digits.{digitsOf}
 use Rattle.decimal.proofs.Laws.{length-u64}
 use Rattle.text.specs.Line.{accepted, space, newline, lineOf}
-use Rattle.printed.proofs.WritingLaws.{wrote, wrote-label, wrote-then}
+use Rattle.text.proofs.WritingLaws.{wrote, wrote-label, wrote-then}
 use Rattle.outcomes.proofs.put_checked.Statement.{statement}
 use Rattle.outcomes.proofs.put_checked.Tie as tie
 

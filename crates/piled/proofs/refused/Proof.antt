@@ -6,8 +6,8 @@ use Rattle.ascii.specs.Ascii.{ascii}
 use Rattle.decimal.specs.Digits.{digitsOf}
 use Rattle.decimal.proofs.Laws.{length-byte, length-u64}
 use Rattle.text.specs.Line.{refused, space, newline}
-use Rattle.printed.proofs.WritingLaws.{wrote, wrote-label, wrote-then, wrote-as}
-use Rattle.sayings.proofs.SayingLaws.{says}
+use Rattle.text.proofs.WritingLaws.{wrote, wrote-label, wrote-then, wrote-as}
+use Rattle.said.proofs.SayingLaws.{says}
 use Rattle.piled.specs.Lines.{refusedText, sayPiled}
 use Rattle.piled.proofs.refused.Statement.{statement}
 use Rattle.piled.proofs.refused.Tie as tie

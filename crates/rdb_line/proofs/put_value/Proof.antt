@@ -3,7 +3,7 @@
 use mathlib.Core.List.{_++_}
 use Rattle.number.proofs.Tools.{ap, length, arith, needs}
 use Rattle.ascii.specs.Ascii.{ascii}
-use Rattle.printed.proofs.WritingLaws.{wrote, wrote-then}
+use Rattle.text.proofs.WritingLaws.{wrote, wrote-then}
 use Rattle.rdb_list.specs.Listed.{valueIn}
 use Rattle.rdb_shown.specs.Texts.{valueText}
 use Rattle.rdb_line.proofs.LineLaws.{wrote-front, passed-as}

@@ -2,7 +2,7 @@
 -- Assumes nothing.
 use Rattle.number.proofs.Tools.{needs}
 use Rattle.text.specs.Line.{lineOf}
-use Rattle.sayings.specs.Sayings.{sayVerdict, verdictWhy}
+use Rattle.said.specs.Saying.{sayVerdict, verdictWhy}
 use Rattle.rdb_said.specs.Sayings.{checkSaying}
 use Rattle.rdb_said.proofs.check.Statement.{statement}
 use Rattle.rdb_said.proofs.check.Tie as tie

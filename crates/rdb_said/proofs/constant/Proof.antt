@@ -1,7 +1,7 @@
 -- `rdb_said::constant` meets its contract.
 -- Assumes nothing.
 use Rattle.number.proofs.Tools.{ap, refl, needs}
-use Rattle.sayings.proofs.SayingLaws.{says-as}
+use Rattle.said.proofs.SayingLaws.{says-as}
 use Rattle.rdb.specs.declared.ConstantAnswer.{ConstantAnswer}
 use Rattle.rdb.proofs.AnswerLaws.{checked-file, constant-accepted, constant-refused}
 use Rattle.rdb_said.specs.Sayings.{sayConstant, constantSaying}

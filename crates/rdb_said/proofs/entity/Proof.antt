@@ -3,7 +3,7 @@
 use Rattle.number.proofs.Tools.{sym, ap, _∙_, needs}
 use Rattle.sayings.specs.Texts.{interfaceText}
 use Rattle.sayings.specs.Sayings.{sayInterface, interfaceWhy}
-use Rattle.sayings.proofs.SayingLaws.{says-as}
+use Rattle.said.proofs.SayingLaws.{says-as}
 use Rattle.rdb.specs.declared.EntityAnswer.{EntityAnswer}
 use Rattle.rdb_said.specs.Sayings.{sayEntity, entitySaying}
 use Rattle.rdb_said.proofs.entity.Statement.{statement}

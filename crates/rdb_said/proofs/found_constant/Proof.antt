@@ -3,7 +3,7 @@
 use Rattle.number.proofs.Tools.{sym, ap, _∙_, refl, needs}
 use Rattle.sayings.specs.Texts.{interfaceText}
 use Rattle.sayings.specs.Sayings.{sayInterface, interfaceWhy}
-use Rattle.sayings.proofs.SayingLaws.{says-as}
+use Rattle.said.proofs.SayingLaws.{says-as}
 use Rattle.rdb.specs.declared.ConstantAnswer.{ConstantAnswer}
 use Rattle.rdb.proofs.AnswerLaws.{constant-stands, constant-there, constant-absent}
 use Rattle.rdb_said.specs.Sayings.{sayConstant}

@@ -5,9 +5,9 @@ use Rattle.number.proofs.Tools.{refl, arith, needs}
 use Rattle.decimal.specs.Digits.{digitsOf}
 use Rattle.decimal.proofs.Laws.{length-u64}
 use Rattle.text.specs.Line.{space, newline}
-use Rattle.printed.proofs.WritingLaws.{wrote, wrote-label, wrote-then}
-use Rattle.sayings.specs.Texts.{found}
-use Rattle.sayings.proofs.SayingLaws.{says}
+use Rattle.text.proofs.WritingLaws.{wrote, wrote-label, wrote-then}
+use Rattle.said.specs.Texts.{found}
+use Rattle.said.proofs.SayingLaws.{says}
 use Rattle.rdb_said.specs.Sayings.{sayEntity}
 use Rattle.rdb_said.proofs.found_entity.Statement.{statement}
 use Rattle.rdb_said.proofs.found_entity.Tie as tie

@@ -3,9 +3,9 @@
 use mathlib.Core.List.{_++_}
 use Rattle.number.proofs.Tools.{refl, arith, needs}
 use Rattle.text.specs.Line.{newline}
-use Rattle.printed.proofs.WritingLaws.{wrote, wrote-then}
-use Rattle.sayings.specs.Texts.{found}
-use Rattle.sayings.proofs.SayingLaws.{says, says-as}
+use Rattle.text.proofs.WritingLaws.{wrote, wrote-then}
+use Rattle.said.specs.Texts.{found}
+use Rattle.said.proofs.SayingLaws.{says, says-as}
 use Rattle.rdb.proofs.AnswerLaws.{stored-at}
 use Rattle.rdb_list.specs.Listed.{valueIn}
 use Rattle.rdb_shown.specs.Texts.{valueText}

@@ -4,7 +4,7 @@ use Rattle.number.proofs.Tools.{arith, needs}
 use Rattle.number.specs.Number.{le}
 use Rattle.ascii.specs.Ascii.{ascii}
 use Rattle.text.specs.Hex.{hexOf}
-use Rattle.printed.proofs.WritingLaws.{wrote, wrote-then}
+use Rattle.text.proofs.WritingLaws.{wrote, wrote-then}
 use Rattle.rdb_shown.proofs.ShownLaws.{wrote-bits}
 use Rattle.rdb_shown.proofs.put_double.Statement.{statement}
 use Rattle.rdb_shown.proofs.put_double.Tie as tie

@@ -3,7 +3,7 @@
 use Rattle.number.proofs.Tools.{refl, arith, needs}
 use mathlib.Core.Bool.{true, false}
 use Rattle.rdb_value.specs.declared.Value.the-variants.{Boolean}
-use Rattle.printed.proofs.WritingLaws.{wrote, wrote-as}
+use Rattle.text.proofs.WritingLaws.{wrote, wrote-as}
 use Rattle.rdb_shown.specs.Texts.{valueText}
 use Rattle.rdb_shown.proofs.ShownLaws.{text-true, text-false, text-byte}
 use Rattle.rdb_shown.proofs.put_one.Statement.{statement}

@@ -4,9 +4,9 @@ use mathlib.Core.List.{List, _++_}
 use Rattle.number.proofs.Tools.{_≡_, sym, ap, _∙_, ℕ, _+_, _-_, arith, needs}
 use Rattle.decimal.specs.Digits.{digitsOf}
 use Rattle.decimal.proofs.Laws.{length-u64}
-use Rattle.printed.specs.Listing.{hyphen}
-use Rattle.printed.proofs.WritingLaws.{wrote, wrote-label, wrote-then, wrote-as}
-use Rattle.printed.proofs.ValueLaws.{signed-low, signed-high}
+use Rattle.text.specs.Line.{hyphen}
+use Rattle.text.proofs.WritingLaws.{wrote, wrote-label, wrote-then, wrote-as}
+use Rattle.text.proofs.SignedLaws.{signed-low, signed-high}
 use Rattle.rdb_shown.proofs.put_signed.Statement.{statement}
 use Rattle.rdb_shown.proofs.put_signed.Tie as tie
 

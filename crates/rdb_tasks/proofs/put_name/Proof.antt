@@ -1,7 +1,7 @@
 -- `rdb_tasks::put_name` meets its contract.
 -- Assumes nothing.
 use Rattle.number.proofs.Tools.{arith, needs}
-use Rattle.printed.proofs.WritingLaws.{wrote}
+use Rattle.text.proofs.WritingLaws.{wrote}
 use Rattle.rdb_tasks.specs.Asked.{commandName}
 use Rattle.rdb_tasks.proofs.put_name.Statement.{statement}
 use Rattle.rdb_tasks.proofs.put_name.Tie as tie

@@ -4,8 +4,8 @@ use mathlib.Core.List.{_++_}
 use Rattle.number.proofs.Tools.{refl, arith, needs}
 use Rattle.ascii.specs.Ascii.{ascii}
 use Rattle.text.specs.Line.{newline}
-use Rattle.printed.proofs.WritingLaws.{wrote, wrote-then}
-use Rattle.sayings.proofs.SayingLaws.{says}
+use Rattle.text.proofs.WritingLaws.{wrote, wrote-then}
+use Rattle.said.proofs.SayingLaws.{says}
 use Rattle.rdb_tasks.specs.Asked.{commandName, askedWords, usageText}
 use Rattle.rdb_tasks.proofs.usage.Statement.{statement}
 use Rattle.rdb_tasks.proofs.usage.Tie as tie

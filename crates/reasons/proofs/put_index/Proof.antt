@@ -5,7 +5,7 @@ use Rattle.number.proofs.Tools.{arith, needs}
 use Rattle.ascii.specs.Ascii.{ascii}
 use Rattle.decimal.specs.Digits.{digitsOf}
 use Rattle.decimal.proofs.Laws.{length-u64}
-use Rattle.printed.proofs.WritingLaws.{wrote, wrote-label, wrote-then}
+use Rattle.text.proofs.WritingLaws.{wrote, wrote-label, wrote-then}
 use Rattle.reasons.proofs.put_index.Statement.{statement}
 use Rattle.reasons.proofs.put_index.Tie as tie
 

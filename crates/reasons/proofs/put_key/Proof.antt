@@ -2,7 +2,7 @@
 -- Assumes nothing.
 use Rattle.number.proofs.Tools.{refl, arith, is-eq, no-eq}
 use Rattle.failures.specs.Shown.{shownWord}
-use Rattle.printed.proofs.WritingLaws.{wrote, wrote-then, wrote-as}
+use Rattle.text.proofs.WritingLaws.{wrote, wrote-then, wrote-as}
 use Rattle.failures.proofs.MadeLaws.{none-written}
 use Rattle.reasons.specs.Refusals.{keyText}
 use Rattle.reasons.proofs.put_key.Statement.{statement}

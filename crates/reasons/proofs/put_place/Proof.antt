@@ -4,7 +4,7 @@ use Rattle.number.proofs.Tools.{refl, arith, needs, is-lt, no-lt, is-eq, no-eq}
 use Rattle.ascii.specs.Ascii.{ascii}
 use Rattle.decimal.specs.Digits.{digitsOf}
 use Rattle.decimal.proofs.Laws.{length-u64}
-use Rattle.printed.proofs.WritingLaws.{wrote-label, wrote-as}
+use Rattle.text.proofs.WritingLaws.{wrote-label, wrote-as}
 use Rattle.failures.proofs.MadeLaws.{none-written}
 use Rattle.reasons.specs.Refusals.{placeText}
 use Rattle.reasons.proofs.put_place.Statement.{statement}

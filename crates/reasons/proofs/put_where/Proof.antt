@@ -5,7 +5,7 @@ use Rattle.number.proofs.Tools.{arith, needs}
 use Rattle.ascii.specs.Ascii.{ascii}
 use Rattle.decimal.specs.Digits.{digitsOf}
 use Rattle.decimal.proofs.Laws.{length-byte}
-use Rattle.printed.proofs.WritingLaws.{wrote-label, wrote-then}
+use Rattle.text.proofs.WritingLaws.{wrote-label, wrote-then}
 use Rattle.reasons.specs.Refusals.{placeText, keyText, whereText}
 use Rattle.reasons.proofs.put_where.Statement.{statement}
 use Rattle.reasons.proofs.put_where.Tie as tie

@@ -4,7 +4,7 @@ use mathlib.Core.List.{_++_}
 use Rattle.number.proofs.Tools.{arith, needs}
 use Rattle.ascii.specs.Ascii.{ascii}
 use Rattle.text.specs.Line.{newline}
-use Rattle.printed.proofs.WritingLaws.{wrote, wrote-then}
+use Rattle.text.proofs.WritingLaws.{wrote, wrote-then}
 use Rattle.sentences.specs.Sentences.{sentenceText}
 use Rattle.reasons.specs.Refusals.{whereText, whyText}
 use Rattle.reasons.proofs.put_why.Statement.{statement}

@@ -4,7 +4,7 @@ use mathlib.Core.List.{[], _++_}
 use Rattle.number.proofs.Tools.{ap, arith, needs}
 use Rattle.ascii.specs.Ascii.{ascii}
 use Rattle.text.specs.Line.{newline}
-use Rattle.printed.proofs.WritingLaws.{wrote, wrote-then, wrote-as}
+use Rattle.text.proofs.WritingLaws.{wrote, wrote-then, wrote-as}
 use Rattle.reasons.specs.Refusals.{whereText}
 use Rattle.reasons.specs.Lengths.{saidLength, lengthText}
 use Rattle.reasons.proofs.put_wrong.Statement.{statement}

@@ -3,7 +3,7 @@
 use mathlib.Core.List.{_++_}
 use Rattle.number.proofs.Tools.{arith, needs}
 use Rattle.ascii.specs.Ascii.{ascii}
-use Rattle.printed.proofs.WritingLaws.{wrote, wrote-then}
+use Rattle.text.proofs.WritingLaws.{wrote, wrote-then}
 use Rattle.failures.specs.Shown.{shownWord}
 use Rattle.failures.proofs.MadeLaws.{made}
 use Rattle.reasons.specs.Refusals.{whyText, unitedText}

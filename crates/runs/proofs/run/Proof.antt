@@ -1,7 +1,7 @@
 -- `runs::run` meets its contract: a pile has no more files than there may be.
 -- Assumes nothing.
+use Rattle.number.specs.Limits.{pileLimit}
 use Rattle.number.proofs.Tools.{sym, subst, _∙_, _≤_, needs}
-use Rattle.pile.specs.Pile.{pileLimit}
 use Rattle.tasks.specs.declared.Task.{Task}
 use Rattle.tasks.specs.Tasks.{filesOf}
 use Rattle.tasks.proofs.CountLaws.{files-few}

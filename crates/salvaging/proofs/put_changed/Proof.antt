@@ -6,8 +6,8 @@ use Rattle.ascii.specs.Ascii.{ascii}
 use Rattle.decimal.specs.Digits.{digitsOf}
 use Rattle.decimal.proofs.Laws.{length-u64}
 use Rattle.text.specs.Line.{newline}
-use Rattle.printed.proofs.WritingLaws.{wrote, wrote-label, wrote-then}
-use Rattle.outcomes.specs.Lines.{written}
+use Rattle.text.proofs.WritingLaws.{wrote, wrote-label, wrote-then}
+use Rattle.said.specs.Texts.{written}
 use Rattle.salvaging.specs.Text.{changedLine}
 use Rattle.salvaging.proofs.put_changed.Statement.{statement}
 use Rattle.salvaging.proofs.put_changed.Tie as tie

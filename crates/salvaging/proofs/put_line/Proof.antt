@@ -5,7 +5,7 @@ use Rattle.number.proofs.Tools.{arith, needs}
 use Rattle.decimal.specs.Digits.{digitsOf}
 use Rattle.decimal.proofs.Laws.{length-u64}
 use Rattle.text.specs.Line.{space, newline}
-use Rattle.printed.proofs.WritingLaws.{wrote, wrote-label, wrote-then}
+use Rattle.text.proofs.WritingLaws.{wrote, wrote-label, wrote-then}
 use Rattle.salvaging.specs.Text.{numbersLine}
 use Rattle.salvaging.proofs.put_line.Statement.{statement}
 use Rattle.salvaging.proofs.put_line.Tie as tie

@@ -1,7 +1,7 @@
 -- `salvaging::put_lines` meets its contract.
 -- Assumes nothing.
 use Rattle.number.proofs.Tools.{_+_, _*_, _-_, _≤_, arith, needs}
-use Rattle.printed.specs.Writing.{Wrote}
+use Rattle.text.specs.Writing.{Wrote}
 use Rattle.salvaging.specs.Lists.{listLines}
 use Rattle.salvaging.proofs.Lines.{lines-none, lines-more, lines-done}
 use Rattle.salvaging.proofs.put_lines.Statement.{statement}

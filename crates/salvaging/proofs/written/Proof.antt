@@ -2,8 +2,8 @@
 -- Assumes nothing.
 use mathlib.Core.List.{_++_}
 use Rattle.number.proofs.Tools.{refl, arith, needs}
-use Rattle.printed.proofs.WritingLaws.{wrote-then}
-use Rattle.sayings.proofs.SayingLaws.{says}
+use Rattle.text.proofs.WritingLaws.{wrote-then}
+use Rattle.said.proofs.SayingLaws.{says}
 use Rattle.salvaging.specs.Text.{changedLine}
 use Rattle.salvaging.specs.Lists.{listLines, listText}
 use Rattle.salvaging.proofs.Lines.{closed, closing-short}

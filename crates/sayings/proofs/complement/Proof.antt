@@ -4,9 +4,9 @@ use mathlib.Core.List.{_++_}
 use Rattle.number.proofs.Tools.{refl, arith, needs}
 use Rattle.text.specs.Line.{newline}
 use Rattle.lookup.specs.Constant.{signed}
-use Rattle.printed.specs.Listing.{signedText}
-use Rattle.printed.proofs.WritingLaws.{wrote, wrote-then}
-use Rattle.sayings.proofs.SayingLaws.{says}
+use Rattle.text.specs.Signed.{signedText}
+use Rattle.text.proofs.WritingLaws.{wrote, wrote-then}
+use Rattle.said.proofs.SayingLaws.{says}
 use Rattle.sayings.proofs.complement.Statement.{statement}
 use Rattle.sayings.proofs.complement.Tie as tie
 

@@ -5,9 +5,10 @@ use Rattle.number.proofs.Tools.{refl, arith, needs}
 use Rattle.decimal.specs.Digits.{digitsOf}
 use Rattle.decimal.proofs.Laws.{length-u64}
 use Rattle.text.specs.Line.{space, newline}
-use Rattle.printed.proofs.WritingLaws.{wrote, wrote-label, wrote-then}
-use Rattle.sayings.specs.Texts.{found, atDistance, slotPart, totalPart, foundText}
-use Rattle.sayings.proofs.SayingLaws.{says}
+use Rattle.text.proofs.WritingLaws.{wrote, wrote-label, wrote-then}
+use Rattle.said.specs.Texts.{found}
+use Rattle.sayings.specs.Texts.{atDistance, slotPart, totalPart, foundText}
+use Rattle.said.proofs.SayingLaws.{says}
 use Rattle.sayings.proofs.found.Statement.{statement}
 use Rattle.sayings.proofs.found.Tie as tie
 

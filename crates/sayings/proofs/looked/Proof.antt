@@ -5,10 +5,11 @@ use Rattle.number.proofs.Tools.{refl, arith, needs}
 use Rattle.decimal.specs.Digits.{digitsOf}
 use Rattle.decimal.proofs.Laws.{length-u64}
 use Rattle.text.specs.Line.{newline}
-use Rattle.printed.proofs.WritingLaws.{wrote, wrote-label, wrote-then}
-use Rattle.sayings.specs.Texts.{found, looked, countedText}
+use Rattle.text.proofs.WritingLaws.{wrote, wrote-label, wrote-then}
+use Rattle.said.specs.Texts.{found}
+use Rattle.sayings.specs.Texts.{looked, countedText}
 use Rattle.sayings.specs.Sayings.{sayCounted, countedWhy}
-use Rattle.sayings.proofs.SayingLaws.{says}
+use Rattle.said.proofs.SayingLaws.{says}
 use Rattle.sayings.proofs.looked.Statement.{statement}
 use Rattle.sayings.proofs.looked.Tie as tie
 

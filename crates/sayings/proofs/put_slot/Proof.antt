@@ -6,7 +6,7 @@ use Rattle.decimal.specs.Digits.{digitsOf}
 use Rattle.decimal.proofs.Laws.{length-u64}
 use Rattle.text.specs.Line.{space}
 use Rattle.printed.specs.Listing.{mark}
-use Rattle.printed.proofs.WritingLaws.{wrote-label}
+use Rattle.text.proofs.WritingLaws.{wrote-label}
 use Rattle.sayings.specs.Texts.{inSlot, slotPart}
 use Rattle.sayings.proofs.put_slot.Statement.{statement}
 use Rattle.sayings.proofs.put_slot.Tie as tie

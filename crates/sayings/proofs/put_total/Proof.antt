@@ -5,7 +5,7 @@ use Rattle.number.proofs.Tools.{arith, needs}
 use Rattle.decimal.specs.Digits.{digitsOf}
 use Rattle.decimal.proofs.Laws.{length-u64}
 use Rattle.printed.specs.Listing.{mark, slotText}
-use Rattle.printed.proofs.WritingLaws.{wrote, wrote-label}
+use Rattle.text.proofs.WritingLaws.{wrote, wrote-label}
 use Rattle.sayings.specs.Texts.{inTotal, totalPart}
 use Rattle.sayings.proofs.put_total.Statement.{statement}
 use Rattle.sayings.proofs.put_total.Tie as tie

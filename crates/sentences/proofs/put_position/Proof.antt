@@ -1,7 +1,7 @@
 -- `sentences::put_position` meets its contract.
 -- Assumes nothing.
 use Rattle.number.proofs.Tools.{refl, arith, needs, if_then_else_, _=?_, no-eq}
-use Rattle.printed.proofs.WritingLaws.{wrote, wrote-as}
+use Rattle.text.proofs.WritingLaws.{wrote, wrote-as}
 use Rattle.sentences.specs.Sentences.{positionText}
 use Rattle.sentences.proofs.put_position.Statement.{statement}
 use Rattle.sentences.proofs.put_position.Tie as tie

@@ -1,7 +1,7 @@
 -- `sentences::put_sentence` meets its contract.
 -- Assumes nothing.
 use Rattle.number.proofs.Tools.{refl, arith, is-lt, no-lt}
-use Rattle.printed.proofs.WritingLaws.{wrote-as}
+use Rattle.text.proofs.WritingLaws.{wrote-as}
 use Rattle.sentences.specs.Sentences.{sentenceText}
 use Rattle.sentences.proofs.put_sentence.Statement.{statement}
 use Rattle.sentences.proofs.put_sentence.Tie as tie

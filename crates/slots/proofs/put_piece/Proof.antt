@@ -1,7 +1,7 @@
 -- `slots::put_piece` meets its contract: the next interface, or the next line.
 -- Assumes nothing.
 use Rattle.number.proofs.Tools.{refl, arith, needs}
-use Rattle.printed.proofs.WritingLaws.{wrote}
+use Rattle.text.proofs.WritingLaws.{wrote}
 use Rattle.slots.proofs.CursorLaws.{wrote-none, some-left}
 use Rattle.slots.proofs.put_piece.Statement.{statement}
 use Rattle.slots.proofs.put_piece.Tie as tie

@@ -2,7 +2,7 @@
 -- Assumes nothing.
 use Rattle.number.proofs.Tools.{needs}
 use Rattle.tasks.specs.Tasks.{askedIn}
-use Rattle.tasks.proofs.SpanLaws.{word-bytes}
+use Rattle.words.proofs.SpanLaws.{word-bytes}
 use Rattle.tasks.proofs.asked_in.Statement.{statement}
 use Rattle.tasks.proofs.asked_in.Tie as tie
 

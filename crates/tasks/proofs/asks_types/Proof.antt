@@ -1,7 +1,7 @@
 -- `tasks::asks_types` meets its contract.
 -- Assumes nothing.
 use Rattle.number.proofs.Tools.{needs}
-use Rattle.tasks.proofs.SpanLaws.{word-bytes}
+use Rattle.words.proofs.SpanLaws.{word-bytes}
 use Rattle.tasks.proofs.asks_types.Statement.{statement}
 use Rattle.tasks.proofs.asks_types.Tie as tie
 

@@ -2,7 +2,7 @@
 -- Assumes nothing.
 use Rattle.number.proofs.Tools.{refl, sym, ap, _∙_, needs, is-true, is-false}
 use Rattle.tasks.specs.Tasks.{writesFile, isForced}
-use Rattle.tasks.proofs.SpanLaws.{word-bytes}
+use Rattle.words.proofs.SpanLaws.{word-bytes}
 use Rattle.tasks.proofs.is_forced.Statement.{statement}
 use Rattle.tasks.proofs.is_forced.Tie as tie
 

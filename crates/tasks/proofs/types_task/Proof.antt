@@ -4,7 +4,7 @@ use mathlib.Core.List.{List}
 use Rattle.number.proofs.Tools.{refl, sym, ap, _∙_, ℕ, needs, is-true, is-false}
 use Rattle.rdb_tasks.specs.Asked.{readingOf}
 use Rattle.tasks.specs.Tasks.{typesTask}
-use Rattle.tasks.proofs.SpanLaws.{word-bytes}
+use Rattle.words.proofs.SpanLaws.{word-bytes}
 use Rattle.tasks.proofs.types_task.Statement.{statement}
 use Rattle.tasks.proofs.types_task.Tie as tie
 

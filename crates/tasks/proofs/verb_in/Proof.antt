@@ -1,7 +1,7 @@
 -- `tasks::verb_in` meets its contract.
 -- Assumes nothing.
 use Rattle.number.proofs.Tools.{needs}
-use Rattle.tasks.proofs.SpanLaws.{word-bytes}
+use Rattle.words.proofs.SpanLaws.{word-bytes}
 use Rattle.tasks.proofs.verb_in.Statement.{statement}
 use Rattle.tasks.proofs.verb_in.Tie as tie
 

@@ -1,7 +1,7 @@
 -- `told::answered` meets its contract.
 -- Assumes nothing.
 use Rattle.number.proofs.Tools.{subst}
-use Rattle.told.specs.Printed.{Prints}
+use Rattle.streams.specs.Printed.{Prints}
 use Rattle.told.proofs.answered.Statement.{statement}
 use Rattle.told.proofs.answered.Tie as tie
 

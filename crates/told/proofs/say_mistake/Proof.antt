@@ -2,7 +2,7 @@
 -- Assumes nothing.
 use lib.Seq.{length-take-le}
 use Rattle.number.proofs.Tools.{sym, arith, needs}
-use Rattle.told.specs.Printed.{isOpen}
+use Rattle.told.specs.Tells.{isOpen}
 use Rattle.told.proofs.say_mistake.Statement.{statement}
 use Rattle.told.proofs.say_mistake.Tie as tie
 

@@ -6,8 +6,9 @@ use mir.Val.{toZ, ofZ}
 use mir.Facts.{toZ-ofZ}
 use Rattle.number.proofs.Tools.{subst, ap, _∙_, ℕ, _-_, needs, take, drop}
 use Rattle.failures.specs.Lines.{unreadText}
-use Rattle.told.specs.Printed.{Printed, Tells}
-use Rattle.told.proofs.PrintLaws.{made-front}
+use Rattle.streams.specs.Printed.{Printed}
+use Rattle.told.specs.Tells.{Tells}
+use Rattle.streams.proofs.PrintLaws.{made-front}
 use Rattle.told.proofs.say_unread.Statement.{statement}
 use Rattle.told.proofs.say_unread.Tie as tie
 

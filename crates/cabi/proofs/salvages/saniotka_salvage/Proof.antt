@@ -2,7 +2,7 @@
 -- Assumes nothing.
 use Rattle.number.proofs.Tools.{arith, needs}
 use Rattle.numbers.proofs.Calls.{short, answers, kept, changed}
-use Rattle.outcomes.specs.Numbers.{salvagedNumbers}
+use Rattle.cabi.specs.Salvages.{salvagedNumbers}
 use Rattle.cabi.proofs.salvages.saniotka_salvage.Statement.{statement}
 use Rattle.cabi.proofs.salvages.saniotka_salvage.Tie as tie
 

@@ -1,7 +1,7 @@
 -- `failures::reason::put_full` meets its contract.
 -- Assumes nothing.
 use Rattle.number.proofs.Tools.{refl, arith, needs, if_then_else_, _=?_, no-eq}
-use Rattle.printed.proofs.WritingLaws.{wrote, wrote-as}
+use Rattle.text.proofs.WritingLaws.{wrote, wrote-as}
 use Rattle.failures.specs.Reasons.{fullText}
 use Rattle.failures.proofs.reason.put_full.Statement.{statement}
 use Rattle.failures.proofs.reason.put_full.Tie as tie

@@ -4,7 +4,7 @@ use Rattle.number.proofs.Tools.{refl, arith, needs, if_then_else_, _=?_, no-eq}
 use Rattle.ascii.specs.Ascii.{ascii}
 use Rattle.decimal.specs.Digits.{digitsOf}
 use Rattle.decimal.proofs.Laws.{length-u64}
-use Rattle.printed.proofs.WritingLaws.{wrote, wrote-label, wrote-as}
+use Rattle.text.proofs.WritingLaws.{wrote, wrote-label, wrote-as}
 use Rattle.failures.specs.Reasons.{rareText}
 use Rattle.failures.proofs.reason.put_rare.Statement.{statement}
 use Rattle.failures.proofs.reason.put_rare.Tie as tie

@@ -6,7 +6,7 @@ use Rattle.key.specs.Word.{wordAt}
 use Rattle.text.specs.Line.{space, newline}
 use Rattle.lookup.specs.Constant.{valueOf}
 use Rattle.printed.specs.Listing.{constantWord, valueText}
-use Rattle.printed.proofs.WritingLaws.{wrote, wrote-length, wrote-then, wrote-as}
+use Rattle.text.proofs.WritingLaws.{wrote, wrote-length, wrote-then, wrote-as}
 use Rattle.printed.proofs.LineLaws.{constant-shown, constant-fits, constant-text}
 use Rattle.printed.proofs.line.put_constant.Statement.{statement}
 use Rattle.printed.proofs.line.put_constant.Tie as tie

@@ -10,7 +10,7 @@ use Rattle.text.specs.Line.{space, newline}
 use Rattle.text.specs.Hex.{hexOf}
 use Rattle.reader.specs.Values.{descriptorIn}
 use Rattle.printed.specs.Listing.{entryWord, spaceText, parentText}
-use Rattle.printed.proofs.WritingLaws.{room-after, wrote-then, wrote-as}
+use Rattle.text.proofs.WritingLaws.{room-after, wrote-then, wrote-as}
 use Rattle.printed.proofs.LineLaws.{laid-small, front-length, key-length, own-shown, key-ready, entry-text}
 use Rattle.printed.proofs.line.put_entry.Statement.{statement}
 use Rattle.printed.proofs.line.put_entry.Tie as tie

@@ -8,7 +8,7 @@ use Rattle.decimal.proofs.Laws.{length-u64}
 use Rattle.text.specs.Line.{space}
 use Rattle.text.specs.Hex.{hexOf}
 use Rattle.printed.specs.Listing.{entryWord}
-use Rattle.printed.proofs.WritingLaws.{wrote, wrote-label, wrote-then, wrote-hex}
+use Rattle.text.proofs.WritingLaws.{wrote, wrote-label, wrote-then, wrote-hex}
 use Rattle.printed.proofs.line.put_front.Statement.{statement}
 use Rattle.printed.proofs.line.put_front.Tie as tie
 

@@ -7,7 +7,7 @@ use Rattle.decimal.proofs.Laws.{length-u64}
 use Rattle.key.specs.Word.{wordAt}
 use Rattle.text.specs.Line.{space, newline}
 use Rattle.printed.specs.Listing.{methodWord, slotText}
-use Rattle.printed.proofs.WritingLaws.{wrote, wrote-label, wrote-length, wrote-then, wrote-as}
+use Rattle.text.proofs.WritingLaws.{wrote, wrote-label, wrote-length, wrote-then, wrote-as}
 use Rattle.printed.proofs.LineLaws.{method-shown, method-fits, method-text}
 use Rattle.printed.proofs.line.put_method.Statement.{statement}
 use Rattle.printed.proofs.line.put_method.Tie as tie

@@ -6,7 +6,7 @@ use Rattle.decimal.specs.Digits.{digitsOf}
 use Rattle.decimal.proofs.Laws.{length-u64}
 use Rattle.text.specs.Line.{space, newline}
 use Rattle.printed.specs.Listing.{parentWord, unresolvedWord}
-use Rattle.printed.proofs.WritingLaws.{wrote, wrote-label, wrote-then, wrote-as}
+use Rattle.text.proofs.WritingLaws.{wrote, wrote-label, wrote-then, wrote-as}
 use Rattle.printed.proofs.LineLaws.{text-none, own-stands, text-some}
 use Rattle.printed.proofs.line.put_parent.Statement.{statement}
 use Rattle.printed.proofs.line.put_parent.Tie as tie

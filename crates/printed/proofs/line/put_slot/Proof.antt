@@ -4,7 +4,7 @@ use Rattle.number.proofs.Tools.{sym, ap, arith, needs}
 use Rattle.decimal.specs.Digits.{digitsOf}
 use Rattle.decimal.proofs.Laws.{length-u64}
 use Rattle.printed.specs.Listing.{mark, slotText}
-use Rattle.printed.proofs.WritingLaws.{wrote, wrote-as}
+use Rattle.text.proofs.WritingLaws.{wrote, wrote-as}
 use Rattle.printed.proofs.line.put_slot.Statement.{statement}
 use Rattle.printed.proofs.line.put_slot.Tie as tie
 

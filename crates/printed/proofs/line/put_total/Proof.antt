@@ -4,7 +4,7 @@ use Rattle.number.proofs.Tools.{arith, needs}
 use mathlib.Core.List.{_++_}
 use Rattle.text.specs.Line.{space, newline}
 use Rattle.printed.specs.Listing.{slotText}
-use Rattle.printed.proofs.WritingLaws.{wrote, wrote-then}
+use Rattle.text.proofs.WritingLaws.{wrote, wrote-then}
 use Rattle.printed.proofs.line.put_total.Statement.{statement}
 use Rattle.printed.proofs.line.put_total.Tie as tie
 

@@ -4,7 +4,7 @@ use Rattle.number.proofs.Tools.{refl, arith, needs}
 use Rattle.decimal.specs.Digits.{digitsOf}
 use Rattle.decimal.proofs.Laws.{length-u64}
 use Rattle.reader.specs.Records.{Bytes}
-use Rattle.printed.proofs.WritingLaws.{wrote, wrote-as}
+use Rattle.text.proofs.WritingLaws.{wrote, wrote-as}
 use Rattle.printed.proofs.ValueLaws.{short-value, says-one, says-two, says-rest}
 use Rattle.printed.proofs.value.put_value.Statement.{statement}
 use Rattle.printed.proofs.value.put_value.Tie as tie

@@ -6,7 +6,7 @@ use Rattle.key.specs.Word.{wordAt}
 use Rattle.key.specs.Key.{spaceAt}
 use Rattle.text.specs.Line.{space}
 use Rattle.printed.specs.Listing.{spaceText}
-use Rattle.printed.proofs.WritingLaws.{wrote, wrote-then}
+use Rattle.text.proofs.WritingLaws.{wrote, wrote-then}
 use Rattle.printed.proofs.word.put_key.Statement.{statement}
 use Rattle.printed.proofs.word.put_key.Tie as tie
 

@@ -3,7 +3,7 @@
 use Rattle.number.proofs.Tools.{_-_, needs}
 use Rattle.key.specs.Word.{wordAt}
 use Rattle.text.specs.Line.{space}
-use Rattle.printed.proofs.WritingLaws.{wrote, wrote-then}
+use Rattle.text.proofs.WritingLaws.{wrote, wrote-then}
 use Rattle.printed.proofs.word.put_name.Statement.{statement}
 use Rattle.printed.proofs.word.put_name.Tie as tie
 

@@ -2,8 +2,8 @@
 -- Assumes nothing.
 use Rattle.number.proofs.Tools.{sym, ap, arith, length, needs}
 use Rattle.key.proofs.Walks.{leads-in}
-use Rattle.printed.specs.Listing.{hyphen}
-use Rattle.printed.proofs.WritingLaws.{wrote, wrote-as}
+use Rattle.text.specs.Line.{hyphen}
+use Rattle.text.proofs.WritingLaws.{wrote, wrote-as}
 use Rattle.printed.proofs.WordLaws.{default-text, empty-text, word-text}
 use Rattle.printed.proofs.word.put_space.Statement.{statement}
 use Rattle.printed.proofs.word.put_space.Tie as tie

@@ -2,7 +2,7 @@
 -- Assumes nothing.
 use lib.Seq.{length-take-le}
 use Rattle.number.proofs.Tools.{sym, ap, arith, take, is-lt, no-lt, refl, needs}
-use Rattle.printed.proofs.WritingLaws.{wrote-as}
+use Rattle.text.proofs.WritingLaws.{wrote-as}
 use Rattle.reasons.specs.Lengths.{paddedText, lengthText}
 use Rattle.reasons.proofs.length.put_length.Statement.{statement}
 use Rattle.reasons.proofs.length.put_length.Tie as tie

@@ -1,7 +1,7 @@
 -- `reasons::length::put_without` meets its contract.
 -- Assumes nothing.
 use Rattle.number.proofs.Tools.{arith, needs}
-use Rattle.printed.proofs.WritingLaws.{wrote}
+use Rattle.text.proofs.WritingLaws.{wrote}
 use Rattle.reasons.specs.Lengths.{withoutText}
 use Rattle.reasons.proofs.length.put_without.Statement.{statement}
 use Rattle.reasons.proofs.length.put_without.Tie as tie

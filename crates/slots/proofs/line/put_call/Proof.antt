@@ -7,7 +7,7 @@ use Rattle.decimal.proofs.Laws.{length-u64}
 use Rattle.key.specs.Word.{wordAt}
 use Rattle.text.specs.Line.{space, newline}
 use Rattle.lookup.proofs.Walks.{method-stands}
-use Rattle.printed.proofs.WritingLaws.{wrote, wrote-label, wrote-length, wrote-then, wrote-as}
+use Rattle.text.proofs.WritingLaws.{wrote, wrote-label, wrote-length, wrote-then, wrote-as}
 use Rattle.slots.specs.Table.{kindText}
 use Rattle.slots.proofs.LineLaws.{method-fits, call-text}
 use Rattle.slots.proofs.line.put_call.Statement.{statement}

@@ -3,7 +3,7 @@
 use mathlib.Core.List.{List, _++_}
 use Rattle.number.proofs.Tools.{ap, ℕ, arith, needs}
 use Rattle.text.specs.Line.{space}
-use Rattle.printed.proofs.WritingLaws.{wrote, wrote-as}
+use Rattle.text.proofs.WritingLaws.{wrote, wrote-as}
 use Rattle.slots.specs.Table.{getterWord, setterWord, plainWord}
 use Rattle.slots.proofs.LineLaws.{kind-getter, kind-setter, kind-plain}
 use Rattle.slots.proofs.line.put_kind.Statement.{statement}

@@ -5,7 +5,7 @@ use Rattle.key.specs.Word.{wordAt}
 use Rattle.key.specs.Key.{spaceAt}
 use Rattle.reader.specs.Values.{keysIn}
 use Rattle.printed.specs.Listing.{spaceText}
-use Rattle.printed.proofs.WritingLaws.{wrote-as}
+use Rattle.text.proofs.WritingLaws.{wrote-as}
 use Rattle.printed.proofs.LineLaws.{laid-small, key-length, key-ready}
 use Rattle.slots.proofs.LineLaws.{owner-text}
 use Rattle.slots.proofs.line.put_owner.Statement.{statement}

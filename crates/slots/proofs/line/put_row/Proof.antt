@@ -5,7 +5,7 @@ use Rattle.number.proofs.Tools.{_-_, arith, needs}
 use Rattle.reader.specs.Values.{keysIn}
 use Rattle.lookup.proofs.Entries.{pool-small}
 use Rattle.printed.specs.Listing.{slotText}
-use Rattle.printed.proofs.WritingLaws.{wrote-length, wrote-then}
+use Rattle.text.proofs.WritingLaws.{wrote-length, wrote-then}
 use Rattle.slots.specs.Table.{ownerText, callText}
 use Rattle.slots.proofs.line.put_row.Statement.{statement}
 use Rattle.slots.proofs.line.put_row.Tie as tie
