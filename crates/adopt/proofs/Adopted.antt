@@ -8,7 +8,7 @@ use native.Mathlib.Omega.{arith}
 use native.Mathlib.Decide.{decLe}
 use lib.ListN.{length, getD, drop}
 use Rattle.number.specs.Limits.{fileLimit, entryWidth}
-use Rattle.number.specs.Choice.{if_then_else_, _<?_, _=?_, _≠?_}
+use Rattle.number.specs.Choice.{if_then_else_, _<?_, _=?_}
 use Rattle.number.specs.Number.{be}
 use Rattle.number.proofs.Choice.{is-eq, no-eq, both, from-not-lt, from-yes-eq, from-not-ne}
 use Rattle.number.proofs.Scans.{clash}
@@ -17,7 +17,7 @@ use Rattle.reading.specs.declared.Refusal.{Refusal}
 use Rattle.head.specs.declared.Header.{Header}
 use Rattle.head.specs.Header.{readHeader}
 use Rattle.reader.specs.Records.{Bytes}
-use Rattle.joining.specs.Outcome.{Outcome, refused, written, refusal}
+use Rattle.joining.specs.Outcome.{Outcome, refused, written}
 use Rattle.genuine.specs.Headed.{Headed}
 use Rattle.genuine.specs.Start.{startOf, misplacedStart}
 use Rattle.adopt.specs.Adopt.{gapOf, movedBytes, adopted, fitted, movedOf, adoptOf}

@@ -1,8 +1,8 @@
 -- What bytes show depends on these bytes alone: numbers, annotations and entries of two lists that are alike where they stand.
 -- Assumes nothing.
-use mathlib.Core.Path.{_≡_, refl, sym, ap, _∙_, subst}
+use mathlib.Core.Path.{_≡_, refl, sym, ap, _∙_}
 use mathlib.Core.List.{List, [], _∷_}
-use Prim.Native.Nat.{ℕ, zero, suc, _+_, _-_, _*_, _%_, _≤_, _<_}
+use Prim.Native.Nat.{ℕ, zero, suc, _+_, _-_, _*_, _≤_, _<_}
 use native.Mathlib.Omega.{arith}
 use native.Mathlib.Nat.{add-zero}
 use lib.ListN.{length, getD}
@@ -12,10 +12,9 @@ use Rattle.number.specs.Number.{be}
 use Rattle.number.specs.Part.{part}
 use Rattle.number.proofs.Parts.{length-part, getD-part}
 use Rattle.head.proofs.HeadRules.{notes-up}
-use Rattle.utf8.specs.Utf8.{Chars}
 use Rattle.key.specs.Key.{key}
 use Rattle.reader.specs.Values.{Annotation, empty, texts, Entry, entry, noEntry}
-use Rattle.reader.specs.Records.{ShowsText, ShowsNote, Marks, ShowsNotes, ShowsWord, ShowsSpace, ShowsOwn, ShowsEntry, ShowsEntries}
+use Rattle.reader.specs.Records.{ShowsText, ShowsNote, ShowsNotes, ShowsEntry, ShowsEntries}
 
 -- a number is told by its bytes
 pub be-same : (k : ℕ) (s b : List ℕ) (p q : ℕ) → ((j : ℕ) → j < k → getD b (q + j) 0 ≡ getD s (p + j) 0) → be k b q ≡ be k s p

@@ -7,7 +7,7 @@ use native.Mathlib.Omega.{arith}
 use lib.ListN.{length}
 use lib.Seq.{sets}
 use Rattle.number.specs.Limits.{fileLimit, entryWidth}
-use Rattle.number.specs.Choice.{if_then_else_, _<?_, _=?_, _≠?_}
+use Rattle.number.specs.Choice.{if_then_else_}
 use Rattle.number.specs.Number.{be}
 use Rattle.number.proofs.Choice.{is-true, is-false, is-lt, no-lt, is-eq, no-eq, is-ne, no-ne, yes-lt, not-lt}
 use Rattle.reading.specs.Got.{got, bad}

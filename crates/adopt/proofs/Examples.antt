@@ -11,7 +11,6 @@ use Rattle.reading.specs.Got.{bad}
 use Rattle.head.specs.Header.{magic, offMagic, magicEnd, unknownMinor, lengthFault, misplacedPool, misplacedDirectory, readPositions, readFields, readHeader}
 use Rattle.reader.specs.Reader.Marked.{P2}
 use Rattle.normal.specs.BigEndian.{bytesOf}
-use Rattle.joining.specs.Outcome.{written}
 use Rattle.genuine.specs.Start.{startOf, misplacedStart}
 use Rattle.adopt.specs.Adopt.{gapOf, headBytes, movedBytes, adopted, fitted, movedOf, adoptOf}
 use Rattle.adopt.specs.Theorems.{Adopts}

@@ -1,7 +1,7 @@
 -- The theorems on adopting hold.
 -- Assumes nothing.
 use mathlib.Core.Path.{_≡_, refl, sym, ap, _∙_, subst}
-use mathlib.Core.Logic.{_⊎_, _↔_, inl, inr}
+use mathlib.Core.Logic.{_⊎_, inl, inr}
 use mathlib.Core.List.{List, _++_, append-assoc}
 use Prim.Native.Nat.{ℕ, _+_, _-_, _%_, _≤_, _<_}
 use native.Mathlib.Omega.{arith}
@@ -10,29 +10,28 @@ use lib.ListN.{length, getD, take, drop, length-append, List·getD-append}
 use lib.Seq.{sets, sets-eq, ext-getD, length-sets, length-take-le, getD-take, getD-drop, getD-append-add}
 use Rattle.number.specs.Number.{be}
 use Rattle.number.specs.Part.{part}
-use Rattle.number.specs.Choice.{if_then_else_, _<?_}
+use Rattle.number.specs.Choice.{_<?_}
 use Rattle.number.proofs.Choice.{both, from-not-lt}
 use Rattle.number.proofs.Parts.{getD-part}
 use Rattle.decimal.proofs.Stores.{front}
-use Rattle.reading.specs.Got.{Got, got}
+use Rattle.reading.specs.Got.{got}
 use Rattle.reading.specs.declared.Refusal.{Refusal}
 use Rattle.head.specs.Header.{readHeader}
 use Rattle.reader.specs.Values.{Header, Annotation, Entry, Typelib, typelib}
 use Rattle.reader.specs.Records.{Bytes, ShowsText, ShowsNotes, NotesRule, ShowsTypelib, poolOf}
-use Rattle.reader.specs.Rules.{EntriesRule, TypelibRule}
+use Rattle.reader.specs.Rules.{EntriesRule}
 use Rattle.reader.specs.Reader.{decode}
 use Rattle.reader.specs.Reader.Laws.{accepted-shows, accepted-obeys, shown-accepted}
 use Rattle.normal.specs.BigEndian.{bytesOf}
 use Rattle.normal.proofs.Lengths.{length-bytes}
 use Rattle.normal.proofs.Numbers.{bytes-read}
-use Rattle.joining.specs.declared.Normalised.{Normalised}
 use Rattle.joining.specs.declared.Normalised.the-variants as normalised
 use Rattle.joining.specs.Outcome.{Outcome, refused, written, refusal, inRoom, after, normalisedAs}
 use Rattle.genuine.specs.Start.{startOf}
 use Rattle.adopt.specs.Adopt.{gapOf, adoptOf, adoptIn, adoptAnswer, adoptBuffer}
 use Rattle.adopt.specs.Placed.{fieldsOf, ShowsAt}
 use Rattle.adopt.specs.Theorems.{Adopts, Bytewise, Kept, Shown, Accepts, Left}
-use Rattle.adopt.proofs.Adopted.{Says, adopts-says, Cut, cut-bytes, cut-directory, cut-small, none-cut, some-cut, gap-few}
+use Rattle.adopt.proofs.Adopted.{Says, adopts-says, cut-bytes, cut-directory, cut-small, none-cut, some-cut, gap-few}
 use Rattle.adopt.proofs.Values.{published, told, Common, common, shown-there, shown-here, shown-published, shown-only}
 
 -- ---- the bytes

@@ -1,20 +1,17 @@
 -- What a file shows and what is written for it shows: header, annotations and entries.
 -- Assumes nothing.
 use mathlib.Core.Path.{_≡_, refl, sym, ap, _∙_}
-use mathlib.Core.Logic.{_⊎_, _↔_, inl, inr}
+use mathlib.Core.Logic.{_⊎_, inl, inr}
 use mathlib.Core.List.{List}
-use Prim.Native.Nat.{ℕ, _+_, _-_, _*_, _%_, _≤_, _<_}
+use Prim.Native.Nat.{ℕ, _+_, _-_, _≤_, _<_}
 use native.Mathlib.Omega.{arith}
 use native.Mathlib.Decide.{ℕ-discrete, decLe}
 use lib.ListN.{length, getD, drop}
-use Rattle.number.specs.Limits.{entryWidth}
-use Rattle.number.specs.Choice.{if_then_else_, _=?_}
 use Rattle.number.specs.Number.{be}
 use Rattle.number.proofs.Choice.{is-eq, no-eq}
-use Rattle.reader.specs.Values.{Header, Annotation, Entry, Typelib, typelib}
+use Rattle.reader.specs.Values.{Header, Annotation, Entry, typelib}
 use Rattle.reader.specs.Records.{ShowsHeader, ShowsText, ShowsNotes, ShowsEntries, ShowsTypelib, annotationLimit, poolOf}
 use Rattle.reader.specs.Rules.{PositionRule}
-use Rattle.genuine.specs.Headed.{Headed}
 use Rattle.genuine.specs.Start.{startOf}
 use Rattle.adopt.specs.Adopt.{gapOf}
 use Rattle.adopt.specs.Placed.{fieldsOf, limitAt, ShowsAt}

@@ -1,11 +1,10 @@
 -- Typelibs as libxpt writes them: the directory offset counts from 1, and the directory follows the annotations at any alignment; all else is document
 -- 01's. What adopting such a file gives: its bytes in the published layout, the answer, and every byte of the output buffer.
 -- Assumes nothing.
-use mathlib.Core.Bool.{Bool, true, false}
 use mathlib.Core.List.{List, _++_}
-use Prim.Native.Nat.{ℕ, _+_, _-_, _*_, _%_}
+use Prim.Native.Nat.{ℕ, _+_, _-_, _%_}
 use lib.ListN.{length, take, drop, replicate}
-use Rattle.number.specs.Limits.{fileLimit, entryWidth}
+use Rattle.number.specs.Limits.{fileLimit}
 use Rattle.number.specs.Choice.{if_then_else_, _<?_, _=?_, _≠?_}
 use Rattle.number.specs.Number.{be}
 use Rattle.number.specs.Part.{part}

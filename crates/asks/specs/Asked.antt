@@ -15,7 +15,8 @@ use Rattle.tasks.specs.declared.Task.the-variants.{Mistaken, Run, Pile, Types}
 use Rattle.tasks.specs.Tasks.{argument, taskOf}
 use Rattle.commands.specs.Answer.{answerOf}
 use Rattle.failures.specs.Lines.{unreadText}
-use Rattle.input.specs.File.{fileMost, Unread, FirstBytes}
+use Rattle.number.specs.Limits.{fileMost}
+use Rattle.input.specs.File.{Unread, FirstBytes}
 use Rattle.streams.specs.Printed.{Printed, OutputGone}
 use Rattle.told.specs.Tells.{Tells}
 use Rattle.asks.specs.declared.Answered.{Answered}

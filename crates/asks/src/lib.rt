@@ -3,7 +3,7 @@
 use failures::ROOM;
 use input::Begun;
 use input::Came;
-use input::FILE_MOST;
+use number::FILE_MOST;
 use said::ANSWER_ROOM;
 use said::Said;
 use said::Why;
@@ -20,7 +20,8 @@ ghost use Rattle.failures.specs.Room.{wordLimit};
 ghost use Rattle.tasks.specs.Tasks.{taskOf};
 ghost use Rattle.said.specs.Saying.{answerRoom, Says};
 ghost use Rattle.commands.specs.Answer.{answerOf};
-ghost use Rattle.input.specs.File.{fileMost, StandsBehind, Unread, FirstBytes};
+ghost use Rattle.number.specs.Limits.{fileMost};
+ghost use Rattle.input.specs.File.{StandsBehind, Unread, FirstBytes};
 ghost use Rattle.told.specs.Tells.{Tells, isOpen};
 ghost use Rattle.asks.specs.Asked.{shortRoom, Asks, isAsked, isHere, nameIn, Replied, Took};
 

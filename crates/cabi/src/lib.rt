@@ -2,7 +2,6 @@
 // A call returns 0, and its answer stands in the first places of `answer`; where that has too little room for any answer the call
 // returns 1 and writes nothing. The first number of an answer: 0 found, 1 none, 2 undetermined with the index, 3 refused with
 // number and place.
-ghost use mathlib.Core.Path.{_≡_};
 ghost use Rattle.reader.specs.Reader.{decode, checkOf};
 ghost use Rattle.lookup.specs.Question.{askIid, askLooks, askKey, askSlot, askConstant};
 ghost use Rattle.numbers.specs.Call.{Called};

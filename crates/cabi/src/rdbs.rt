@@ -1,5 +1,4 @@
 // A types.rdb for callers in C and Rust: its check, an entity and a constant by path, each by the number of the reading.
-ghost use mathlib.Core.Path.{_≡_};
 ghost use Rattle.numbers.specs.Call.{Called};
 ghost use Rattle.numbers.specs.Numbers.{verdictNumbers};
 ghost use Rattle.rdb_numbers.specs.Numbers.{checkBy, entityBy, constantBy, entityNumbers, constantNumbers};

@@ -6,9 +6,10 @@ ghost use lib.Seq.{sets};
 ghost use Rattle.reader.specs.Reader.{checkOf};
 ghost use Rattle.ascii.specs.Ascii.{ascii};
 ghost use Rattle.text.specs.Line.{lineOf};
-ghost use Rattle.input.specs.File.{fileMost, FirstBytes};
+ghost use Rattle.number.specs.Limits.{fileMost};
+ghost use Rattle.input.specs.File.{FirstBytes};
 use input::Came;
-use input::FILE_MOST;
+use number::FILE_MOST;
 
 // The line of the file's verdict, made at the front of `line`; the answer is its length.
 fn answer(file: &[u8], line: &mut [u8; 64]) -> usize

@@ -20,9 +20,9 @@ use Rattle.types.specs.Types.{prefix, classOf, isReserved, needsPointer, lacksP
 use Rattle.method.specs.Parameter.{paramFlags, paramType, reservedParam, wrongParam, readParam}
 use Rattle.method.specs.Numbers.{prefixes, wrongIid, wrongSize, wrongSizes, wrongNumbers, wrongArguments, wrongResult}
 use Rattle.method.specs.Method.{methodFlags, methodName, ruleSignature, readSignature, readMethod, noMethod}
-use Rattle.descriptor.specs.Constant.{constant, valueSize, readConstant}
+use Rattle.descriptor.specs.Constant.{valueSize, readConstant}
 use Rattle.descriptor.specs.Rules.{isConstructor, manyConstructors, isGetter, isSetter, strayPair, strayGetter, strayPairs}
-use Rattle.descriptor.specs.Descriptor.{descriptor, parentOf, indexed, readParent, readCounted, reservedInterface, readFlags, flagsIn, namesIn, readDescriptor}
+use Rattle.descriptor.specs.Descriptor.{parentOf, indexed, readParent, readCounted, reservedInterface, readFlags, flagsIn, namesIn, readDescriptor}
 use Rattle.typelib.specs.Entry.{entry, entryKey, entryDescriptor, readOwn, entriesOf, noEntry, keysIn, descriptorIn}
 use Rattle.typelib.specs.Directory.{ownPointer}
 use Rattle.typelib.specs.Across.{repeated, firstRepeated, parentIndex, above, aboveIn, chainEnds, circles, firstCircling, readAcross}

@@ -1,9 +1,9 @@
 -- Keys whose words are noted.
 -- Assumes nothing.
 use mathlib.Core.Path.{_≡_, refl, sym, ap, _∙_}
-use mathlib.Core.Bool.{Bool, true, false}
+use mathlib.Core.Bool.{true, false}
 use mathlib.Core.Logic.{inl, inr}
-use mathlib.Core.List.{List, [], _∷_, _++_}
+use mathlib.Core.List.{List, [], _∷_}
 use Prim.Native.Nat.{ℕ, _+_, _-_, _≤_, _<_}
 use native.Mathlib.Omega.{arith}
 use lib.ListN.{length, getD, set, length-set}
@@ -13,7 +13,6 @@ use Rattle.number.proofs.Scans.{clash}
 use Rattle.key.specs.Key.{Key, key, keySpace, keyName}
 use Rattle.key.specs.Pointer.{noBytes}
 use Rattle.key.proofs.Walks.{leads-in, space-word, space-none}
-use Rattle.names.specs.Uses.{Led}
 use Rattle.names.proofs.Words.{word-here, word-there}
 use Rattle.stock.specs.Uses.{spaceWords, keyWords}
 use Rattle.gather.specs.Words.{Means, PutWords}

@@ -2,7 +2,7 @@
 -- Assumes nothing.
 use mathlib.Core.Path.{_≡_, sym, _∙_}
 use mathlib.Core.List.{List, _++_, map}
-use mathlib.Core.Option.{Option, none, some}
+use mathlib.Core.Option.{Option}
 use Prim.Native.Nat.{ℕ, _+_, _-_, _≤_}
 use native.Mathlib.Decide.{ℕ-discrete, decLe}
 use native.Mathlib.Omega.{arith}
@@ -20,9 +20,9 @@ use Rattle.writing.specs.Source.{Known}
 use Rattle.writing.specs.Wrote.{Room}
 use Rattle.writing.proofs.Sizes as sizes
 use Rattle.gather.specs.declared.Passed.{Passed}
-use Rattle.gather.specs.Words.{NamedDescriptor, Means, Based, PutWords, PutDescriptor}
+use Rattle.gather.specs.Words.{NamedDescriptor, Means, Based, PutDescriptor}
 use Rattle.gather.specs.Leading.{shifted, Bodied, OwnLed, PutOwn}
-use Rattle.gather.proofs.Words.{put-none, put-map, put-same}
+use Rattle.gather.proofs.Words.{put-none, put-map}
 
 -- names do not depend on references
 pub names-mapped : {R S : Type 0} (g : R → S) (d : Descriptor R) → namesOf (mapDescriptor g d) ≡ namesOf d

@@ -1,7 +1,7 @@
 -- Rows noted one by one.
 -- Assumes nothing.
 use mathlib.Core.Path.{_≡_, refl, sym, ap, _∙_}
-use mathlib.Core.List.{List, [], _++_}
+use mathlib.Core.List.{List, _++_}
 use mathlib.Core.Logic.{inl, inr}
 use mathlib.Core.Option.{Option}
 use Prim.Native.Nat.{ℕ, _+_, _-_, _*_, _≤_, _<_}
@@ -13,16 +13,16 @@ use Rattle.number.proofs.Scans.{below}
 use Rattle.key.specs.Key.{Key}
 use Rattle.reader.specs.Values.{Descriptor, Entry, entryKey, entryDescriptor, noEntry}
 use Rattle.normal.specs.Size.{sum}
-use Rattle.names.specs.Uses.{wordOf, spelt, Spelt}
-use Rattle.stock.specs.Uses.{ownWords, keyWords, entryWords, wordsOf, ownBody, bodyLength}
+use Rattle.names.specs.Uses.{wordOf, spelt}
+use Rattle.stock.specs.Uses.{ownWords, keyWords, entryWords, wordsOf, bodyLength}
 use Rattle.stock.proofs.Few.{few-uses}
 use Rattle.places.specs.Noted.{startUse, bodyUse, bodySize, Noted}
 use Rattle.places.proofs.Once.{in-order}
 use Rattle.rows.specs.Files.{Given}
 use Rattle.gather.specs.declared.Passed.{Passed}
-use Rattle.gather.specs.declared.Outcome.the-variants.{Over, Uses}
+use Rattle.gather.specs.declared.Outcome.the-variants.{Uses}
 use Rattle.gather.specs.Words.{Means, PutWords}
-use Rattle.gather.specs.Leading.{KeyLed, OwnLed, OwnStands, PutOwn, Leading, LedEntries, Gathered, Answered}
+use Rattle.gather.specs.Leading.{KeyLed, OwnLed, OwnStands, PutOwn, Leading, LedEntries, Answered}
 use Rattle.gather.proofs.Words.{put-none, put-then, put-same}
 use Rattle.gather.proofs.Keys.{key-few}
 use Rattle.gather.proofs.Owns.{own-small}

@@ -7,11 +7,10 @@ use mathlib.Core.Option.{Option, none, some}
 use Prim.Native.Nat.{ℕ, suc, _+_, _-_, _≤_, _<_}
 use native.Mathlib.Decide.{ℕ-discrete, decLe}
 use native.Mathlib.Omega.{arith}
-use lib.ListN.{length, getD, drop, length-drop}
+use lib.ListN.{length, getD, length-drop}
 use Rattle.number.specs.Limits.{fileLimit, rowLimit}
-use Rattle.key.specs.Key.{Key, key, keySpace, keyName}
+use Rattle.key.specs.Key.{key, keySpace, keyName}
 use Rattle.key.specs.First.{Filled}
-use Rattle.key.proofs.Walks.{leads-in}
 use Rattle.reader.specs.declared.Layout.{Layout}
 use Rattle.reader.specs.Values.{Descriptor, descriptor, Entry, entry, entryKey, entryDescriptor, noEntry, keysIn, descriptorIn}
 use Rattle.reader.specs.Records.{ShowsDescriptor, ShowsOwn}
@@ -25,14 +24,14 @@ use Rattle.rows.specs.Rows.{descriptorOfRow, referenceIn}
 use Rattle.rows.specs.Notes.{Noted, NameOf, SpaceOf, OwnOf}
 use Rattle.rows.specs.Files.{Holds, Pair, HoldBoth}
 use Rattle.rows.proofs.FillLaws.{noted-still, noted-behind, name-fits, space-fits, own-fits}
-use Rattle.bridge.specs.Written.{heldIn, countedOf}
+use Rattle.bridge.specs.Written.{countedOf}
 use Rattle.bridge.proofs.Spans.{length-span, span-at}
 use Rattle.bridge.proofs.Rows.{row-first, row-second, key-first, key-second, reference-first, reference-second}
 use Rattle.bridge.proofs.Pairs.{held-none, held-some}
 use Rattle.gather.proofs.Named.{rule-named, rule-references}
 use Rattle.gather.specs.View.{rowKey, rowOwn, entryOf, viewEntry, viewEntries, Viewed}
 use Rattle.gather.specs.Words.{Means}
-use Rattle.gather.specs.Leading.{SpaceLed, KeyLed, shifted, Bodied, OwnLed, Leading, ledTo, ledRow, ledHeld, ledBody, PointersIn, HeldIn, HoldersIn}
+use Rattle.gather.specs.Leading.{SpaceLed, shifted, Bodied, OwnLed, Leading, ledTo, ledRow, ledHeld, ledBody, PointersIn, HeldIn, HoldersIn}
 use Rattle.gather.proofs.Words.{means-here, means-there}
 use Rattle.gather.proofs.Descriptors.{names-many}
 use Rattle.gather.proofs.Leads.{led-none, led-low, led-high, held-zero, held-row}

@@ -10,7 +10,6 @@ use lib.Seq.{getD-set-same, getD-set-other, getD-append-add}
 use Rattle.number.specs.Limits.{fileLimit}
 use Rattle.key.proofs.Walks.{leads-in}
 use Rattle.reader.specs.Layout.{Spells}
-use Rattle.names.specs.Uses.{Led}
 use Rattle.names.proofs.Words.{word-here, word-there}
 use Rattle.gather.specs.Words.{Means, Based, PutWords}
 

@@ -1,19 +1,18 @@
 -- What the header says of a file that the check refuses with 8 at 24 at most.
 -- Assumes nothing.
-use mathlib.Core.Path.{_≡_, refl, sym, ap, _∙_}
+use mathlib.Core.Path.{_≡_, refl, _∙_}
 use mathlib.Core.Bool.{Bool, true, false}
 use mathlib.Core.List.{List}
-use Prim.Native.Nat.{ℕ, _≤_, _<_}
+use Prim.Native.Nat.{ℕ}
 use native.Mathlib.Omega.{arith}
 use lib.ListN.{length, getD}
-use Rattle.number.specs.Choice.{if_then_else_, _<?_}
+use Rattle.number.specs.Choice.{if_then_else_}
 use Rattle.number.specs.Number.{be}
 use Rattle.number.proofs.Choice.{from-not-lt, from-not-ne}
 use Rattle.reading.specs.Got.{Got, got, bad}
 use Rattle.reading.specs.declared.Refusal.{Refusal}
 use Rattle.head.specs.declared.Header.{Header}
 use Rattle.head.specs.Header.{newest, unknownMinor, readPositions, readFields, readHeader}
-use Rattle.head.specs.Says.{HeaderAt}
 use Rattle.head.proofs.HeaderLaws.{magic-bytes, none-fault, pool-placed, header-at}
 use Rattle.genuine.specs.Headed.{Headed}
 

@@ -2,12 +2,11 @@
 -- Assumes nothing.
 use mathlib.Core.Path.{_≡_, refl, sym, ap, _∙_}
 use mathlib.Core.Bool.{Bool, true, false}
-use mathlib.Core.List.{List, []}
+use mathlib.Core.List.{List}
 use Prim.Native.Nat.{ℕ, _+_, _-_, _*_, _≤_, _<_}
 use native.Mathlib.Omega.{arith}
-use lib.ListN.{length, drop}
+use lib.ListN.{drop}
 use Rattle.number.specs.Limits.{entryWidth}
-use Rattle.number.specs.Choice.{if_then_else_, _<?_, _=?_, _≠?_}
 use Rattle.number.specs.Number.{be}
 use Rattle.number.proofs.Choice.{is-true, is-false, is-lt, no-lt, is-eq, no-eq, is-ne, no-ne, yes-lt, not-lt}
 use Rattle.reading.specs.declared.Step.{Step}

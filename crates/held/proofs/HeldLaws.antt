@@ -3,12 +3,11 @@
 use mathlib.Core.Path.{_≡_, subst}
 use mathlib.Core.Bool.{Bool, true}
 use mathlib.Core.List.{List}
-use Prim.Native.Nat.{ℕ, _≤_}
+use Prim.Native.Nat.{ℕ}
 use native.Mathlib.Omega.{arith}
 use Rattle.kept.specs.declared.Kept.{Kept}
 use Rattle.kept.specs.Files.{isFound}
 use Rattle.tasks.specs.Tasks.{argument}
-use Rattle.store.specs.declared.Loaded.{Loaded}
 use Rattle.store.specs.declared.Loaded.the-variants as loaded
 use Rattle.store.specs.declared.Asked.{Asked}
 use Rattle.store.specs.Loading.{Answers, Loads}

@@ -4,10 +4,9 @@
 use mathlib.Core.Path.{_≡_}
 use mathlib.Core.Bool.{Bool}
 use mathlib.Core.List.{List, []}
-use Prim.Native.Nat.{ℕ, _+_, _≤_, _<_}
+use Prim.Native.Nat.{ℕ, _≤_, _<_}
 use lib.IntN.{ℤ}
 use lib.ListN.{length, take}
-use Rattle.number.specs.Limits.{fileLimit}
 use Rattle.ascii.specs.Ascii.{ascii}
 use Rattle.key.specs.Word.{sameWord}
 use Rattle.input.specs.declared.Came.{Came}
@@ -17,10 +16,6 @@ use Rattle.input.specs.declared.Opened.the-variants as opened
 use Rattle.input.specs.declared.Begun.{Begun}
 use Rattle.input.specs.declared.Begun.the-variants as begun
 pub mod SystemCalls
-
--- as many bytes as are read of a typelib: one more than the largest has
-abbrev pub fileMost : ℕ
-fileMost = fileLimit + 1
 
 -- the name of standard input
 abbrev pub isInput : List ℕ → Bool

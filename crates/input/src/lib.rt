@@ -1,5 +1,4 @@
 // Files by name, read into a lent buffer until they end or the buffer is full. The name `-` is standard input's. A failed call is told.
-use number::FILE_LIMIT;
 ghost use mathlib.Core.Path.{_≡_};
 ghost use mathlib.Core.Bool.{true};
 ghost use mathlib.Core.List.{List, []};
@@ -7,9 +6,6 @@ ghost use Prim.Native.Nat.{ℕ, _≤_, _<_};
 ghost use lib.ListN.{length, take};
 ghost use Rattle.input.specs.Came.{CameIn};
 ghost use Rattle.input.specs.File.{isInput, StandsBehind, Opens, Goes, Comes, ReadIn, Begins};
-
-// As many bytes as are read of a typelib: one more than the largest has, so that a longer file is told from it.
-pub const FILE_MOST: usize = FILE_LIMIT + 1;
 
 // Where what was read ends in the buffer, or errno's number.
 pub enum Came {

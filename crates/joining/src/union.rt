@@ -7,7 +7,7 @@ ghost use Rattle.number.specs.Limits.{entryLimit, rowLimit};
 ghost use Rattle.rows.specs.Files.{Given, HoldBoth};
 ghost use Rattle.joining.specs.declared.Normalised.the-variants.{Refused};
 ghost use Rattle.joining.specs.Outcome.{refusal};
-ghost use Rattle.stages.specs.Stages.{Known, Keyed, Mated, Iids, Numbered, Owns, Resolved, Ended, Arranged};
+ghost use Rattle.stages.specs.Stages.{Known, Keyed, Mated, Iids, Numbered, Resolved, Ended, Arranged};
 ghost use Rattle.joining.specs.Joins.{Joins};
 use crate::Normalised;
 use minor::view_minor;

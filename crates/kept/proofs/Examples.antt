@@ -10,7 +10,8 @@ use Rattle.key.specs.Word.{compareWords, isSame, sameWord}
 use Rattle.kept.specs.Names.{nameIn, stateIn, isKept, rowOf}
 use Rattle.kept.specs.Room.{nothingKept, withRoom}
 use Rattle.kept.specs.Files.{bytesIn, isFound, fileOf, keptFile}
-use Rattle.kept.specs.Written.{lastWithin, lastPart, ending, sameEnding, mayLead, forgotten}
+use Rattle.paths.specs.Path.{lastWithin, lastPart, ending}
+use Rattle.kept.specs.Written.{sameEnding, mayLead, forgotten}
 
 -- `d/a`, `a`, `d/`, and no bytes
 parts : lastPart (100 ∷ 47 ∷ 97 ∷ []) ∷ lastPart (97 ∷ []) ∷ lastPart (100 ∷ 47 ∷ []) ∷ lastPart [] ∷ [] ≡ 2 ∷ 0 ∷ 2 ∷ 0 ∷ []

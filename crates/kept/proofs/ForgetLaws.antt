@@ -16,7 +16,8 @@ use Rattle.key.specs.Word.{sameWord}
 use Rattle.key.proofs.Orders.{same-word, same-word-equal, other-word}
 use Rattle.kept.specs.declared.Kept.{Kept}
 use Rattle.kept.specs.Names.{linkState, forgottenState, nameIn, stateIn, isKept, rowOf}
-use Rattle.kept.specs.Written.{ending, sameEnding, mayLead, forgotten, Forgot}
+use Rattle.paths.specs.Path.{ending}
+use Rattle.kept.specs.Written.{sameEnding, mayLead, forgotten, Forgot}
 use Rattle.kept.proofs.FileLaws.{found-no, from-found}
 use Rattle.kept.proofs.WrittenLaws.{forgotten-length, forgotten-other}
 

@@ -15,26 +15,8 @@ use Rattle.kept.specs.declared.Kept.{Kept}
 use Rattle.kept.specs.Table.{Tidy}
 use Rattle.kept.specs.Names.{linkState, forgottenState, nameIn, stateIn}
 use Rattle.kept.proofs.NameLaws.{lent-name}
-use Rattle.kept.specs.Written.{lastWithin, lastPart, ending, sameEnding, mayLead, forgotten}
-
--- ---- the last part
-
-module _ (path : List ℕ) where
-  pub last-start : 0 ≡ lastWithin path 0
-  unfolding lastWithin
-  last-start = refl
-
-  pub last-here : (i : ℕ) → getD path i 0 ≡ 47 → i + 1 ≡ lastWithin path (i + 1)
-  unfolding lastWithin
-  last-here i e = rw (add-one i) (is-eq _ _ _ _ e refl)
-
-  pub last-on : (i from : ℕ) → (getD path i 0 ≡ 47 → ⊥) → from ≡ lastWithin path i → from ≡ lastWithin path (i + 1)
-  unfolding lastWithin
-  last-on i from f e = rw (add-one i) (no-eq _ _ _ _ f e)
-
-  pub last-done : (i from : ℕ) → i ≡ length path → from ≡ lastWithin path i → from ≡ lastPart path
-  unfolding lastPart
-  last-done i from q e = e ∙ ap (lastWithin path) q
+use Rattle.paths.specs.Path.{lastPart, ending}
+use Rattle.kept.specs.Written.{sameEnding, mayLead, forgotten}
 
 -- two last parts, lent
 pub endings : (path name : List ℕ) (i j : ℕ) {r : Bool} → i ≡ lastPart path → j ≡ lastPart name → r ≡ sameWord (take (length path - i) (drop i path)) (take (length name - j) (drop j name)) → r ≡ sameEnding path name

@@ -2,7 +2,7 @@
 -- Assumes nothing.
 use Prim.Native.Nat.{ℕ, _+_, _*_, _≤_}
 use Rattle.paths.specs.Path.{pathLimit}
-use Rattle.input.specs.File.{fileMost}
+use Rattle.number.specs.Limits.{fileMost}
 use Rattle.number.specs.Choice.{if_then_else_, _<?_}
 use Rattle.kept.specs.declared.Kept.{Kept}
 

@@ -4,25 +4,13 @@ use mathlib.Core.Path.{_≡_}
 use mathlib.Core.Bool.{Bool, true, false}
 use mathlib.Core.List.{List}
 use Prim.Native.Nat.{ℕ, zero, suc, _+_, _*_}
-use lib.ListN.{length, getD, drop, set}
+use lib.ListN.{set}
 use Rattle.number.specs.Choice.{if_then_else_, _=?_}
 use Rattle.key.specs.Word.{sameWord}
+use Rattle.paths.specs.Path.{ending}
 use Rattle.kept.specs.declared.Kept.{Kept}
 use Rattle.kept.specs.Names.{linkState, forgottenState, nameIn, stateIn, rowOf}
 use Rattle.kept.specs.Files.{isFound}
-
--- after the last `/` of the first n bytes; 0 where there is none
-unfoldable pub lastWithin : List ℕ → ℕ → ℕ
-lastWithin path zero = 0
-lastWithin path (suc n) = if getD path n 0 =? 47 then suc n else lastWithin path n
-
--- where the last part of a path starts
-unfoldable pub lastPart : List ℕ → ℕ
-lastPart path = lastWithin path (length path)
-
--- the last part
-unfoldable pub ending : List ℕ → List ℕ
-ending path = drop (lastPart path) path
 
 unfoldable pub sameEnding : List ℕ → List ℕ → Bool
 sameEnding path name = sameWord (ending path) (ending name)

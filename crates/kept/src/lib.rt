@@ -1,7 +1,7 @@
 // Files that were read, kept for the rest of a batch. In the store a file's name stands before its bytes. A row of the table has four
 // numbers: where the name starts, where it ends and the bytes start, where they end, and its state. Where another file might not fit, all
 // rows are given up; three of the largest files fit.
-use input::FILE_MOST;
+use number::FILE_MOST;
 use words::Span;
 ghost use mathlib.Core.Path.{_≡_};
 ghost use Prim.Native.Nat.{_+_, _*_, _-_, _≤_, _<_};
@@ -11,7 +11,7 @@ ghost use Rattle.kept.specs.Table.{Tidy};
 ghost use Rattle.kept.specs.Names.{isKept, rowOf, rowSet, rowAdded, oneMore};
 ghost use Rattle.kept.specs.Room.{storeBytes, Roomy, withRoom};
 ghost use Rattle.kept.specs.Files.{keptFile};
-ghost use Rattle.kept.specs.Written.{lastPart, sameEnding, mayLead, forgotten, Forgot};
+ghost use Rattle.kept.specs.Written.{sameEnding, mayLead, forgotten, Forgot};
 
 // The most that one file takes: the longest name, and as many bytes as are read.
 const FILE_ROOM: usize = paths::LIMIT + FILE_MOST;
@@ -121,27 +121,12 @@ pub fn add(state: usize, file: Span, kept: Kept, rows: &mut [usize; 256]) -> Kep
     }
 }
 
-// Where the last part of a path starts: after its last `/`.
-pub fn last_part(path: &[u8]) -> usize
-    ensures { λ r. ⌜ (r ≤ length (now (path .entry))) × (r ≡ lastPart (now (path .entry))) ⌝ }
-{
-    let mut from: usize = 0;
-    let mut i: usize = 0;
-    while i < path.len() {
-        if path[i] == b'/' {
-            from = i + 1;
-        }
-        i += 1;
-    }
-    from
-}
-
 // The last parts of two paths are the same.
 fn same_ending(path: &[u8], name: &[u8]) -> bool
     ensures { λ r. ⌜ r ≡ sameEnding (now (path .entry)) (now (name .entry)) ⌝ }
 {
-    let last = last_part(path);
-    let own = last_part(name);
+    let last = paths::last_part(path);
+    let own = paths::last_part(name);
     words::is_same(&path[last..], &name[own..])
 }
 

@@ -2,7 +2,7 @@
 -- Assumes nothing.
 use mathlib.Core.Path.{_≡_, refl, sym, ap}
 use mathlib.Core.Bool.{Bool, true, false}
-use mathlib.Core.Logic.{_⊎_, inl, inr}
+use mathlib.Core.Logic.{inl, inr}
 use mathlib.Core.List.{List, [], _∷_, _++_}
 use mathlib.Core.Option.{Option, none, some}
 use Prim.Native.Nat.{ℕ, zero, suc, _+_, _/_, _%_, _<_}
@@ -11,10 +11,8 @@ use lib.IntN.{ℤ, pos, negsuc}
 use lib.ListN.{length}
 use Rattle.number.specs.Choice.{if_then_else_, _<?_, _=?_}
 use Rattle.number.proofs.Choice.{both, is-eq, no-eq, from-yes-eq, from-not-eq}
-use Rattle.reading.specs.Got.{Got, got, bad}
-use Rattle.reading.specs.declared.Verdict.{Verdict}
-use Rattle.reading.specs.declared.Verdict.the-variants.{Accepted, Refused}
-use Rattle.key.specs.Key.{Key, key, keySpace, keyName}
+use Rattle.reading.specs.Got.{got}
+use Rattle.key.specs.Key.{key, keySpace, keyName}
 use Rattle.decimal.specs.Digits.{digitsWithin, digitsOf}
 use Rattle.text.specs.Line.{accepted, lineOf, space, newline}
 use Rattle.text.specs.Hex.{hexDigit, hexOf}
@@ -26,8 +24,8 @@ use Rattle.lookup.specs.declared.Slot.{Slot}
 use Rattle.lookup.specs.declared.Slot.the-variants.{Known, Undetermined}
 use Rattle.lookup.specs.declared.Value.{Value}
 use Rattle.lookup.specs.declared.Value.the-variants.{I16, I32, U16, U32}
-use Rattle.lookup.specs.Chain.{Chain, ofParent, chainOf}
-use Rattle.lookup.specs.Method.{slotOf, totalOf}
+use Rattle.lookup.specs.Chain.{Chain}
+use Rattle.lookup.specs.Method.{slotOf}
 use Rattle.lookup.specs.Constant.{valueOf}
 use Rattle.lookup.specs.Question.{slotAs}
 use Rattle.text.specs.Signed.{signedText}

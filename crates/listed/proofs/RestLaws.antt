@@ -2,8 +2,8 @@
 -- Assumes nothing.
 use mathlib.Core.Path.{_≡_, refl, sym, ap, _∙_}
 use mathlib.Core.Bool.{Bool, true, false}
-use mathlib.Core.Logic.{_⊎_, inl, inr}
-use mathlib.Core.List.{List, [], _∷_, _++_, map, map-append, append-assoc}
+use mathlib.Core.Logic.{inr}
+use mathlib.Core.List.{List, [], _∷_, _++_, map-append, append-assoc}
 use Prim.Native.Nat.{ℕ, suc, _+_, _≤_, _<_}
 use native.Mathlib.Nat.{zero-add}
 use native.Mathlib.Omega.{arith}
@@ -16,12 +16,11 @@ use Rattle.lines.specs.declared.Cursor.{Cursor}
 use Rattle.lines.specs.declared.Cursor.the-variants.{Done, AtEntry, AtMethods, AtConstants, AtTable}
 use Rattle.lines.specs.declared.Filled.{Filled}
 use Rattle.lines.specs.Tabs.{tab, tabbed}
-use Rattle.lines.specs.Cursor.{Left, isDone, turns, Onward, Filling}
+use Rattle.lines.specs.Cursor.{Left, isDone, turns, Filling}
 use Rattle.lines.proofs.FillLaws.{falls}
 use Rattle.text.proofs.WritingLaws.{wrote-length}
-use Rattle.listed.specs.declared.Next.the-variants.{Over, Closing, At}
+use Rattle.listed.specs.declared.Next.the-variants.{At}
 use Rattle.listed.specs.declared.Rest.{Rest}
-use Rattle.listed.specs.declared.More.{More}
 use Rattle.listed.specs.Text.{shown, closing}
 use Rattle.listed.specs.Rest as rest
 

@@ -41,7 +41,7 @@ fn folder_before(path: &[u8], link: &[u8]) -> usize
             return 0;
         }
     }
-    kept::last_part(path)
+    paths::last_part(path)
 }
 
 // The path to which the link at `path` leads, made in `target`: its length, 4,096 where it has no room.

@@ -1,5 +1,4 @@
 // Constants of an accepted file, by name.
-ghost use mathlib.Core.Path.{_≡_};
 ghost use Prim.Native.Nat.{_≤_};
 ghost use lib.ListN.{length};
 ghost use Rattle.number.specs.Limits.{fileLimit};

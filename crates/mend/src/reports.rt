@@ -2,7 +2,7 @@
 ghost use mathlib.Core.Path.{_≡_};
 ghost use Prim.Native.Nat.{_+_, _*_, _≤_, _<_};
 ghost use lib.ListN.{length};
-ghost use Rattle.number.specs.Limits.{fileLimit, entryLimit, entryWidth};
+ghost use Rattle.number.specs.Limits.{fileLimit, entryLimit};
 ghost use Rattle.rules.specs.Rules.{rise};
 ghost use Rattle.mend.specs.Cycle.{returns};
 ghost use Rattle.mend.specs.Tables.{Parents, upIn, numberIn, placeIn};

@@ -8,7 +8,7 @@ use native.Mathlib.Omega.{arith}
 use lib.ListN.{length, getD}
 use Rattle.number.specs.Limits.{rowLimit}
 use Rattle.reader.specs.declared.Layout.{Layout}
-use Rattle.reader.specs.Values.{Descriptor, Entry, entryDescriptor, descriptorIn}
+use Rattle.reader.specs.Values.{Descriptor, entryDescriptor, descriptorIn}
 use Rattle.meaning.specs.Meaning.{mapOwn}
 use Rattle.iids.specs.Cells.{cell}
 use Rattle.rows.specs.Rows.{descriptorOfRow, referenceIn}

@@ -7,7 +7,7 @@ use Prim.Native.Nat.{ℕ}
 use Rattle.kept.specs.declared.Kept.{Kept}
 use Rattle.kept.specs.Table.{Tidy}
 use Rattle.kept.specs.Files.{isFound}
-use Rattle.kept.specs.Written.{ending}
+use Rattle.paths.specs.Path.{ending}
 use Rattle.tasks.specs.Tasks.{taskOf, isWriting, outputWord}
 
 -- the table is tidy, and no name is found that ends in the last part of what the line writes

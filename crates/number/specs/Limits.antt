@@ -6,6 +6,10 @@ use Prim.Native.Nat.{ℕ, _+_, _-_}
 abbrev pub fileLimit : ℕ
 fileLimit = 1048576
 
+-- as many bytes as are read of a typelib: one more than the largest has
+abbrev pub fileMost : ℕ
+fileMost = fileLimit + 1
+
 -- interfaces of a file
 abbrev pub entryLimit : ℕ
 entryLimit = 1024

@@ -1,13 +1,12 @@
 -- A whole file: its pool, then its directory, then what stands before that, each where it belongs.
 -- Assumes nothing.
-use mathlib.Core.Path.{_≡_, refl, sym, ap, _∙_}
+use mathlib.Core.Path.{_≡_, sym, ap, _∙_}
 use mathlib.Core.Bool.{Bool}
 use mathlib.Core.List.{List, _++_, append-assoc}
-use Prim.Native.Nat.{ℕ, _+_, _-_, _*_, _≤_, _<_}
+use Prim.Native.Nat.{ℕ, _+_, _-_, _*_, _≤_}
 use native.Mathlib.Omega.{arith}
-use lib.ListN.{length, getD, take, drop, length-append, length-take, length-drop}
+use lib.ListN.{length, getD, length-append, length-take, length-drop}
 use lib.Seq.{sets}
-use Rattle.number.specs.Limits.{fileLimit}
 use Rattle.number.specs.Choice.{if_then_else_, _=?_}
 use Rattle.decimal.proofs.Stores.{follow}
 use Rattle.key.specs.First.{Filled}
@@ -20,7 +19,7 @@ use Rattle.stock.specs.Pool.{piecesOf, onceAt}
 use Rattle.stock.specs.Form.{poolWith, directoryWith, lengthWith, fileWith, fileBytes}
 use Rattle.stock.proofs.Pools.{normal-length}
 use Rattle.stock.proofs.Lengths.{length-directory}
-use Rattle.stock.proofs.Agrees.{Agrees, file-ext}
+use Rattle.stock.proofs.Agrees.{file-ext}
 use Rattle.writing.specs.Source.{renumber}
 use Rattle.writing.proofs.Lent.{rest, back, lent, length-rest}
 use Rattle.front.specs.Front.{directoryAt, frontHeader, frontBytes}

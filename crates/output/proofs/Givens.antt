@@ -7,7 +7,7 @@ use lib.ListN.{drop}
 use Rattle.number.specs.Limits.{rowLimit}
 use Rattle.reader.specs.declared.Layout.{Layout}
 use Rattle.reader.specs.Layout.{Lies}
-use Rattle.rows.specs.Files.{Pair, HoldBoth, Given}
+use Rattle.rows.specs.Files.{HoldBoth, Given}
 
 module _ {s : List ℕ} {l : Layout} {s2 : List ℕ} {l2 : Layout} (g : Given (HoldBoth s (drop (l .pool) s) l s2 (drop (l2 .pool) s2) l2)) where
   pub first-lies : Lies s l

@@ -5,7 +5,7 @@ use mathlib.Core.List.{List}
 use Prim.Native.Nat.{ℕ, _+_, _*_, _≤_, _<_}
 use native.Mathlib.Omega.{arith}
 use lib.ListN.{length}
-use Rattle.number.specs.Limits.{fileLimit, rowLimit}
+use Rattle.number.specs.Limits.{fileLimit}
 use Rattle.key.specs.First.{Filled}
 use Rattle.reader.specs.Values.{Entry}
 use Rattle.normal.specs.Size.{sum}

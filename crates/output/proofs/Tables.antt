@@ -2,30 +2,26 @@
 -- Assumes nothing.
 use mathlib.Core.Path.{_≡_, refl, ap}
 use mathlib.Core.List.{List, [], _∷_}
-use mathlib.Core.Option.{Option, some}
+use mathlib.Core.Option.{Option}
 use Prim.Native.Nat.{ℕ, zero, suc, _+_, _-_, _*_, _≤_, _<_}
 use native.Mathlib.Decide.{ℕ-discrete, decLe}
 use native.Mathlib.Omega.{arith}
 use lib.ListN.{length, getD, length-append}
-use Rattle.number.specs.Limits.{fileLimit, rowLimit}
+use Rattle.number.specs.Limits.{fileLimit}
 use Rattle.key.specs.First.{Filled}
 use Rattle.key.specs.Key.{Key, key}
 use Rattle.reader.specs.Values.{Descriptor, Entry, entry, entryKey, entryDescriptor, noEntry}
 use Rattle.meaning.specs.Meaning.{mapDescriptor}
-use Rattle.normal.specs.Size.{sum}
-use Rattle.iids.specs.Cells.{cell}
 use Rattle.names.specs.Uses.{useLimit}
-use Rattle.stock.specs.Uses.{namesOf, ownWords, keyWords, entryWords, wordsOf, bodyLength, normalLength}
-use Rattle.stock.specs.Pool.{piecesOf, onceAt}
+use Rattle.stock.specs.Uses.{ownWords, keyWords, entryWords, wordsOf, normalLength}
 use Rattle.stock.proofs.Few.{few-uses}
 use Rattle.places.specs.Noted.{startUse, bodyUse}
-use Rattle.pieces.specs.Bodies.{Lying, Body}
+use Rattle.pieces.specs.Bodies.{Lying}
 use Rattle.pooling.specs.Tabled as pooling
 use Rattle.pooling.specs.Tabled.{ownOf, ownAt, oncePool, Tabled, TablesFit}
 use Rattle.filing.specs.Listed.{Listed, ListFits}
 use Rattle.gather.specs.Leading.{shifted, Bodied, OwnLed, Gathered}
 use Rattle.gather.proofs.Owns.{names-mapped}
-use Rattle.gather.proofs.Keys.{key-few}
 use Rattle.output.specs.declared.Measured.{Measured}
 use Rattle.output.specs.Measures.{Measures}
 use Rattle.output.specs.Stores.{Ready}

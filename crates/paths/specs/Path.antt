@@ -2,9 +2,9 @@
 -- Assumes nothing.
 use mathlib.Core.Bool.{Bool}
 use mathlib.Core.List.{List}
-use Prim.Native.Nat.{ℕ}
+use Prim.Native.Nat.{ℕ, zero, suc}
 use lib.IntN.{pos}
-use lib.ListN.{length, getD, take, replicate}
+use lib.ListN.{length, getD, take, drop, replicate}
 use lib.Seq.{sets}
 use Rattle.number.specs.Choice.{if_then_else_, _<?_, _=?_}
 use Rattle.number.specs.Scan.{some}
@@ -33,3 +33,16 @@ judged path =
 -- as many bytes as a path may have, and zeros behind: 4,096 together
 unfoldable pub endedOf : List ℕ → List ℕ
 endedOf path = sets (replicate 4096 0) 0 (take pathLimit path)
+
+-- after the last `/` of the first n bytes; 0 where there is none
+unfoldable pub lastWithin : List ℕ → ℕ → ℕ
+lastWithin path zero = 0
+lastWithin path (suc n) = if getD path n 0 =? 47 then suc n else lastWithin path n
+
+-- where the last part of a path starts
+unfoldable pub lastPart : List ℕ → ℕ
+lastPart path = lastWithin path (length path)
+
+-- the last part
+unfoldable pub ending : List ℕ → List ℕ
+ending path = drop (lastPart path) path

@@ -1,9 +1,9 @@
 // Paths for the calls of the system, which read a path up to a zero byte.
 ghost use mathlib.Core.Path.{_≡_};
-ghost use Prim.Native.Nat.{min};
-ghost use lib.ListN.{replicate};
+ghost use Prim.Native.Nat.{min, _≤_};
+ghost use lib.ListN.{length, replicate};
 ghost use Rattle.libc.specs.Io.{Ended};
-ghost use Rattle.paths.specs.Path.{pathLimit, hasZero, judged, endedOf};
+ghost use Rattle.paths.specs.Path.{pathLimit, hasZero, judged, endedOf, lastPart};
 
 // The longest path: the system reads 4,096 bytes, of which the last is a zero.
 pub const LIMIT: usize = 4095;
@@ -68,4 +68,19 @@ pub fn ended(path: &[u8]) -> [u8; 4096]
     let n = cut(path.len());
     text::put_bytes(&mut all, 0, &path[..n]);
     all
+}
+
+// Where the last part of a path starts: after its last `/`.
+pub fn last_part(path: &[u8]) -> usize
+    ensures { λ r. ⌜ (r ≤ length (now (path .entry))) × (r ≡ lastPart (now (path .entry))) ⌝ }
+{
+    let mut from: usize = 0;
+    let mut i: usize = 0;
+    while i < path.len() {
+        if path[i] == b'/' {
+            from = i + 1;
+        }
+        i += 1;
+    }
+    from
 }

@@ -23,7 +23,7 @@ use Rattle.pile.specs.Pile.{noFiles, Turn, turn, added, ended, onward, addAll, 
 use Rattle.pile.proofs.Rooms.{PileFits, added-fits, ended-fits}
 use Rattle.piling.specs.declared.Went.{Went}
 use Rattle.piling.specs.declared.Went.the-variants as went
-use Rattle.piling.specs.Fetching.{WentOn, ShortEnd, Ends, Store, storeOf, fileIn, Asks, Fetches, begun, Short, Whole, Stopped, Answered}
+use Rattle.piling.specs.Fetching.{WentOn, ShortEnd, Ends, Store, fileIn, Asks, Fetches, begun, Short, Whole, Stopped, Answered}
 
 -- ---- the pile of a list
 

@@ -4,12 +4,12 @@ use mathlib.Core.Path.{_≡_, refl, sym, ap, _∙_}
 use mathlib.Core.Bool.{Bool, true, false}
 use mathlib.Core.List.{List, [], _∷_, _++_, map, append-assoc, append-nil}
 use mathlib.Core.Option.{Option, none, some}
-use Prim.Native.Nat.{ℕ, zero, suc, _+_, _-_, _≤_, _<_}
+use Prim.Native.Nat.{ℕ, suc, _+_, _-_, _≤_, _<_}
 use native.Mathlib.Omega.{arith}
 use lib.ListN.{length, getD, length-append}
-use lib.Seq.{sets, getD-append-seam}
+use lib.Seq.{getD-append-seam}
 use Rattle.number.specs.Choice.{if_then_else_, _=?_}
-use Rattle.number.proofs.Choice.{is-eq, no-eq, yes-eq, not-eq, from-yes-eq}
+use Rattle.number.proofs.Choice.{is-eq, no-eq, yes-eq, not-eq}
 use Rattle.number.proofs.Scans.{clash}
 use Rattle.reader.specs.Values.{Descriptor, Entry}
 use Rattle.normal.specs.Size.{nameSize, descriptorSize}
@@ -17,11 +17,10 @@ use Rattle.normal.specs.Record.{nameBytes}
 use Rattle.stock.specs.Uses.{wordsOf, atFirst, keptSize, ownBody}
 use Rattle.stock.specs.Pool.{Piece, word, body, piecesOf, wordsIn, poolSize, offset, onceAt}
 use Rattle.stock.specs.Form.{descriptorWith, keptBytes, poolWith}
-use Rattle.stock.proofs.Pools.{words-append, words-pieces, size-append, pool-append}
-use Rattle.stock.proofs.Lengths.{length-kept, length-descriptor}
+use Rattle.stock.proofs.Pools.{words-append, words-pieces, size-append}
+use Rattle.stock.proofs.Lengths.{length-descriptor}
 use Rattle.places.proofs.Once.{stored-here}
 use Rattle.pieces.specs.Uses.{reached, usesWith}
-use Rattle.writing.proofs.Lent.{rest, back, lent-after}
 use Rattle.pooling.specs.Tabled.{ownWith}
 
 -- ---- where a word lies, of which the pieces before it are known

@@ -1,21 +1,20 @@
 -- The pieces of entries, cut where their descriptors stand.
 -- Assumes nothing.
-use mathlib.Core.Path.{_≡_, refl, sym, ap, _∙_}
+use mathlib.Core.Path.{_≡_, refl, ap, _∙_}
 use mathlib.Core.Bool.{Bool}
-use mathlib.Core.List.{List, [], _∷_, _++_, map, append-assoc, append-nil}
+use mathlib.Core.List.{List, [], _∷_, _++_, map, append-assoc}
 use mathlib.Core.Option.{Option, none, some}
-use Prim.Native.Nat.{ℕ, zero, suc, _+_, _≤_, _<_}
+use Prim.Native.Nat.{ℕ, zero, suc, _+_, _<_}
 use native.Mathlib.Omega.{arith}
-use lib.ListN.{length, getD, length-append}
-use Rattle.key.specs.Key.{Key}
-use Rattle.reader.specs.Values.{Descriptor, Entry, entry, entryKey, entryDescriptor, noEntry}
-use Rattle.stock.specs.Uses.{namesOf, ownWords, keyWords, entryWords, wordsOf, storedSize}
-use Rattle.stock.specs.Pool.{Piece, word, body, ownPieces, entryPieces, piecesOf, wordsIn, poolSize}
+use lib.ListN.{length, length-append}
+use Rattle.reader.specs.Values.{Descriptor, Entry, entry, entryKey, entryDescriptor}
+use Rattle.stock.specs.Uses.{ownWords, keyWords, entryWords, wordsOf}
+use Rattle.stock.specs.Pool.{Piece, word, ownPieces, entryPieces, piecesOf, wordsIn, poolSize}
 use Rattle.stock.specs.Form.{ownAfter}
 use Rattle.stock.proofs.Pools.{words-map, words-append, entry-words, words-pieces, size-words, size-append}
 use Rattle.places.specs.Noted.{bodyUse}
 use Rattle.pooling.specs.Tabled.{ownOf, ownPlace}
-use Rattle.pooling.proofs.Come.{ownPiece, own-words}
+use Rattle.pooling.proofs.Come.{ownPiece}
 
 -- after the descriptor of entry i
 unfoldable pub after : List (Entry ℕ) → ℕ → List (Piece ℕ)

@@ -1,13 +1,11 @@
 -- The descriptor that a table leads to, if any.
 -- Assumes nothing.
-use mathlib.Core.Path.{_≡_, refl, sym, ap, _∙_}
-use mathlib.Core.List.{List, []}
-use mathlib.Core.Option.{Option, none, some}
-use Prim.Native.Nat.{ℕ, _≤_}
+use mathlib.Core.Path.{_≡_, sym, ap, _∙_}
+use mathlib.Core.List.{List}
+use Prim.Native.Nat.{ℕ}
 use native.Mathlib.Omega.{arith}
 use lib.ListN.{length}
 use lib.Seq.{sets}
-use Rattle.reader.specs.Values.{Descriptor}
 use Rattle.normal.specs.Size.{descriptorSize}
 use Rattle.stock.specs.Uses.{ownBody}
 use Rattle.stock.specs.Form.{descriptorWith}

@@ -3,33 +3,30 @@
 use mathlib.Core.Path.{_≡_, refl, sym, ap, _∙_, subst}
 use mathlib.Core.Bool.{Bool}
 use mathlib.Core.Logic.{inl, inr}
-use mathlib.Core.List.{List, [], _∷_, _++_, map, append-assoc, append-nil}
-use mathlib.Core.Option.{Option, none, some}
-use Prim.Native.Nat.{ℕ, zero, suc, _+_, _-_, _≤_, _<_}
+use mathlib.Core.List.{List, [], _++_, map, append-assoc, append-nil}
+use Prim.Native.Nat.{ℕ, suc, _+_, _-_, _≤_, _<_}
 use native.Mathlib.Omega.{arith}
 use lib.ListN.{length, getD, set, length-append, length-set}
 use lib.Seq.{sets, length-sets, getD-set-same, getD-set-other}
 use Rattle.number.specs.Limits.{fileLimit, rowLimit}
-use Rattle.number.specs.Choice.{if_then_else_, _=?_}
 use Rattle.number.proofs.Choice.{is-eq, no-eq}
 use Rattle.number.proofs.Scans.{below}
-use Rattle.key.specs.First.{Filled}
 use Rattle.iids.specs.Cells.{cell}
-use Rattle.reader.specs.Values.{Descriptor, Entry}
+use Rattle.reader.specs.Values.{Entry}
 use Rattle.normal.specs.Normal.{ownPointer}
 use Rattle.names.specs.Uses.{spelt, Spelt}
 use Rattle.stock.specs.Uses.{wordsOf, atFirst, ownBody}
-use Rattle.stock.specs.Pool.{Piece, word, piecesOf, wordsIn, poolSize, onceAt}
+use Rattle.stock.specs.Pool.{Piece, word, piecesOf, wordsIn, poolSize}
 use Rattle.stock.specs.Form.{poolWith}
-use Rattle.stock.proofs.Pools.{words-map, words-append, size-append, pool-append}
+use Rattle.stock.proofs.Pools.{words-map, words-append, pool-append}
 use Rattle.stock.proofs.Lengths.{length-pool}
 use Rattle.places.specs.Noted.{bodyUse}
 use Rattle.pieces.specs.Uses.{usesWith}
 use Rattle.writing.specs.Wrote.{Room, Wrote}
 use Rattle.writing.proofs.Lent.{rest, back, lent-after, length-rest}
 use Rattle.pooling.specs.Tabled.{OwnLed, ownWith, ownOf, ownPlace, ownAt, oncePool, Tabled, TablesFit, pointedAt, PutPool}
-use Rattle.pooling.proofs.Come.{ownPiece, own-words, own-size, own-pool, length-own, Come, come-start, come-at, come-more, come-total, come-room, come-uses, come-stores}
-use Rattle.pooling.proofs.Cuts.{after, left, Cut, cut, Ending, ending, after-uses, after-size}
+use Rattle.pooling.proofs.Come.{ownPiece, own-words, own-size, own-pool, Come, come-start, come-at, come-more, come-total, come-room, come-uses, come-stores}
+use Rattle.pooling.proofs.Cuts.{after, left, cut, Ending, ending, after-uses, after-size}
 
 -- ---- of entries us, pieces have been put and `left` is to come
 

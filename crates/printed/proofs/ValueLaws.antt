@@ -1,22 +1,19 @@
 -- The text of a number in two's complement, over its width, and of a constant's value.
 -- Assumes nothing.
 use mathlib.Core.Path.{_≡_, refl, sym, ap, _∙_}
-use mathlib.Core.List.{List, _++_}
+use mathlib.Core.List.{List}
 use mathlib.Core.Logic.{inl, inr}
-use Prim.Native.Nat.{ℕ, _+_, _-_, _^_, _≤_, _<_}
-use native.Mathlib.Nat.{pow-suc}
-use native.Mathlib.Numerals.{add-one}
+use Prim.Native.Nat.{ℕ, _+_, _-_, _<_}
 use native.Mathlib.Decide.{ℕ-discrete}
 use native.Mathlib.Omega.{arith}
 use Rattle.number.specs.Number.{be}
-use Rattle.number.proofs.Choice.{is-lt, no-lt, is-eq, no-eq}
+use Rattle.number.proofs.Choice.{is-eq, no-eq}
 use Rattle.number.proofs.Laws.{be-two}
 use Rattle.decimal.specs.Digits.{digitsOf}
 use Rattle.reader.specs.Values.{Constant, constant, constantType, constantValue}
 use Rattle.reader.specs.Records.{Bytes, ShowsConstant}
 use Rattle.reader.specs.Layout.{Stands, Tells}
 use Rattle.lookup.specs.Constant.{signed, valueOf}
-use Rattle.text.specs.Line.{hyphen}
 use Rattle.text.specs.Signed.{signedText}
 use Rattle.printed.specs.Listing.{valueText}
 

@@ -1,15 +1,14 @@
 -- Answers to questions, by the verdict on the file and the place that was found.
 -- Assumes nothing.
-use mathlib.Core.Path.{_≡_, refl, sym, ap, _∙_}
+use mathlib.Core.Path.{_≡_, refl, ap}
 use mathlib.Core.List.{List}
-use mathlib.Core.Option.{Option, none, some}
 use Prim.Native.Nat.{ℕ, _+_, _%_, _≤_, _<_}
 use native.Mathlib.Omega.{arith}
 use lib.ListN.{length, getD}
 use Rattle.number.specs.Limits.{fileLimit}
 use Rattle.number.specs.Number.{le}
 use Rattle.number.proofs.Choice.{from-not-lt}
-use Rattle.reading.specs.Got.{Got, got, bad, next, Accepted}
+use Rattle.reading.specs.Got.{Got, got, bad, Accepted}
 use Rattle.reading.specs.declared.Refusal.{Refusal}
 use Rattle.reading.specs.declared.Verdict.{Verdict}
 use Rattle.reading.specs.declared.Verdict.the-variants as verdict

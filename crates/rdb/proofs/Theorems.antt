@@ -1,14 +1,14 @@
 -- What a check that accepts tells of a file.
 -- Assumes nothing.
-use mathlib.Core.Path.{_≡_, refl, sym, _∙_}
+use mathlib.Core.Path.{_≡_, refl, sym}
 use mathlib.Core.Bool.{Bool, true, false}
 use mathlib.Core.List.{List}
 use mathlib.Core.Logic.{inl, inr}
 use mathlib.Core.Option.{some}
-use Prim.Native.Nat.{ℕ, zero, suc, _+_, _*_, _≤_, _<_}
+use Prim.Native.Nat.{ℕ, zero, suc, _+_, _≤_, _<_}
 use native.Mathlib.Omega.{arith}
 use lib.ListN.{length, getD}
-use Rattle.number.specs.Choice.{if_then_else_, _<?_, _≤?_, _=?_}
+use Rattle.number.specs.Choice.{if_then_else_, _<?_, _≤?_}
 use Rattle.number.proofs.Choice.{both, is-eq, from-yes-eq, from-not-eq}
 use Rattle.number.proofs.Scans.{clash}
 use Rattle.reading.specs.Got.{Got, got, bad, next, Accepted}

@@ -9,7 +9,7 @@ use lib.ListN.{length, getD}
 use Rattle.number.specs.Choice.{if_then_else_, _≤?_}
 use Rattle.number.specs.Number.{le}
 use Rattle.number.proofs.Choice.{is-lt, no-lt, yes-le, not-le}
-use Rattle.reading.specs.Got.{Got, got, Accepted}
+use Rattle.reading.specs.Got.{got, Accepted}
 use Rattle.reading.proofs.Facts.{Facts, fact, f-unless, f-got, f-next, f-read}
 use Rattle.rdb_text.specs.declared.Class.the-variants.{Ascii, Utf8}
 use Rattle.rdb_text.specs.declared.Text.{Text}

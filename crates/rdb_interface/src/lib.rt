@@ -1,5 +1,4 @@
 // Interfaces of a types.rdb.
-ghost use mathlib.Core.Path.{_≡_};
 ghost use Prim.Native.Nat.{_+_, _≤_};
 ghost use lib.ListN.{length};
 ghost use Rattle.number.specs.Limits.{fileLimit};

@@ -1,14 +1,13 @@
 -- Names of a map that rise by their bytes: each is new among those before it.
 -- Assumes nothing.
-use mathlib.Core.Path.{_≡_, refl, sym, ap, _∙_}
-use mathlib.Core.Bool.{Bool, true, false}
+use mathlib.Core.Path.{_≡_, refl, sym, _∙_}
+use mathlib.Core.Bool.{false}
 use mathlib.Core.List.{List}
 use mathlib.Core.Logic.{inl, inr}
 use Prim.Native.Nat.{ℕ, _+_, _-_, _≤_, _<_}
 use native.Mathlib.Omega.{arith}
-use lib.ListN.{length}
 use Rattle.number.specs.Number.{le}
-use Rattle.number.proofs.Scans.{below, clash}
+use Rattle.number.proofs.Scans.{below}
 use Rattle.key.specs.declared.Order.the-variants.{Before}
 use Rattle.key.specs.Word.{wordAt, compareWords}
 use Rattle.key.specs.Key.{Key}
@@ -19,12 +18,10 @@ use Rattle.sorting.specs.Table.{Sorted, Slot, Shifted}
 use Rattle.sorting.proofs.Tables.{sorted-put}
 use Rattle.reading.specs.Got.{stepOf}
 use Rattle.reading.specs.declared.Step.{Step}
-use Rattle.reading.specs.declared.Step.the-variants.{End}
 use Rattle.reading.proofs.Steps.{refused}
 use Rattle.rdb_map.specs.Map.{entryPlace, keyAt, stoodEarlier, readEntry}
 use Rattle.rdb_map.specs.Table.{nameIn}
-use Rattle.rdb_map.specs.Named.{Named, Rising, RiseChecked}
-use Rattle.rdb_map.specs.declared.Rise.{Rise}
+use Rattle.rdb_map.specs.Named.{Rising, RiseChecked}
 use Rattle.rdb_map.specs.declared.Rise.the-variants.{Read, Falls}
 use Rattle.rdb_map.proofs.MapLaws.{earlier-no}
 use Rattle.rdb_map.proofs.NameLaws.{name-same, no-key}

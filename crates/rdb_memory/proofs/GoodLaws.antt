@@ -3,7 +3,7 @@
 use mathlib.Core.Path.{_≡_, refl, sym, ap, _∙_}
 use mathlib.Core.Bool.{Bool, true, false}
 use mathlib.Core.List.{List, _++_}
-use mathlib.Core.Logic.{_⊎_, inl, inr}
+use mathlib.Core.Logic.{inl, inr}
 use Prim.Native.Nat.{ℕ, _+_, _-_, _*_, _/_, _≤_, _<_}
 use native.Mathlib.Omega.{arith}
 use lib.ListN.{length, getD, take, drop, set, length-set, List·getD-append, replicate, length-replicate}
@@ -13,7 +13,7 @@ use Rattle.number.specs.Number.{le}
 use Rattle.number.specs.Choice.{if_then_else_}
 use Rattle.number.proofs.Choice.{no-eq}
 use Rattle.number.proofs.Scans.{clash}
-use Rattle.reading.specs.Got.{Got, got, bad, next, stepOf, Accepted}
+use Rattle.reading.specs.Got.{Got, got, bad, next, stepOf}
 use Rattle.reading.specs.declared.Step.{Step}
 use Rattle.reading.specs.declared.Step.the-variants.{End}
 use Rattle.reading.proofs.Steps.{parts, at-end-as, told}
@@ -24,7 +24,6 @@ use Rattle.rdb_seen.specs.Marks.{marked, Marking}
 use Rattle.rdb_seen.proofs.MarkLaws.{marked-before, zeros, none-marked}
 use Rattle.rdb_text.specs.declared.Class.{Class}
 use Rattle.rdb_text.specs.declared.Class.the-variants.{Ascii, Utf8}
-use Rattle.rdb_text.specs.declared.Text.{Text}
 use Rattle.rdb_text.specs.Field.{uintOf}
 use Rattle.rdb_text.specs.Text.{readLen}
 use Rattle.rdb_text.proofs.TextLaws.{LenAt, len-facts}

@@ -1,6 +1,6 @@
 -- Readers that carry a memory: the laws of steps, with what was learnt on the way.
 -- Assumes nothing.
-use mathlib.Core.Path.{_≡_, refl, sym, ap, _∙_}
+use mathlib.Core.Path.{_≡_, refl, sym, _∙_}
 use mathlib.Core.Bool.{Bool, true, false}
 use mathlib.Core.List.{List}
 use Prim.Native.Nat.{ℕ, _+_, _-_, _≤_, _<_}
@@ -12,7 +12,6 @@ use Rattle.reading.specs.Got.{Got, got, next, many, stepOf}
 use Rattle.reading.specs.declared.Step.{Step}
 use Rattle.reading.specs.declared.Step.the-variants.{End}
 use Rattle.reading.proofs.Steps.{refused, is-true, is-false, told, next-refused, next-last, turn-next, turn-refused, turn-done}
-use Rattle.rdb_seen.specs.Marks.{marked}
 use Rattle.rdb_text.specs.Field.{byteAt, uint, counted}
 use Rattle.rdb_text.proofs.FieldLaws.{byte-in, uint-in, counted-in}
 use Rattle.rdb_memory.specs.Memory.{Remembers, Learnt, Judged}

@@ -1,12 +1,12 @@
 -- A path's words are the words without a dot that join to it.
 -- Assumes nothing.
-use mathlib.Core.Path.{_≡_, refl, sym, ap, _∙_}
+use mathlib.Core.Path.{_≡_, refl, ap, _∙_}
 use mathlib.Core.Bool.{Bool, true, false}
 use mathlib.Core.List.{List, [], _∷_, _++_}
 use Prim.Native.Nat.{ℕ}
 use native.Mathlib.Omega.{arith}
 use Rattle.number.specs.Choice.{if_then_else_, _=?_}
-use Rattle.number.proofs.Choice.{both, is-false, from-not-eq}
+use Rattle.number.proofs.Choice.{both, from-not-eq}
 use Rattle.rdb_path.specs.Path.{onto, cut, joined}
 use Rattle.rdb_path.specs.Claim.{hasDot, dotless, CutClaim}
 use Rattle.rdb_path.proofs.Words.{cut-none, cut-dot, cut-byte, cut-joined}

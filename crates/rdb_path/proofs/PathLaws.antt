@@ -1,10 +1,10 @@
 -- What the code finds, against the definitions: entries by their names, and one word of a path after another.
 -- Assumes nothing.
 use mathlib.Core.Path.{_≡_, refl, sym, ap, _∙_}
-use mathlib.Core.Bool.{Bool, true, false}
+use mathlib.Core.Bool.{Bool, false}
 use mathlib.Core.List.{List, [], _∷_}
 use mathlib.Core.Option.{Option, none, some}
-use Prim.Native.Nat.{ℕ, zero, suc, _+_, _-_, _*_, _≤_, _<_}
+use Prim.Native.Nat.{ℕ, _+_, _-_, _≤_, _<_}
 use native.Mathlib.Omega.{arith}
 use lib.ListN.{length, getD, take, drop}
 use Rattle.number.specs.Choice.{if_then_else_, _=?_}
@@ -19,7 +19,7 @@ use Rattle.rdb_file.specs.Visit.{countPlace, mapPlace}
 use Rattle.rdb_file.specs.Kind.{moduleKind, groupKind, kindOf}
 use Rattle.rdb_path.specs.declared.Place.{Place}
 use Rattle.rdb_path.specs.declared.Place.the-variants.{At, Nowhere}
-use Rattle.rdb_path.specs.Path.{dotAt, cut, front, last, isCalled, payloadAt, payloadOf, andThen, entityIn, entityAt, constantIn, constantAt}
+use Rattle.rdb_path.specs.Path.{cut, front, last, isCalled, payloadAt, payloadOf, andThen, entityIn, entityAt, constantIn, constantAt}
 use Rattle.rdb_path.specs.Place.{placeOf}
 use Rattle.rdb_path.proofs.Words.{First, cut-some}
 

@@ -4,16 +4,15 @@ use mathlib.Core.Path.{_≡_, refl, sym, ap, _∙_, subst}
 use mathlib.Core.Bool.{Bool, true, false}
 use mathlib.Core.List.{List, [], _∷_}
 use mathlib.Core.Option.{Option, none, some}
-use Prim.Native.Nat.{ℕ, zero, suc, _+_, _-_, _*_, _≤_, _<_}
+use Prim.Native.Nat.{ℕ, zero, suc, _+_, _-_, _≤_, _<_}
 use native.Mathlib.Omega.{arith}
 use lib.ListN.{length, getD}
 use Rattle.number.specs.Choice.{if_then_else_, _<?_, _=?_}
 use Rattle.number.specs.Number.{le}
 use Rattle.number.specs.Scan.{scan}
 use Rattle.number.proofs.Choice.{both, from-yes-lt, from-yes-eq, from-not-eq, from-not-lt}
-use Rattle.number.proofs.Scans.{clash}
-use Rattle.reading.specs.Got.{Got, got, bad, next, many, Accepted}
-use Rattle.reading.proofs.Steps.{passed, parts}
+use Rattle.reading.specs.Got.{Got, got, many, Accepted}
+use Rattle.reading.proofs.Steps.{parts}
 use Rattle.reading.proofs.Facts.{Facts, fact, f-if, f-unless, f-bad, f-next, f-read}
 use Rattle.reading.proofs.Rows.{many-first, many-empty}
 use Rattle.rdb_text.proofs.FieldLaws.{f-byte, f-uint}
@@ -28,7 +27,7 @@ use Rattle.rdb_file.specs.Visit.{countPlace, mapPlace, Sound, each, alone, visi
 use Rattle.rdb_file.specs.File.{rootAt, rootCount, readRoot, readFile}
 use Rattle.rdb_file.proofs.VisitLaws.{map-entered, entry-is}
 use Rattle.rdb_path.specs.Path.{payloadAt, payloadOf, isCalled, andThen, entityIn, entityAt, constantIn, constantAt, front, last}
-use Rattle.rdb_path.specs.Reached.{Keyed, Holds, Visited, Reached, Checked}
+use Rattle.rdb_path.specs.Reached.{Holds, Visited, Reached, Checked}
 
 -- ---- a map that was read, and what its entries lead to
 

@@ -2,7 +2,7 @@
 -- Assumes nothing.
 use mathlib.Core.Path.{_≡_, refl, sym, ap, _∙_, subst}
 use mathlib.Core.List.{List, []}
-use mathlib.Core.Option.{Option, none, some}
+use mathlib.Core.Option.{Option, none}
 use Prim.Native.Nat.{ℕ, _+_, _-_, _≤_, _<_}
 use native.Mathlib.Omega.{arith}
 use lib.ListN.{length, getD, take, drop}
@@ -15,7 +15,7 @@ use Rattle.rdb_file.specs.File.{rootAt, rootCount}
 use Rattle.rdb_file.specs.Kind.{moduleKind, groupKind, kindOf}
 use Rattle.rdb_path.specs.declared.Place.{Place}
 use Rattle.rdb_path.specs.declared.Place.the-variants.{At, Nowhere}
-use Rattle.rdb_path.specs.Path.{dotAt, cut, front, last, payloadOf, entityIn, entityAt, constantIn, constantAt}
+use Rattle.rdb_path.specs.Path.{dotAt, cut, front, payloadOf, entityIn, entityAt, constantIn, constantAt}
 use Rattle.rdb_path.specs.Place.{placeOf}
 use Rattle.rdb_path.specs.Reached.{Keyed, Visited, Reached, Checked, LastWord}
 use Rattle.rdb_path.proofs.Words.{First, first-word, word-only, word-last}

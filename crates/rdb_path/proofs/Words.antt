@@ -8,7 +8,7 @@ use native.Mathlib.Omega.{arith}
 use native.Mathlib.Numerals.{add-one}
 use lib.ListN.{length, getD, take, drop, drop-of-length-le}
 use lib.Seq.{drop-cons}
-use Rattle.number.specs.Choice.{if_then_else_, _=?_}
+use Rattle.number.specs.Choice.{_=?_}
 use Rattle.number.specs.Scan.{scan}
 use Rattle.number.proofs.Choice.{both, is-eq, no-eq, from-yes-eq, from-not-eq}
 use Rattle.rdb_path.specs.Path.{dotAt, onto, cut, front, last, joined}

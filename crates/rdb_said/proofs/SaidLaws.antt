@@ -7,7 +7,7 @@ use Rattle.reading.specs.Got.{Accepted}
 use Rattle.text.specs.Line.{newline}
 use Rattle.said.specs.declared.Why.the-variants.{Answered}
 use Rattle.said.specs.Texts.{found}
-use Rattle.said.specs.Saying.{Saying, saying}
+use Rattle.said.specs.Saying.{saying}
 use Rattle.rdb_record.specs.Constant.{readConstant}
 use Rattle.rdb.specs.declared.ConstantAnswer.{ConstantAnswer}
 use Rattle.rdb.specs.Questions.{constantSaid}

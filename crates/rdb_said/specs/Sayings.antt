@@ -4,7 +4,6 @@ use mathlib.Core.List.{List, _++_}
 use Prim.Native.Nat.{ℕ}
 use Rattle.decimal.specs.Digits.{digitsOf}
 use Rattle.text.specs.Line.{space, newline}
-use Rattle.said.specs.declared.Why.{Why}
 use Rattle.said.specs.declared.Why.the-variants.{Answered, Refused}
 use Rattle.said.specs.Texts.{found, noneLine, refusedLine}
 use Rattle.said.specs.Saying.{Saying, saying, sayVerdict}

@@ -7,19 +7,16 @@ use Prim.Native.Nat.{ℕ, zero, suc, _+_, _-_, _*_, _/_, _%_, _^_, _≤_, _<_}
 use native.Mathlib.Nat.{pow-suc}
 use native.Mathlib.Numerals.{add-one}
 use native.Mathlib.Omega.{arith}
-use lib.ListN.{length, getD}
+use lib.ListN.{getD}
 use lib.Seq.{sets}
-use lib.Ieee.{binary32, binary64, nanBits, ofBits, toBits}
-use Rattle.number.specs.Choice.{if_then_else_, _=?_}
+use lib.Ieee.{binary32, binary64, nanBits, ofBits}
 use Rattle.number.specs.Number.{little, be, le, big}
 use Rattle.number.proofs.Choice.{is-eq, no-eq, both, yes-eq, not-eq}
 use Rattle.number.proofs.Laws.{num-add, num-one}
-use Rattle.decimal.specs.Digits.{digitsOf}
 use Rattle.decimal.proofs.Stores.{chain}
 use Rattle.text.specs.Hex.{hexDigit, hexOf}
 use Rattle.text.proofs.HexLaws.{length-hex}
 use Rattle.signed.specs.Bits.{signed}
-use Rattle.text.specs.Signed.{signedText}
 use Rattle.text.specs.Writing.{Wrote}
 use Rattle.rdb_record.specs.Constant.{valueSize}
 use Rattle.rdb_value.specs.declared.Value.{Value}

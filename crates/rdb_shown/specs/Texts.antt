@@ -1,6 +1,6 @@
 -- The value of a constant of a types.rdb as it is printed: its kind and its value, FLOAT and DOUBLE as their stored bits.
 -- Assumes nothing.
-use mathlib.Core.Bool.{Bool, true, false}
+use mathlib.Core.Bool.{true, false}
 use mathlib.Core.List.{List, _++_}
 use Prim.Native.Nat.{ℕ}
 use lib.Ieee.{binary32, binary64, toBits}

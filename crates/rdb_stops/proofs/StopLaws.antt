@@ -9,7 +9,6 @@ use native.Mathlib.Omega.{arith}
 use lib.ListN.{length, set}
 use lib.Seq.{getD-set-same, getD-set-other}
 use Rattle.number.specs.Choice.{_≤?_}
-use Rattle.number.specs.Scan.{scan}
 use Rattle.number.proofs.Choice.{from-yes-le, from-not-le}
 use Rattle.number.proofs.Scans.{below, scan-range, scan-found, scan-before, scan-is}
 use Rattle.rdb_stops.specs.Stops.{block, firstFrom, Stops, endsName, nameEnd}

@@ -2,12 +2,12 @@
 -- Assumes nothing.
 use mathlib.Core.Path.{_≡_, refl, sym, _∙_}
 use mathlib.Core.List.{List}
-use Prim.Native.Nat.{ℕ, _+_, _≤_, _<_}
+use Prim.Native.Nat.{ℕ, _+_, _≤_}
 use native.Mathlib.Omega.{arith}
 use lib.ListN.{length}
 use Rattle.number.specs.Number.{le}
 use Rattle.number.proofs.Choice.{from-not-lt}
-use Rattle.reading.specs.Got.{Got, got, stepOf}
+use Rattle.reading.specs.Got.{got, stepOf}
 use Rattle.reading.specs.declared.Step.{Step}
 use Rattle.reading.specs.declared.Step.the-variants.{End}
 use Rattle.reading.proofs.Steps.{told}

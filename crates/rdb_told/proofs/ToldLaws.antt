@@ -9,7 +9,7 @@ use lib.ListN.{length, take, drop, length-append, length-drop, drop-of-length-le
 use lib.Seq.{sets, length-sets, take-all, length-take-le}
 use Rattle.number.specs.Limits.{fileLimit}
 use Rattle.number.proofs.Choice.{both, yes-le, not-le, from-yes-lt, from-not-lt, is-eq, no-eq}
-use Rattle.number.specs.Choice.{if_then_else_, _<?_, _=?_}
+use Rattle.number.specs.Choice.{_<?_, _=?_}
 use Rattle.reading.specs.Got.{Got, got, bad}
 use Rattle.decimal.specs.Digits.{digitsOf}
 use Rattle.decimal.proofs.Laws.{length-u64}

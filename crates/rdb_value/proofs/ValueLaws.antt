@@ -7,9 +7,9 @@ use Prim.Native.Nat.{ℕ, _+_, _*_, _%_, _^_, _≤_, _<_}
 use native.Mathlib.Omega.{arith}
 use borrow.Author.Tests.{lt-ltb, le-ltb}
 use lib.Dec.{T}
-use lib.Ieee.{Format, binary32, binary64, ones, hid, top, nanBits, ofBits, toBits, isNan}
+use lib.Ieee.{Format, binary32, binary64, ones, hid, top, nanBits, ofBits, isNan}
 use lib.Ieee.Bits.{nanBits-above, nanBits-is, toBits-ofBits}
-use Rattle.number.specs.Choice.{if_then_else_, _=?_}
+use Rattle.number.specs.Choice.{_=?_}
 use Rattle.number.specs.Number.{le}
 use Rattle.number.proofs.Choice.{is-eq, no-eq, both, from-yes-eq, from-not-eq}
 use Rattle.signed.specs.Bits.{signed}

@@ -10,7 +10,7 @@ ghost use Prim.Native.Nat.{_+_, _≤_};
 ghost use lib.ListN.{length};
 ghost use Rattle.number.specs.Choice.{if_then_else_};
 ghost use Rattle.reader.specs.Rules.{isIdentifier};
-ghost use Rattle.failures.specs.Room.{room, wordLimit};
+ghost use Rattle.failures.specs.Room.{wordLimit};
 ghost use Rattle.remarks.specs.Words.{faultyWord};
 
 // By the name of a malformed question: 3 where it is at fault, else the other word.

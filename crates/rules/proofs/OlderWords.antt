@@ -1,6 +1,6 @@
 -- What was accepted before #103 still is, with the same value: its identifiers and texts are identifiers and texts, and no other rule asks for them.
 -- Assumes nothing.
-use mathlib.Core.Path.{_≡_, refl}
+use mathlib.Core.Path.{_≡_}
 use mathlib.Core.Logic.{_⊎_, inl, inr}
 use mathlib.Core.List.{List, [], _∷_}
 use mathlib.Core.Option.{Option, none, some}
@@ -11,14 +11,14 @@ use Rattle.reading.specs.Got.{got}
 use Rattle.key.specs.Key.{key}
 use Rattle.utf8.proofs.Chars.{ascii-chars}
 use Rattle.head.specs.Annotation.{Annotation, empty, texts}
-use Rattle.head.specs.Shows.{ShowsText, ShowsNote, Marks, ShowsNotes}
+use Rattle.head.specs.Shows.{ShowsText, ShowsNote, ShowsNotes}
 use Rattle.method.specs.Method.{signature, Method, method}
 use Rattle.descriptor.specs.Constant.{Constant, constant}
 use Rattle.descriptor.specs.Descriptor.{Descriptor, descriptor}
 use Rattle.typelib.specs.Entry.{Entry, entry}
 use Rattle.typelib.specs.Typelib.{Typelib, typelib, readTypelib}
 use Rattle.rules.specs.Shows.{Bytes, ShowsTypelib, ShowsTypelibOf}
-use Rattle.rules.specs.Rules.{All, Identifier, MethodRuleOf, MethodRule, ConstantRuleOf, ConstantRule, DescriptorRuleOf, DescriptorRule, OwnRuleOf, OwnRule, EntryRuleOf, EntryRule, TypelibRuleOf, TypelibRule}
+use Rattle.rules.specs.Rules.{Identifier, MethodRuleOf, ConstantRuleOf, DescriptorRuleOf, OwnRuleOf, EntryRuleOf, TypelibRuleOf}
 use Rattle.rules.specs.OlderWords.{OlderLetter, OlderIdentifier, OlderText, OlderAccepted}
 use Rattle.rules.proofs.Alls.{all-at, at-all, all-map}
 use Rattle.rules.proofs.Whole.{shown-accepted}

@@ -10,7 +10,7 @@ use Rattle.head.specs.Annotation.{empty}
 use Rattle.typelib.specs.Entry.{entry}
 use Rattle.typelib.specs.Typelib.{Typelib, typelib}
 use Rattle.reader.specs.Reader.Marked.{P3, says3}
-use Rattle.mend.specs.Left.{Report, report, Left, left}
+use Rattle.mend.specs.Left.{Report, report, Left}
 
 -- P7 to P10: its own parent, a parent that there is not, a constant's type, reserved flags; and a descriptor pointer that leads out
 unfoldable pub ownParent : List ℕ

@@ -2,11 +2,10 @@
 -- Assumes nothing.
 use mathlib.Core.Path.{_≡_, refl, sym, ap, _∙_}
 use mathlib.Core.Bool.{Bool}
-use mathlib.Core.List.{List, map}
+use mathlib.Core.List.{List}
 use Prim.Native.Nat.{ℕ, _≤_}
 use native.Mathlib.Omega.{arith}
 use lib.ListN.{length}
-use lib.Seq.{sets}
 use Rattle.reading.specs.declared.Refusal.{Refusal}
 use Rattle.joining.specs.Outcome.{Outcome, refused, written, after, normalisedAs}
 use Rattle.joining.specs.declared.Normalised.the-variants as normalised
@@ -19,7 +18,6 @@ use Rattle.said.specs.declared.Said.{Said}
 use Rattle.said.specs.declared.Why.the-variants as why
 use Rattle.said.specs.Texts.{refusedLine}
 use Rattle.said.specs.Saying.{Says, saying}
-use Rattle.said.proofs.SayingLaws.{says-as}
 use Rattle.salvaging.specs.Text.{sayingSalvaged, salvageIn, salvageSaying, salvageAnswer, salvageBuffer}
 use Rattle.salvaging.specs.Lists.{listText}
 use Rattle.salvaging.specs.Tells.{Tells}

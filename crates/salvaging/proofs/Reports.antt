@@ -1,23 +1,21 @@
 -- There are no more reports than a file may have entries.
 -- Assumes nothing.
-use mathlib.Core.Path.{_≡_, refl, ap}
+use mathlib.Core.Path.{_≡_, refl}
 use mathlib.Core.List.{List, [], _∷_}
 use mathlib.Core.Option.{Option, none, some}
 use Prim.Native.Nat.{ℕ, _≤_}
 use native.Mathlib.Omega.{arith}
 use lib.ListN.{length}
-use Rattle.number.specs.Choice.{_<?_}
 use Rattle.number.proofs.Choice.{both}
 use Rattle.reading.specs.Got.{Got, got, bad, next}
 use Rattle.head.specs.declared.Header.{Header}
 use Rattle.head.specs.Annotation.{Annotation}
-use Rattle.directory.specs.Directory.{Row}
 use Rattle.typelib.specs.Entry.{Entry}
-use Rattle.typelib.specs.Typelib.{Front, front, Fronted, readFront}
+use Rattle.typelib.specs.Typelib.{Front, front, readFront}
 use Rattle.typelib.proofs.FrontLaws.{fronted-header}
 use Rattle.bridge.specs.Span.{span}
 use Rattle.bridge.proofs.Spans.{length-span}
-use Rattle.mend.specs.Left.{Report, reportOf, prepend, present, reportsOf, Left, left, leftBehind, behindFront, readLeft}
+use Rattle.mend.specs.Left.{reportOf, prepend, present, reportsOf, Left, leftBehind, behindFront, readLeft}
 use Rattle.salvage.specs.Salvage.{reportsIn}
 
 present-few : {X : Type 0} (os : List (Option X)) → length (present os) ≤ length os

@@ -1,7 +1,6 @@
 // An output put in place whole: written to a temporary file in the same folder, then renamed.
 use paths::Judged;
 use standing::Decision;
-ghost use mathlib.Core.Path.{_≡_};
 ghost use Prim.Native.Nat.{_≤_};
 ghost use Rattle.paths.specs.Path.{judged};
 ghost use Rattle.saving.specs.Saving.{Told, Carried};
@@ -29,7 +28,7 @@ fn process() -> u64 {
 fn name_beside(path: &[u8], k: u64, name: &mut [u8; 4096]) -> usize
     ensures { λ r. ⌜ r ≤ 4096 ⌝ }
 {
-    let n = kept::last_part(path);
+    let n = paths::last_part(path);
     if 4000 < n {
         return 4096;
     }

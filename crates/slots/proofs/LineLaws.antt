@@ -1,9 +1,8 @@
 -- The texts in a line of a table.
 -- Assumes nothing.
-use mathlib.Core.Path.{_≡_, refl, sym}
+use mathlib.Core.Path.{_≡_, refl}
 use mathlib.Core.List.{List, _++_}
 use Prim.Native.Nat.{ℕ, _-_, _/_, _%_, _≤_}
-use native.Mathlib.Omega.{arith}
 use lib.ListN.{length, drop}
 use Rattle.number.proofs.Choice.{is-true, is-false, yes-eq, not-eq}
 use Rattle.key.specs.Word.{Leads, wordAt}

@@ -1,11 +1,11 @@
 -- Two files that show entries: how many, their rules, and the refusals that their rows show.
 -- Assumes nothing.
-use mathlib.Core.Path.{_≡_, ap, _∙_}
+use mathlib.Core.Path.{_≡_}
 use mathlib.Core.Bool.{Bool, true, false}
 use mathlib.Core.List.{List}
 use Prim.Native.Nat.{ℕ, _+_, _-_, _≤_, _<_}
 use native.Mathlib.Omega.{arith}
-use lib.ListN.{length, take, drop}
+use lib.ListN.{length}
 use Rattle.number.specs.Scan.{scan, some}
 use Rattle.number.proofs.Choice.{yes-lt, not-lt}
 use Rattle.reader.specs.declared.Layout.{Layout}

@@ -4,7 +4,6 @@ use mathlib.Core.Path.{_≡_}
 use mathlib.Core.Bool.{false}
 use mathlib.Core.List.{List}
 use Prim.Native.Nat.{ℕ, _≤_, _<_}
-use lib.ListN.{length}
 use Rattle.number.specs.Scan.{some}
 use Rattle.key.specs.First.{firstSame, Filled}
 use Rattle.sorting.specs.Table.{Rowed}

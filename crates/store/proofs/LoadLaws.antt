@@ -14,7 +14,8 @@ use Rattle.number.proofs.Scans.{clash}
 use Rattle.words.specs.declared.Span.{Span}
 use Rattle.paths.specs.Path.{pathLimit}
 use Rattle.input.specs.declared.Came.the-variants.{To, Failed}
-use Rattle.input.specs.File.{fileMost, StandsBehind, FirstBytes}
+use Rattle.number.specs.Limits.{fileMost}
+use Rattle.input.specs.File.{StandsBehind, FirstBytes}
 use Rattle.input.proofs.FileLaws.{full-first}
 use Rattle.kept.specs.declared.Kept.{Kept}
 use Rattle.kept.specs.Names.{forgottenState, rowOf, rowAdded, oneMore}

@@ -10,7 +10,8 @@ use Rattle.number.specs.Part.{part}
 use Rattle.input.specs.declared.Came.{Came}
 use Rattle.input.specs.declared.Came.the-variants as came
 use Rattle.input.specs.Came.{CameIn}
-use Rattle.input.specs.File.{fileMost, isInput, FirstBytes}
+use Rattle.number.specs.Limits.{fileMost}
+use Rattle.input.specs.File.{isInput, FirstBytes}
 use Rattle.kept.specs.declared.Kept.{Kept}
 use Rattle.kept.specs.Table.{Tidy}
 use Rattle.kept.specs.Room.{fileBytes}

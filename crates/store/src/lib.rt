@@ -1,16 +1,16 @@
 // Files by name, read where they are not kept from an earlier command of the batch (crate `kept`).
 use input::Begun;
 use input::Came;
-use input::FILE_MOST;
 use kept::Kept;
 use kept::STORE_ROOM;
+use number::FILE_MOST;
 use words::Span;
 ghost use mathlib.Core.Path.{_≡_};
 ghost use mathlib.Core.Bool.{false};
 ghost use Prim.Native.Nat.{_+_, _≤_, _<_};
 ghost use lib.ListN.{length};
 ghost use Rattle.paths.specs.Path.{pathLimit};
-ghost use Rattle.input.specs.File.{fileMost};
+ghost use Rattle.number.specs.Limits.{fileMost};
 ghost use Rattle.kept.specs.Names.{forgottenState};
 ghost use Rattle.kept.specs.Table.{Tidy};
 ghost use Rattle.kept.specs.Room.{Roomy};

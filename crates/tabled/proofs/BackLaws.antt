@@ -1,25 +1,24 @@
 -- A table has no tab of its own, whatever its names are: in a batch, tabs turned back into newlines give the table.
 -- Assumes nothing.
-use mathlib.Core.Path.{_≡_, refl, ap}
-use mathlib.Core.Bool.{true, false}
+use mathlib.Core.Path.{_≡_, refl}
 use mathlib.Core.Logic.{inl}
 use mathlib.Core.List.{List, [], _∷_, _++_}
-use mathlib.Core.Option.{Option, none, some}
+use mathlib.Core.Option.{Option, some}
 use Prim.Native.Nat.{ℕ, zero, suc, _+_, _-_}
-use lib.ListN.{length, getD}
+use lib.ListN.{length}
 use Rattle.number.specs.Choice.{if_then_else_, _=?_}
 use Rattle.number.proofs.Choice.{both}
 use Rattle.reading.specs.Got.{got}
-use Rattle.key.specs.Key.{Key, key, keySpace, keyName}
-use Rattle.reader.specs.Values.{signature, Method, method, methodFlags, methodName, argumentCount, Descriptor, descriptor, methodsOf, parentOf, Entry, entry, entryKey, noEntry, keysIn, Typelib, entriesIn}
+use Rattle.key.specs.Key.{key, keySpace, keyName}
+use Rattle.reader.specs.Values.{signature, Method, method, methodFlags, methodName, argumentCount, Descriptor, descriptor, methodsOf, Entry, entry, entryKey, noEntry, keysIn, Typelib, entriesIn}
 use Rattle.reader.specs.Rules.{All, MethodRule, DescriptorRule, EntryRule}
 use Rattle.reader.specs.Reader.{decode}
 use Rattle.lookup.specs.declared.Kind.the-variants.{Getter, Setter}
-use Rattle.lookup.specs.Chain.{Level, level, Ending, root, unresolved, Chain, chain, levels, under, chainWithin, descriptorAt, chainOf}
-use Rattle.lookup.specs.Method.{SlotOf, slotOf, isKind}
+use Rattle.lookup.specs.Chain.{Level, level, Ending, root, unresolved, Chain, chain, levels, chainWithin, descriptorAt, chainOf}
+use Rattle.lookup.specs.Method.{isKind}
 use Rattle.lookup.specs.Question.{slotAs}
-use Rattle.lookup.proofs.ChainLaws.{Way, open-ended, topmost, onward, way, under-levels, within-unresolved, within-top, within-child, rule-within, accepted-entries}
-use Rattle.said.specs.Texts.{undetermined, numbered}
+use Rattle.lookup.proofs.ChainLaws.{open-ended, topmost, onward, way, under-levels, within-unresolved, within-top, within-child, rule-within, accepted-entries}
+use Rattle.said.specs.Texts.{undetermined}
 use Rattle.lines.specs.Tabs.{tabbed, untabbed}
 use Rattle.lines.proofs.BackLaws.{Tabless, no-tabs, tabless-append, tabless-after, tabless-back, tabless-digits, tabless-looked, tabless-namespace, tabless-newline, tabless-slot, tabless-word, tabsIn}
 use Rattle.slots.specs.Table.{getterWord, setterWord, plainWord, kindText, Row, row, ownRows, levelRows, rowsOn, ownerText, callText, rowLine, rowLines, headLine, chainText, tableOf}

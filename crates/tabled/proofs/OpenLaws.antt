@@ -4,7 +4,7 @@ use mathlib.Core.Path.{_≡_, refl, sym, ap, _∙_}
 use mathlib.Core.Bool.{Bool, true, false}
 use mathlib.Core.List.{List, [], _++_, append-assoc}
 use mathlib.Core.Option.{Option, none, some}
-use Prim.Native.Nat.{ℕ, _≤_}
+use Prim.Native.Nat.{ℕ}
 use native.Mathlib.Omega.{arith}
 use lib.ListN.{length, take, drop}
 use Rattle.number.proofs.Choice.{both}
@@ -33,7 +33,7 @@ use Rattle.lines.specs.declared.Cursor.the-variants.{AtTable}
 use Rattle.said.specs.declared.Said.{Said}
 use Rattle.said.specs.declared.Why.the-variants.{Answered}
 use Rattle.said.specs.Texts.{undetermined, numbered}
-use Rattle.said.specs.Saying.{answerRoom, Saying, Says, saying}
+use Rattle.said.specs.Saying.{answerRoom, Says, saying}
 use Rattle.sayings.specs.Sayings.{sayInterface}
 use Rattle.listed.specs.declared.Rest.{Rest}
 use Rattle.listed.specs.declared.Opened.{Opened}

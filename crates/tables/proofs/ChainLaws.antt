@@ -1,11 +1,10 @@
 -- Chains of rows in a table.
 -- Assumes nothing.
-use mathlib.Core.Path.{_≡_, refl, sym, ap, _∙_}
+use mathlib.Core.Path.{_≡_, refl}
 use mathlib.Core.List.{List}
 use Prim.Native.Nat.{ℕ, suc, _+_}
 use native.Mathlib.Omega.{arith}
 use Rattle.number.specs.Scan.{scan}
-use Rattle.number.proofs.Scans.{scan-ext}
 use Rattle.heights.specs.Climb.{goesOn, rowAbove, Within}
 use Rattle.tables.specs.Chains.{endlessRow}
 use Rattle.iids.specs.Cells.{cell, AtMost}

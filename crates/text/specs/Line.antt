@@ -3,7 +3,6 @@
 use mathlib.Core.List.{List, [], _∷_, _++_}
 use Prim.Native.Nat.{ℕ}
 use Rattle.decimal.specs.Digits.{digitsOf}
-use Rattle.reading.specs.declared.Refusal.{Refusal}
 use Rattle.reading.specs.declared.Verdict.{Verdict}
 use Rattle.reading.specs.declared.Verdict.the-variants.{Accepted, Refused}
 

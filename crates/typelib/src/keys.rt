@@ -1,7 +1,7 @@
 // Keys that stand twice.
 ghost use mathlib.Core.Path.{_≡_};
 ghost use Prim.Native.Nat.{_+_, _≤_, _<_};
-ghost use lib.ListN.{length, getD};
+ghost use lib.ListN.{length};
 ghost use Rattle.number.specs.Limits.{fileLimit, entryLimit};
 ghost use Rattle.number.specs.Scan.{scan};
 ghost use Rattle.key.specs.First.{Filled};

@@ -1,7 +1,5 @@
 // The check of a whole file.
 ghost use mathlib.Core.Path.{_≡_};
-ghost use Prim.Native.Nat.{_≤_};
-ghost use lib.ListN.{length};
 ghost use Rattle.typelib.specs.Across.{readAcross};
 ghost use Rattle.typelib.specs.Directory.{Lies, Named, Rooted, keyOn, aboveOn};
 ghost use Rattle.typelib.specs.Typelib.{Fronted, poolOf, readTypelib, countOf, verdictOf};

@@ -1,7 +1,6 @@
 -- `adopt::adopt_headed` meets its contract.
 -- Assumes nothing.
 use Rattle.number.proofs.Tools.{refl, arith, needs}
-use Rattle.adopt.specs.Adopt.{movedOf}
 use Rattle.adopt.proofs.Answers as answers
 use Rattle.adopt.proofs.adopt_headed.Statement.{statement}
 use Rattle.adopt.proofs.adopt_headed.Tie as tie

@@ -1,9 +1,6 @@
 -- `adopt::put_head` meets its contract: one field after another.
 -- Assumes nothing.
-use Rattle.number.proofs.Tools.{arith, needs, ap, _∙_}
-use Rattle.number.specs.Number.{be}
-use lib.Seq.{sets}
-use Rattle.normal.specs.BigEndian.{bytesOf}
+use Rattle.number.proofs.Tools.{arith, needs}
 use Rattle.adopt.proofs.Stored.{head-stored}
 use Rattle.adopt.proofs.put_head.Statement.{statement}
 use Rattle.adopt.proofs.put_head.Tie as tie

@@ -2,7 +2,7 @@
 -- Assumes nothing.
 use lib.ListN.{length-set, replicate}
 use lib.Seq.{sets}
-use Rattle.number.proofs.Tools.{_≡_, refl, ap, _∙_, _+_, _-_, _≤_, arith, length}
+use Rattle.number.proofs.Tools.{_≡_, refl, _+_, _-_, _≤_, arith, length}
 use Rattle.adopt.proofs.Stored.{zeros-more}
 use Rattle.adopt.proofs.put_zeros.Statement.{statement}
 use Rattle.adopt.proofs.put_zeros.Tie as tie

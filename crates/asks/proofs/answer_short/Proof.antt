@@ -7,7 +7,8 @@ use lib.IntN.{ℤ}
 use lib.Seq.{length-take-le}
 use Rattle.number.proofs.Tools.{sym, subst, ℕ, arith, needs, length, take}
 use Rattle.input.specs.declared.Begun.{Begun}
-use Rattle.input.specs.File.{fileMost, StandsBehind, Unread, Begins}
+use Rattle.number.specs.Limits.{fileMost}
+use Rattle.input.specs.File.{StandsBehind, Unread, Begins}
 use Rattle.input.proofs.FileLaws.{in-room}
 use Rattle.asks.specs.Asked.{nameIn}
 use Rattle.asks.proofs.answer_short.Statement.{statement}

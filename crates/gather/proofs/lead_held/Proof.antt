@@ -1,6 +1,6 @@
 -- `gather::lead_held` meets its contract.
 -- Assumes nothing.
-use Rattle.number.proofs.Tools.{arith, needs, _∙_}
+use Rattle.number.proofs.Tools.{arith, _∙_}
 use Rattle.gather.proofs.Leads as laws
 use Rattle.gather.proofs.lead_held.Statement.{statement}
 use Rattle.gather.proofs.lead_held.Tie as tie

@@ -1,7 +1,7 @@
 -- `gather::lead_rows` meets its contract.
 -- Assumes nothing.
 use lib.ListN.{length-set}
-use Rattle.number.proofs.Tools.{arith, needs, refl, length, _∙_, _≡_, _≤_, _-_}
+use Rattle.number.proofs.Tools.{arith, refl, length, _∙_, _≡_, _≤_, _-_}
 use Rattle.key.specs.First.{Filled}
 use Rattle.sorting.proofs.Tables.{fill-none, fill-more, fill-to}
 use Rattle.gather.specs.Leading.{ledRow}

@@ -1,6 +1,6 @@
 -- `heights::climb` meets its contract.
 -- Assumes nothing.
-use Rattle.number.proofs.Tools.{_≡_, refl, sym, _∙_, _-_, _≤_, needs, arith}
+use Rattle.number.proofs.Tools.{_-_, _≤_, needs, arith}
 use Rattle.heights.specs.Climb.{rowAbove}
 use Rattle.heights.proofs.ClimbLaws as laws
 use Rattle.heights.proofs.climb.Statement.{statement}

@@ -3,7 +3,7 @@
 use lib.ListN.{length}
 use Rattle.number.specs.Limits.{rowLimit}
 use Rattle.number.proofs.Scans.{Misses, misses-none, misses-more, misses-scan, misses-end}
-use Rattle.number.proofs.Tools.{_≡_, sym, _∙_, _+_, _-_, _≤_, needs, arith}
+use Rattle.number.proofs.Tools.{_≡_, sym, _∙_, _-_, _≤_, arith}
 use Rattle.heights.specs.Climb.{goesOn, rowAbove, Noted}
 use Rattle.heights.proofs.ClimbLaws as laws
 use Rattle.heights.proofs.first_of.Statement.{statement}

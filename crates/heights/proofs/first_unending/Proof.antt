@@ -1,6 +1,6 @@
 -- `heights::first_unending` meets its contract.
 -- Assumes nothing.
-use Rattle.number.proofs.Tools.{refl, needs, arith}
+use Rattle.number.proofs.Tools.{refl, arith}
 use Rattle.heights.proofs.ClimbLaws.{none-noted}
 use Rattle.heights.proofs.first_unending.Statement.{statement}
 use Rattle.heights.proofs.first_unending.Tie as tie

@@ -1,6 +1,6 @@
 -- `held::fetch_all` meets its contract: no file, one, or two.
 -- Assumes nothing.
-use Rattle.number.proofs.Tools.{_∙_, arith, needs}
+use Rattle.number.proofs.Tools.{arith, needs}
 use Rattle.held.proofs.HeldLaws.{had-found, first-held, none-held}
 use Rattle.held.proofs.fetch_all.Statement.{statement}
 use Rattle.held.proofs.fetch_all.Tie as tie

@@ -1,6 +1,6 @@
 -- `listed::rest_of` meets its contract.
 -- Assumes nothing.
-use Rattle.number.proofs.Tools.{sym, _∙_, refl, needs}
+use Rattle.number.proofs.Tools.{refl, needs}
 use Rattle.number.specs.Choice.{if_then_else_}
 use Rattle.listed.specs.Rest.{afterLines, restOf}
 use Rattle.listed.proofs.rest_of.Statement.{statement}

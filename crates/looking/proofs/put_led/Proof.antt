@@ -1,7 +1,7 @@
 -- `looking::put_led` meets its contract: the folder and what the link says have room.
 -- Assumes nothing.
 use lib.Seq.{length-take-le}
-use Rattle.number.proofs.Tools.{_≡_, sym, arith, needs, length, take}
+use Rattle.number.proofs.Tools.{sym, arith, needs}
 use Rattle.looking.proofs.put_led.Statement.{statement}
 use Rattle.looking.proofs.put_led.Tie as tie
 

@@ -1,6 +1,6 @@
 -- `rdb_interface::read_base` meets its contract.
 -- Assumes nothing.
-use Rattle.number.proofs.Tools.{needs, arith}
+use Rattle.number.proofs.Tools.{needs}
 use Rattle.rdb_memory.proofs.JudgeLaws.{judged-end, judged-refused, judged-last}
 use Rattle.rdb_interface.specs.Interface.{readBase}
 use Rattle.rdb_record.proofs.EndLaws.{inside-end, text-inside}

@@ -1,6 +1,6 @@
 -- `rdb_map::check_rising` meets its contract.
 -- Assumes nothing.
-use Rattle.number.proofs.Tools.{needs, arith, refl, sym, _∙_}
+use Rattle.number.proofs.Tools.{needs, arith, refl}
 use Rattle.rdb_map.proofs.MapLaws.{key-end, named-key, entry-over, entry-key, entry-rest}
 use Rattle.rdb_map.proofs.RiseLaws.{rising-alone, rise-refused, rise-read, rise-falls}
 use Rattle.rdb_map.proofs.check_rising.Statement.{statement}

@@ -1,6 +1,6 @@
 -- `rdb_map::compare_entries` meets its contract.
 -- Assumes nothing.
-use Rattle.number.proofs.Tools.{needs, arith}
+use Rattle.number.proofs.Tools.{arith}
 use Rattle.rdb_map.proofs.NameLaws.{names-of}
 use Rattle.rdb_map.proofs.compare_entries.Statement.{statement}
 use Rattle.rdb_map.proofs.compare_entries.Tie as tie

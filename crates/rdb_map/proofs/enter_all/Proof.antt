@@ -1,6 +1,6 @@
 -- `rdb_map::enter_all` meets its contract.
 -- Assumes nothing.
-use Rattle.number.proofs.Tools.{needs, arith, refl, _≡_, _≤_, _-_, length}
+use Rattle.number.proofs.Tools.{arith, refl, _≡_, _≤_, _-_, length}
 use Rattle.sorting.proofs.Tables.{sorted-start}
 use Rattle.sorting.specs.Table.{Sorted}
 use Rattle.rdb_map.specs.Table.{nameIn}

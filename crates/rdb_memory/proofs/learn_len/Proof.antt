@@ -3,7 +3,6 @@
 use Rattle.number.proofs.Tools.{needs, arith, sym, _∙_}
 use Rattle.rdb_memory.proofs.JudgeLaws.{learnt-both}
 use Rattle.rdb_memory.proofs.GoodLaws.{mark-range, good-read, good-in, learnt-text}
-use Rattle.rdb_memory.specs.Memory.{Good}
 use Rattle.rdb_memory.proofs.learn_len.Statement.{statement}
 use Rattle.rdb_memory.proofs.learn_len.Tie as tie
 

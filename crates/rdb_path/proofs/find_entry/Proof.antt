@@ -3,7 +3,7 @@
 use native.Mathlib.Nat.{sub-zero}
 use Rattle.number.specs.Scan.{scan}
 use Rattle.number.proofs.Laws.{scan-done, scan-hit, scan-miss}
-use Rattle.number.proofs.Tools.{needs, arith, refl, sym, _∙_, _≡_, _≤_, _-_}
+use Rattle.number.proofs.Tools.{arith, refl, sym, _∙_, _≡_, _≤_, _-_}
 use Rattle.rdb_path.specs.Path.{isCalled}
 use Rattle.rdb_path.proofs.find_entry.Statement.{statement}
 use Rattle.rdb_path.proofs.find_entry.Tie as tie

@@ -2,7 +2,7 @@
 -- Assumes nothing.
 use mathlib.Core.Logic.{inl, inr}
 use Rattle.number.proofs.Scans.{below}
-use Rattle.number.proofs.Tools.{ℕ, needs, arith, ap, _∙_, _≡_, _≤_, _<_, _-_, length, getD}
+use Rattle.number.proofs.Tools.{ℕ, arith, ap, _∙_, _≡_, _≤_, _<_, _-_, length, getD}
 use Rattle.rdb_path.proofs.last_word.Statement.{statement}
 use Rattle.rdb_path.proofs.last_word.Tie as tie
 

@@ -1,6 +1,6 @@
 -- `rdb_said::found_constant` meets its contract.
 -- Assumes nothing.
-use Rattle.number.proofs.Tools.{sym, ap, _∙_, refl, needs}
+use Rattle.number.proofs.Tools.{ap, refl, needs}
 use Rattle.sayings.specs.Texts.{interfaceText}
 use Rattle.sayings.specs.Sayings.{sayInterface, interfaceWhy}
 use Rattle.said.proofs.SayingLaws.{says-as}

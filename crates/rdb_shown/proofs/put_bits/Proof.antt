@@ -1,7 +1,7 @@
 -- `rdb_shown::put_bits` meets its contract. The loop's invariant: the digits of the bytes from `left` on are stored. The measure is how many are left.
 -- Assumes nothing.
 use lib.Seq.{sets}
-use Rattle.number.proofs.Tools.{_≡_, refl, sym, _∙_, _+_, _-_, _*_, _≤_, arith, length}
+use Rattle.number.proofs.Tools.{_≡_, refl, _+_, _-_, _*_, _≤_, arith, length}
 use Rattle.number.specs.Number.{le}
 use Rattle.text.specs.Hex.{hexOf}
 use Rattle.decimal.proofs.Stores.{length-kept}

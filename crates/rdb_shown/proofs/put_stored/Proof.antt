@@ -2,7 +2,7 @@
 -- Assumes nothing.
 use Rattle.number.specs.Number.{little, le}
 use Rattle.number.proofs.Laws.{num-one}
-use Rattle.number.proofs.Tools.{_∙_, sym, refl, arith, needs, getD}
+use Rattle.number.proofs.Tools.{_∙_, sym, refl, arith, needs}
 use Rattle.text.proofs.WritingLaws.{wrote-as}
 use Rattle.rdb_record.proofs.SizeLaws.{size-one, size-two, size-four, size-eight, size-float, size-double}
 use Rattle.rdb_shown.proofs.ShownLaws.{le-below, text-float, text-double, text-stored}

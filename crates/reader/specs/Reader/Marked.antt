@@ -24,7 +24,7 @@ use Rattle.method.specs.Method.{methodFlags, methodName, ruleSignature, readSig
 use Rattle.descriptor.specs.Constant.{constant, valueSize, readConstant}
 use Rattle.descriptor.specs.Rules.{isConstructor, manyConstructors, isGetter, isSetter, strayPair, strayGetter, strayPairs}
 use Rattle.descriptor.specs.Descriptor.{descriptor, parentOf, indexed, readParent, readCounted, reservedInterface, readFlags, flagsIn, namesIn, readDescriptor}
-use Rattle.typelib.specs.Entry.{Entry, entry, entryKey, entryDescriptor, readOwn, entriesOf, noEntry, keysIn, descriptorIn}
+use Rattle.typelib.specs.Entry.{entry, entryKey, entryDescriptor, readOwn, entriesOf, noEntry, keysIn, descriptorIn}
 use Rattle.typelib.specs.Across.{repeated, firstRepeated, parentIndex, above, aboveIn, chainEnds, circles, firstCircling, readAcross}
 use Rattle.typelib.specs.Typelib.{Typelib, typelib, poolOf, contextOf, readListed, readFront, readDescriptors, headerOf, readBehind, readTypelib, verdictOf}
 use Rattle.reading.specs.declared.Verdict.{Verdict}

@@ -1,6 +1,6 @@
 -- `salvaging::put_lines` meets its contract.
 -- Assumes nothing.
-use Rattle.number.proofs.Tools.{_+_, _*_, _-_, _≤_, arith, needs}
+use Rattle.number.proofs.Tools.{_+_, _*_, _-_, _≤_, arith}
 use Rattle.text.specs.Writing.{Wrote}
 use Rattle.salvaging.specs.Lists.{listLines}
 use Rattle.salvaging.proofs.Lines.{lines-none, lines-more, lines-done}

@@ -1,7 +1,6 @@
 -- `salvaging::salvage_listed` meets its contract.
 -- Assumes nothing.
 use Rattle.number.proofs.Tools.{arith, needs}
-use Rattle.salvage.specs.Salvage.{Lent}
 use Rattle.salvaging.proofs.Outcomes.{changed-few, tells-written, tells-refused}
 use Rattle.salvaging.proofs.salvage_listed.Statement.{statement}
 use Rattle.salvaging.proofs.salvage_listed.Tie as tie

@@ -1,10 +1,9 @@
 -- `signed::unsigned` meets its contract: the upper half of the bits is below 0.
 -- Assumes nothing.
 use mathlib.Core.Path.{_≡_}
-use lib.IntN.{ℤ}
 use mir.Facts.{toZ-ofZ}
 use mir.Syntax.{w32}
-use Rattle.number.proofs.Tools.{ap, _∙_, sym, arith, needs}
+use Rattle.number.proofs.Tools.{ap, _∙_, arith, needs}
 use Rattle.signed.specs.Bits.{bitsOf}
 use Rattle.signed.proofs.BitLaws.{bits-zero, bits-same}
 use Rattle.signed.proofs.unsigned.Statement.{statement}

@@ -1,6 +1,6 @@
 -- `standing::decide` meets its contract, way by way.
 -- Assumes nothing.
-use Rattle.number.proofs.Tools.{refl, sym, _∙_, needs}
+use Rattle.number.proofs.Tools.{refl, needs}
 use Rattle.standing.specs.Standing.{decision}
 use Rattle.standing.proofs.decide.Statement.{statement}
 use Rattle.standing.proofs.decide.Tie as tie

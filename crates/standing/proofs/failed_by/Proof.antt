@@ -1,6 +1,6 @@
 -- `standing::failed_by` meets its contract.
 -- Assumes nothing.
-use Rattle.number.proofs.Tools.{refl, arith, needs, is-eq, no-eq}
+use Rattle.number.proofs.Tools.{refl, arith, is-eq, no-eq}
 use Rattle.standing.specs.Standing.{failedBy}
 use Rattle.standing.proofs.failed_by.Statement.{statement}
 use Rattle.standing.proofs.failed_by.Tie as tie

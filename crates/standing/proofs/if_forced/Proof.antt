@@ -1,6 +1,6 @@
 -- `standing::if_forced` meets its contract.
 -- Assumes nothing.
-use Rattle.number.proofs.Tools.{refl, needs, is-true, is-false}
+use Rattle.number.proofs.Tools.{refl, is-true, is-false}
 use Rattle.standing.specs.Standing.{ifForced}
 use Rattle.standing.proofs.if_forced.Statement.{statement}
 use Rattle.standing.proofs.if_forced.Tie as tie

@@ -1,6 +1,6 @@
 -- `standing::is_file` meets its contract: the same test.
 -- Assumes nothing.
-use Rattle.number.proofs.Tools.{refl, _=?_, needs}
+use Rattle.number.proofs.Tools.{refl, _=?_}
 use Rattle.standing.specs.Standing.{isFile}
 use Rattle.standing.proofs.is_file.Statement.{statement}
 use Rattle.standing.proofs.is_file.Tie as tie

@@ -1,6 +1,6 @@
 -- `standing::is_link` meets its contract: the same test.
 -- Assumes nothing.
-use Rattle.number.proofs.Tools.{refl, _=?_, needs}
+use Rattle.number.proofs.Tools.{refl, _=?_}
 use Rattle.standing.specs.Standing.{isLink}
 use Rattle.standing.proofs.is_link.Statement.{statement}
 use Rattle.standing.proofs.is_link.Tie as tie

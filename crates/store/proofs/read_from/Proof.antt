@@ -2,7 +2,8 @@
 -- Assumes nothing.
 use borrow.Rule.Slice.PartMut.{mid-len}
 use Rattle.number.proofs.Tools.{_≡_, subst, _+_, arith, needs, length}
-use Rattle.input.specs.File.{fileMost, Begins}
+use Rattle.number.specs.Limits.{fileMost}
+use Rattle.input.specs.File.{Begins}
 use Rattle.store.proofs.LoadLaws.{read-none, read-full, read-whole}
 use Rattle.store.proofs.read_from.Statement.{statement}
 use Rattle.store.proofs.read_from.Tie as tie

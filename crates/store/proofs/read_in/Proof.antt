@@ -2,7 +2,7 @@
 -- Assumes nothing.
 use Rattle.number.proofs.Tools.{subst, _+_, arith, needs}
 use Rattle.input.specs.Came.{CameIn}
-use Rattle.input.specs.File.{fileMost}
+use Rattle.number.specs.Limits.{fileMost}
 use Rattle.store.specs.Loading.{StandsFrom}
 use Rattle.store.proofs.LoadLaws.{read-fails, read-loads}
 use Rattle.store.proofs.read_in.Statement.{statement}

@@ -1,6 +1,6 @@
 -- `tasks::in_batch` meets its contract.
 -- Assumes nothing.
-use Rattle.number.proofs.Tools.{refl, needs}
+use Rattle.number.proofs.Tools.{refl}
 use Rattle.number.specs.Choice.{_=?_}
 use Rattle.tasks.specs.Tasks.{inBatch}
 use Rattle.tasks.proofs.in_batch.Statement.{statement}

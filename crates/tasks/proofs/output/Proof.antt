@@ -1,6 +1,6 @@
 -- `tasks::output` meets its contract.
 -- Assumes nothing.
-use Rattle.number.proofs.Tools.{ap, _∙_, subst, _+_, _≤_, arith, needs}
+use Rattle.number.proofs.Tools.{ap, arith, needs}
 use Rattle.tasks.specs.Tasks.{filesOf}
 use Rattle.tasks.proofs.CountLaws.{files-few}
 use Rattle.tasks.proofs.output.Statement.{statement}

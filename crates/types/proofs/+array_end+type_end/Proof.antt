@@ -1,6 +1,6 @@
 -- `types::array_end` and `types::type_end` meet their contracts. The measure is the number of arrays left, twice, and one more for a type.
 -- Assumes nothing.
-use Rattle.number.proofs.Tools.{needs, arith, ℕ, _+_, _<_, _∙_}
+use Rattle.number.proofs.Tools.{arith, ℕ, _+_, _<_, _∙_}
 use borrow.Fn.Kinds.{In}
 use borrow.Fn.PlainCycle.{Measures, is, falls, and}
 use Rattle.types.proofs.Laws.{array-inner}

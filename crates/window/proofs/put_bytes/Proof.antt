@@ -2,7 +2,7 @@
 -- Assumes nothing.
 use mathlib.Core.List.{List}
 use Rattle.number.proofs.Tools.{_≡_, refl, sym, _∙_, ap, ℕ, _+_, _-_, _≤_, arith, length, drop}
-use Rattle.window.specs.Window.{byteIn, window}
+use Rattle.window.specs.Window.{window}
 use Rattle.window.proofs.WindowLaws.{window-start, window-turn, window-over, length-byte}
 use Rattle.window.proofs.put_bytes.Statement.{statement}
 use Rattle.window.proofs.put_bytes.Tie as tie

@@ -1,7 +1,7 @@
 -- `window::put_line` meets its contract.
 -- Assumes nothing.
-use mathlib.Core.List.{List, _++_}
-use Rattle.number.proofs.Tools.{_≡_, sym, ap, _∙_, subst, ℕ, _+_, length, arith, needs}
+use mathlib.Core.List.{List}
+use Rattle.number.proofs.Tools.{sym, ap, _∙_, subst, ℕ, length, arith, needs}
 use lib.ListN.{length-append}
 use Rattle.decimal.specs.Digits.{digitsOf}
 use Rattle.decimal.proofs.Laws.{length-u64}

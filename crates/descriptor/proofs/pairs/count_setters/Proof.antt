@@ -1,6 +1,6 @@
 -- `descriptor::pairs::count_setters` meets its contract.
 -- Assumes nothing.
-use Rattle.number.proofs.Tools.{_≡_, arith, _-_, _≤_}
+use Rattle.number.proofs.Tools.{arith, _-_, _≤_}
 use Rattle.descriptor.proofs.pairs.count_setters.Statement.{statement}
 use Rattle.descriptor.proofs.pairs.count_setters.Tie as tie
 

@@ -1,6 +1,6 @@
 -- `descriptor::pairs::same_name` meets its contract.
 -- Assumes nothing.
-use Rattle.number.proofs.Tools.{sym, _∙_, arith}
+use Rattle.number.proofs.Tools.{sym, _∙_}
 use mathlib.Core.Path.{ap}
 use Rattle.key.specs.Word.{isSame, sameWord}
 use borrow.Author.Needs.{needs}

@@ -2,7 +2,7 @@
 -- Assumes nothing.
 use Rattle.number.proofs.Tools.{_≡_, refl, sym, _∙_, arith, needs, length, _+_, _-_, _≤_}
 use Rattle.number.specs.Scan.{tally}
-use Rattle.number.proofs.Scans.{tally-most, tally-more}
+use Rattle.number.proofs.Scans.{tally-more}
 use Rattle.key.specs.First.{Filled}
 use Rattle.sorting.proofs.Tables.{fill-none, fill-more}
 use lib.ListN.{length-set}

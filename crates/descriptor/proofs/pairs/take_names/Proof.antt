@@ -1,6 +1,6 @@
 -- `descriptor::pairs::take_names` meets its contract.
 -- Assumes nothing.
-use Rattle.number.proofs.Tools.{_≡_, sym, arith, needs, length, _-_, _≤_}
+use Rattle.number.proofs.Tools.{_≡_, arith, needs, length, _-_, _≤_}
 use Rattle.descriptor.specs.Tables.{Taken, cell, isAccessor}
 use Rattle.descriptor.proofs.StrayLaws.{one-most, taken-none, taken-most, taken-next}
 use Rattle.descriptor.proofs.pairs.take_names.Statement.{statement}

@@ -1,7 +1,7 @@
 -- `reasons::length::put_length` meets its contract.
 -- Assumes nothing.
 use lib.Seq.{length-take-le}
-use Rattle.number.proofs.Tools.{sym, ap, arith, take, is-lt, no-lt, refl, needs}
+use Rattle.number.proofs.Tools.{sym, ap, arith, is-lt, no-lt, refl, needs}
 use Rattle.text.proofs.WritingLaws.{wrote-as}
 use Rattle.reasons.specs.Lengths.{paddedText, lengthText}
 use Rattle.reasons.proofs.length.put_length.Statement.{statement}

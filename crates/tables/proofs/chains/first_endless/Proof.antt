@@ -1,6 +1,6 @@
 -- `tables::chains::first_endless` meets its contract.
 -- Assumes nothing.
-use Rattle.number.proofs.Tools.{_∙_, needs, arith}
+use Rattle.number.proofs.Tools.{_∙_, arith}
 use Rattle.tables.proofs.ChainLaws.{rows-within, endless-first}
 use Rattle.tables.proofs.chains.first_endless.Statement.{statement}
 use Rattle.tables.proofs.chains.first_endless.Tie as tie

@@ -1,6 +1,6 @@
 -- `tables::mates::note_mate` meets its contract.
 -- Assumes nothing.
-use Rattle.tables.specs.Cells.{nothing, mateNoted}
+use Rattle.tables.specs.Cells.{mateNoted}
 use Rattle.iids.specs.Cells.{cell}
 use Rattle.number.proofs.Tools.{refl, arith, needs, is-lt, no-lt}
 use Rattle.tables.proofs.mates.note_mate.Statement.{statement}

@@ -3,7 +3,6 @@
 use Rattle.tables.proofs.MateLaws as laws
 use Rattle.key.specs.First.{Past}
 use Rattle.key.proofs.Pasts.{past-none}
-use Rattle.tables.specs.Cells.{nothing}
 use Rattle.number.proofs.Tools.{_-_, _≤_, arith}
 use Rattle.tables.proofs.mates.note_mates.Statement.{statement}
 use Rattle.tables.proofs.mates.note_mates.Tie as tie

@@ -3,7 +3,7 @@
 use lib.Seq.{length-take-le}
 use mathlib.Core.List.{List, []}
 use borrow.Author.Tests.{not-true, not-false}
-use Rattle.number.proofs.Tools.{refl, sym, subst, _∙_, ℕ, arith, needs, take}
+use Rattle.number.proofs.Tools.{refl, sym, subst, _∙_, ℕ, take}
 use Rattle.streamed.specs.Stream.{buffers, LeftOf}
 use Rattle.streams.specs.Printed.{Printed, Prints}
 use Rattle.streams.specs.Printed.SystemCalls.{nothing, behind}

@@ -1,6 +1,6 @@
 -- `typelib::chains::first_circling` meets its contract.
 -- Assumes nothing.
-use Rattle.number.proofs.Tools.{refl, sym, _∙_, needs, arith}
+use Rattle.number.proofs.Tools.{refl, _∙_, arith}
 use Rattle.typelib.proofs.ChainLaws.{parents-within, circling-first}
 use Rattle.typelib.proofs.chains.first_circling.Statement.{statement}
 use Rattle.typelib.proofs.chains.first_circling.Tie as tie

@@ -7,7 +7,7 @@ use Rattle.typelib.specs.Own.{Settled}
 use Rattle.typelib.specs.Entry.{readOwn}
 use Rattle.reading.proofs.Steps.{turn-refused}
 use Rattle.reading.specs.Got.{many, stepOf}
-use Rattle.number.proofs.Tools.{arith, needs, refl, sym, _∙_, _≡_, _+_, _-_, _*_, _≤_, length}
+use Rattle.number.proofs.Tools.{arith, needs, refl, _≡_, _+_, _-_, _*_, _≤_, length}
 use Rattle.typelib.proofs.own.check_shared.Statement.{statement}
 use Rattle.typelib.proofs.own.check_shared.Tie as tie
 

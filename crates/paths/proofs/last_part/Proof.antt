@@ -1,11 +1,11 @@
--- `kept::last_part` meets its contract. The loop's invariant: the last `/` before i is found.
+-- `paths::last_part` meets its contract. The loop's invariant: the last `/` before i is found.
 -- Assumes nothing.
 use Rattle.number.proofs.Tools.{_≡_, _∙_, _-_, _≤_, arith, length}
 use mathlib.Core.Logic.{⊎-elim}
-use Rattle.kept.specs.Written.{lastWithin}
-use Rattle.kept.proofs.WrittenLaws.{last-start, last-here, last-on, last-done}
-use Rattle.kept.proofs.last_part.Statement.{statement}
-use Rattle.kept.proofs.last_part.Tie as tie
+use Rattle.paths.specs.Path.{lastWithin}
+use Rattle.paths.proofs.PartLaws.{last-start, last-here, last-on, last-done}
+use Rattle.paths.proofs.last_part.Statement.{statement}
+use Rattle.paths.proofs.last_part.Tie as tie
 
 abbrev Inv-loop : tie.InvT-loop
 Inv-loop path from₀ i₀ from i = (i ≤ length path) × ((from ≤ i) × (from ≡ lastWithin path i))
