@@ -11,7 +11,7 @@ fn put(text: &[u8; ROOM], n: usize)
     requires { ⌜ n ≤ room ⌝ }
 {
     let all: &[u8] = text;
-    io::write_all(1, &all[..n]);
+    streams::write(&all[..n]);
 }
 
 // Whether there is a command to run or a batch of them, and the length of the command's words.

@@ -6,7 +6,7 @@ use Prim.Native.Nat.{ℕ, _+_, _-_}
 abbrev pub fileLimit : ℕ
 fileLimit = 1048576
 
--- as many bytes as are read of a typelib: one more than the largest has
+-- as many bytes as are read of a typelib, no limit of its own: one more than the largest has
 abbrev pub fileMost : ℕ
 fileMost = fileLimit + 1
 

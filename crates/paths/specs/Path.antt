@@ -1,4 +1,4 @@
--- Paths that the system can be asked about. The numbers of errors are those of errno.
+-- Paths that the system can be asked about, and the last part of a path. The numbers of errors are those of errno.
 -- Assumes nothing.
 use mathlib.Core.Bool.{Bool}
 use mathlib.Core.List.{List}

@@ -1,4 +1,4 @@
-// Paths for the calls of the system, which read a path up to a zero byte.
+// Paths for the calls of the system, which read a path up to a zero byte, and where the last part of a path starts.
 ghost use mathlib.Core.Path.{_≡_};
 ghost use Prim.Native.Nat.{min, _≤_};
 ghost use lib.ListN.{length, replicate};

@@ -38,6 +38,6 @@ unfoldable pub verdictWhy : Verdict → Why
 verdictWhy (verdict.Accepted n) = Answered
 verdictWhy (verdict.Refused x) = Refused x
 
--- the text of each, and why
+-- the line of a verdict, and why
 unfoldable pub sayVerdict : Verdict → Saying
 sayVerdict v = saying (lineOf v) (verdictWhy v)

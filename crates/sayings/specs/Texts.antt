@@ -1,4 +1,4 @@
--- The lines that the commands print, as ASCII codes, each with its newline.
+-- The lines of the lookups' answers, and of mistakes in their words, as ASCII codes, each with its newline.
 -- Assumes nothing.
 use mathlib.Core.List.{List, [], _∷_, _++_}
 use Prim.Native.Nat.{ℕ}

@@ -1,4 +1,4 @@
-// The text that tells an answer, its newline included, at the front of a buffer.
+// The line that tells a lookup's answer, its newline included, at the front of a buffer.
 ghost use mathlib.Core.Path.{_≡_};
 ghost use mathlib.Core.List.{_++_};
 ghost use Prim.Native.Nat.{ℕ, _+_, _^_, _≤_, _<_};

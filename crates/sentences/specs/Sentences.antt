@@ -5,7 +5,7 @@ use Prim.Native.Nat.{ℕ}
 use Rattle.number.specs.Choice.{if_then_else_, _<?_, _=?_}
 use Rattle.ascii.specs.Ascii.{ascii}
 
--- of 8, by the rule (`positionRule` of the crate `broken`): where the directory and the pool may stand; 5 where the file is as libxpt writes it (`isGenuine` of `adopt`)
+-- of 8, by the rule (`positionRule` of the crate `broken`): where the directory and the pool may stand; 5 where the file is as libxpt writes it (`isGenuine` of `genuine`)
 unfoldable pub positionText : ℕ → List ℕ
 positionText rule =
     if rule =? 1 then ascii "the directory's offset is not a multiple of 4" else

@@ -36,7 +36,7 @@ pub fn remark(text: &[u8; ROOM], n: usize)
     io::write_all(2, &all[..n]);
 }
 
-// What the line on standard output says, which begins with `error `, of the file of this name, or of none.
+// What the line on standard output says, which begins with `error `, on standard error alone: of the file of this name, or of none.
 pub fn error(name: &[u8], line: &[u8], text: &mut [u8; ROOM])
     requires { ⌜ length (now line) ≤ room ⌝ }
 {
@@ -44,13 +44,13 @@ pub fn error(name: &[u8], line: &[u8], text: &mut [u8; ROOM])
     remark(text, end);
 }
 
-// Where a mistake in the words of a single command is told: what to do.
+// On standard error, where a mistake in the words of a single command is told: what to do.
 pub fn hint(text: &mut [u8; ROOM]) {
     let end = failures::hint(text);
     remark(text, end);
 }
 
-// Standard output does not take what is left.
+// On standard error: standard output does not take what is left.
 pub fn output_gone(text: &mut [u8; ROOM]) {
     let end = failures::output_gone(text);
     remark(text, end);

@@ -1,4 +1,4 @@
--- What is printed of a verdict, as ASCII codes: `accepted` and the number of interfaces, or `refused`, the refusal's number and its place; then a newline.
+-- What is printed of a verdict, as ASCII codes: `accepted` and the number of interfaces, or `refused`, the refusal's number and its place; then a newline. And the marks that lines of every kind are put together with.
 -- Assumes nothing.
 use mathlib.Core.List.{List, [], _∷_, _++_}
 use Prim.Native.Nat.{ℕ}

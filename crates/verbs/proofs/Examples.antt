@@ -2,7 +2,7 @@
 -- Assumes nothing.
 use mathlib.Core.Path.{_≡_, refl}
 use mathlib.Core.Bool.{true, false}
-use mathlib.Core.List.{List, [], _∷_, map}
+use mathlib.Core.List.{[], _∷_, map}
 use Rattle.number.specs.Choice.{if_then_else_, _<?_, _=?_}
 use Rattle.key.specs.Word.{compareWords, isSame, sameWord}
 use Rattle.words.specs.Words.{startWith, wordsOf}

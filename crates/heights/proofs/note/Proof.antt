@@ -3,7 +3,7 @@
 use lib.ListN.{length}
 use lib.ListN.{length-set}
 use Rattle.number.specs.Limits.{rowLimit}
-use Rattle.number.proofs.Tools.{_≡_, _+_, _-_, _≤_, needs, arith}
+use Rattle.number.proofs.Tools.{_≡_, _+_, _≤_, needs, arith}
 use Rattle.heights.specs.Climb.{rowAbove, Height, Noted}
 use Rattle.heights.proofs.ClimbLaws as laws
 use Rattle.heights.proofs.note.Statement.{statement}

@@ -1,6 +1,6 @@
 -- `rdb_runs::fill` meets its contract.
 -- Assumes nothing.
-use Rattle.number.proofs.Tools.{needs, arith, refl, _∙_, _≡_, _≤_, _+_, _-_, _*_, length}
+use Rattle.number.proofs.Tools.{needs, arith, refl, _∙_, _≡_, _≤_, _+_, _*_, length}
 use lib.ListN.{length-set}
 use Rattle.rdb_stops.specs.Stops.{block}
 use Rattle.rdb_stops.proofs.StopLaws.{first-range, stops-from}
