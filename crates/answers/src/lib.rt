@@ -1,4 +1,6 @@
 // The line that answers each command about a file, at the front of a buffer.
+#![tactic(auto)]
+
 ghost use Rattle.said.specs.Saying.{Says};
 ghost use Rattle.sayings.specs.Sayings.{say_method};
 ghost use Rattle.answers.specs.Commands.{check_saying, digits_saying, iid_saying, counted_saying, looks_saying, key_saying, method_saying, slot_saying, constant_saying, with_slot, with_kind};

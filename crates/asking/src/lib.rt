@@ -1,4 +1,6 @@
 // What the arguments ask for: a command, a batch of them, or what is told without a file.
+#![tactic(auto)]
+
 ghost use Rattle.std.specs.Prelude.{◌≤◌};
 ghost use Rattle.feed.specs.Lines.{input_room};
 ghost use Rattle.failures.specs.Room.{room};

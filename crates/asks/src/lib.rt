@@ -1,5 +1,7 @@
 // A question about one file, asked by the arguments, whose words are parted by zero bytes. It needs none of a session's buffers: to clear them takes longer than
 // to answer from a short file, which has a small one.
+#![tactic(auto)]
+
 ghost use Rattle.std.specs.Prelude.{◌≡◌, true, List, ℕ, ◌≤◌, length};
 ghost use Rattle.failures.specs.Room.{word_limit};
 ghost use Rattle.tasks.specs.Tasks.{task_of};

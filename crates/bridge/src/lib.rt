@@ -1,1 +1,2 @@
 // Laws that tie the tables of a link to the union; no code.
+#![tactic(auto)]

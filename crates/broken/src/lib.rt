@@ -1,4 +1,6 @@
 // Which rule of 8 or of 16 was broken. Positions are in the pool; places are in the file.
+#![tactic(auto)]
+
 ghost use Rattle.std.specs.Prelude.{true, false, ◌≡◌, ◌+◌, ◌≤◌, length};
 ghost use Rattle.number.specs.Limits.{file_limit, own_limit};
 ghost use Rattle.method.specs.Parameter.{read_param};

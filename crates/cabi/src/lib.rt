@@ -2,6 +2,8 @@
 // A call returns 0, and its answer stands in the first places of `answer`; where that has too little room for any answer the call
 // returns 1 and writes nothing. The first number of an answer: 0 found, 1 none, 2 undetermined with the index, 3 refused with
 // number and place.
+#![tactic(auto)]
+
 ghost use Rattle.reader.specs.Reader.{decode, check_of};
 ghost use Rattle.lookup.specs.Question.{ask_iid, ask_looks, ask_key, ask_slot, ask_constant};
 ghost use Rattle.numbers.specs.Call.{Called};

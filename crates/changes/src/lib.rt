@@ -1,4 +1,6 @@
 // What was changed in what was salvaged, in words on standard error, by the report of a second salvage of the same file.
+#![tactic(auto)]
+
 ghost use Rattle.std.specs.Prelude.{◌≤◌, length};
 ghost use Rattle.number.specs.Limits.{entry_limit};
 ghost use Rattle.failures.specs.Room.{word_limit};

@@ -1,4 +1,6 @@
 // The answer to a line, from its bytes and those of the files that it names to the bytes of the text and of the output.
+#![tactic(auto)]
+
 ghost use Rattle.std.specs.Prelude.{◌≡◌, List, ℕ};
 ghost use Rattle.words.specs.Words.{words_of};
 ghost use Rattle.verbs.specs.declared.Verb.TheVariants as verb;

@@ -1,4 +1,6 @@
 // Constants and interface descriptors.
+#![tactic(auto)]
+
 mod constant;
 mod pairs;
 mod record;

@@ -1,4 +1,6 @@
 // The directory.
+#![tactic(auto)]
+
 ghost use Rattle.std.specs.Prelude.{◌≡◌, ◌+◌, ◌*◌, ◌≤◌, length, drop};
 ghost use Rattle.number.specs.Limits.{file_limit, entry_width};
 ghost use Rattle.number.specs.Choice.{◌=?◌};

@@ -1,4 +1,6 @@
 // Lines for people, each made whole at the front of a lent buffer: those that begin with `error`, and those for standard error that go with them.
+#![tactic(auto)]
+
 mod reason;
 
 ghost use Rattle.std.specs.Prelude.{◌≡◌, ◌++◌, ◌+◌, ◌≤◌, length};

@@ -1,4 +1,6 @@
 // Of a refusal: which interface it is of, with its key, and which rule was broken.
+#![tactic(auto)]
+
 ghost use Rattle.std.specs.Prelude.{◌≡◌, ◌+◌, ◌*◌, ◌≤◌, ◌<◌, length};
 ghost use Rattle.number.specs.Limits.{file_limit};
 ghost use Rattle.head.specs.Says.{HeaderAt};

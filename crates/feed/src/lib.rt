@@ -1,4 +1,6 @@
 // What the program is fed: its arguments, and standard input line by line. Only `read_more` and `arguments::gather` call the system.
+#![tactic(auto)]
+
 pub mod arguments;
 
 ghost use Rattle.std.specs.Prelude.{◌≡◌, true, false, ◌-◌, ◌≤◌, ◌<◌, length};

@@ -1,5 +1,7 @@
 // What is known of the rows of a union before anything is written: the words of their uses of names, where their descriptors
 // lie, and what these take. A pointer leads into the pool of the first file or, with FILE_LIMIT more, into that of the second.
+#![tactic(auto)]
+
 ghost use Rattle.std.specs.Prelude.{◌≡◌, List, ℕ, ◌+◌, ◌-◌, ◌≤◌, ◌<◌, length};
 ghost use Rattle.std.proofs.Math.Option.{Option};
 ghost use Rattle.number.specs.Limits.{file_limit, own_limit, row_limit};

@@ -1,4 +1,6 @@
 // Whether libxpt wrote a file that the check refuses with 8 at 24.
+#![tactic(auto)]
+
 ghost use Rattle.std.specs.Prelude.{◌≡◌, ◌+◌, ◌*◌, ◌≤◌, ◌<◌, length, drop};
 ghost use Rattle.number.specs.Limits.{file_limit, entry_width};
 ghost use Rattle.head.specs.Annotation.{read_annotations};

@@ -1,4 +1,6 @@
 // An IID as people write it, with hyphens and in braces.
+#![tactic(auto)]
+
 ghost use Rattle.std.specs.Prelude.{◌≡◌, length};
 ghost use Rattle.guids.specs.Forms.{is_hyphened, unhyphened, is_braced, unbraced, Spells};
 

@@ -1,4 +1,6 @@
 // An IID in the sorted directory of an accepted file, found by halving.
+#![tactic(auto)]
+
 ghost use Rattle.std.specs.Prelude.{◌≡◌, List, ℕ, ◌+◌, ◌≤◌, length};
 ghost use Rattle.number.specs.Number.{be};
 ghost use Rattle.reader.specs.Values.{Entry};

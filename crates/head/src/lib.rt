@@ -1,4 +1,6 @@
 // The header and the annotations.
+#![tactic(auto)]
+
 use reading::Refusal;
 
 mod annotation;
@@ -11,7 +13,7 @@ pub use fields::read_header;
 pub const NEWEST: u8 = 2;
 
 // What an accepted header says.
-#[derive(Drop)]
+#[derive(Clone, Copy)]
 pub struct Header {
     pub minor: u8,
     pub count: usize,

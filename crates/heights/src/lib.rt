@@ -1,4 +1,6 @@
 // Chains of rows in a table of the row above each, counted from 1, with 0 for none. Each row is climbed from once: a height that is known is not counted again.
+#![tactic(auto)]
+
 ghost use Rattle.std.specs.Prelude.{◌≡◌, ◌+◌, ◌≤◌, ◌<◌, length};
 ghost use Rattle.number.specs.Limits.{row_limit};
 ghost use Rattle.number.specs.Scan.{scan};

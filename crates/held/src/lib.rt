@@ -1,4 +1,6 @@
 // The files that a line names, loaded into the store.
+#![tactic(auto)]
+
 ghost use Rattle.std.specs.Prelude.{◌≡◌, true, ℕ};
 ghost use Rattle.words.specs.Words.{words_of};
 ghost use Rattle.tasks.specs.Tasks.{argument, task_of, files_of};

@@ -1,4 +1,6 @@
 // Numbers of sixteen bytes, by rows: IIDs. A table has the high eight bytes of each, another the low eight.
+#![tactic(auto)]
+
 ghost use Rattle.std.specs.Prelude.{◌≡◌, ℕ, ◌≤◌, ◌<◌, length, get_or};
 ghost use Rattle.number.specs.Limits.{entry_limit, row_limit};
 ghost use Rattle.number.specs.Choice.{◌=?◌, ◌≤?◌};

@@ -1,4 +1,6 @@
 // Files by name, read into a lent buffer until they end or the buffer is full. The name `-` is standard input's. A failed call is told.
+#![tactic(auto)]
+
 ghost use Rattle.std.specs.Prelude.{◌≡◌, true, List, [], ℕ, ◌≤◌, ◌<◌, length, take};
 ghost use Rattle.input.specs.Came.{CameIn};
 ghost use Rattle.input.specs.File.{is_input, StandsBehind, Opens, Goes, Comes, ReadIn, Begins};

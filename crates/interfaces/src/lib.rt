@@ -1,4 +1,6 @@
 // Writes descriptors, whose names lie where a table of places says, and tells their sizes without writing.
+#![tactic(auto)]
+
 ghost use Rattle.std.specs.Prelude.{◌≡◌, ◌⊎◌, ◌≤◌, length};
 ghost use Rattle.number.specs.Limits.{file_limit, row_limit};
 ghost use Rattle.iids.specs.Cells.{cell};

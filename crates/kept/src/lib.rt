@@ -1,6 +1,8 @@
 // Files that were read, kept for the rest of a batch. In the store a file's name stands before its bytes. A row of the table has four
 // numbers: where the name starts, where it ends and the bytes start, where they end, and its state. Where another file might not fit, all
 // rows are given up; three of the largest files fit.
+#![tactic(auto)]
+
 ghost use Rattle.std.specs.Prelude.{◌≡◌, ◌+◌, ◌*◌, ◌-◌, ◌≤◌, ◌<◌, length, get_or};
 ghost use Rattle.number.specs.Part.{part};
 ghost use Rattle.kept.specs.Table.{Tidy};

@@ -1,4 +1,6 @@
 // The listing of a typelib and the table of an interface, made piece by piece into a lent buffer: they can be far longer than the file.
+#![tactic(auto)]
+
 mod base;
 mod pieces;
 pub mod tabs;
@@ -15,7 +17,7 @@ use reader::{Layout, Verdict};
 use slots::TableAt;
 
 // Where the methods of an entry, counted from 0, go on: how many are left, the place of the next in the pool, and its slot; with the entry's total of slots.
-#[derive(Drop)]
+#[derive(Clone, Copy)]
 pub struct MethodsAt {
     pub entry: usize,
     pub left: usize,
@@ -25,7 +27,7 @@ pub struct MethodsAt {
 }
 
 // Where its constants go on.
-#[derive(Drop)]
+#[derive(Clone, Copy)]
 pub struct ConstantsAt {
     pub entry: usize,
     pub left: usize,
@@ -33,7 +35,7 @@ pub struct ConstantsAt {
 }
 
 // What is to be printed next: nothing, the entry of this number, counted from 0, what stands under one, or the rest of a table.
-#[derive(Drop)]
+#[derive(Clone, Copy)]
 pub enum Cursor {
     Done,
     AtEntry(usize),

@@ -1,4 +1,6 @@
 // Normalising a typelib, and linking two.
+#![tactic(auto)]
+
 ghost use Rattle.std.specs.Prelude.{◌≡◌};
 ghost use Rattle.reading.specs.Got.{Accepted};
 ghost use Rattle.reader.specs.Records.{Bytes};
@@ -10,7 +12,7 @@ use reader::Layout;
 use reading::{Refusal, Verdict};
 
 // What was refused: the first file, the second file, or their union.
-#[derive(Drop)]
+#[derive(Clone, Copy)]
 pub enum Which {
     First,
     Second,
@@ -18,14 +20,14 @@ pub enum Which {
 }
 
 // A refusal, and of what.
-#[derive(Drop)]
+#[derive(Clone, Copy)]
 pub struct LinkRefusal {
     pub which: Which,
     pub why: Refusal,
 }
 
 // The length of the normal form that was written, or a refusal.
-#[derive(Drop)]
+#[derive(Clone, Copy)]
 pub enum Linked {
     Written(usize),
     Refused(LinkRefusal),

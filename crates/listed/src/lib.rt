@@ -1,4 +1,6 @@
 // A listing or a table as an answer, buffer by buffer: from before its first line to after its closing newline. In a batch it stands within one line.
+#![tactic(auto)]
+
 ghost use Rattle.std.specs.Prelude.{◌≡◌, List, ◌++◌, ℕ, ◌≤◌, length, take, drop};
 ghost use Rattle.listed.specs.declared.Next.TheVariants.{At};
 ghost use Rattle.listed.specs.Text.{shown, list_saying};

@@ -1,4 +1,6 @@
 // Lists the typelib on standard input.
+#![tactic(auto)]
+
 ghost use Rattle.std.specs.Prelude.{◌≡◌, List, ℕ, length};
 ghost use Rattle.ascii.specs.Ascii.{ascii};
 ghost use Rattle.input.specs.File.{FirstBytes};

@@ -1,4 +1,6 @@
 // What stands at a path, by asking the system: lstat of the name, and of where a symbolic link leads.
+#![tactic(auto)]
+
 ghost use Rattle.std.specs.Prelude.{◌≤◌, ◌<◌, length};
 ghost use Rattle.libc.specs.Io.{Ended};
 

@@ -1,4 +1,6 @@
 // Questions about a typelib. Each checks the file first; the answers on an accepted file are in the modules.
+#![tactic(auto)]
+
 ghost use Rattle.std.specs.Prelude.{◌≡◌};
 ghost use Rattle.reader.specs.Reader.{decode};
 ghost use Rattle.lookup.specs.Question.{ask_iid, ask_looks, ask_key, ask_method, ask_slot, ask_constant};
@@ -11,7 +13,7 @@ pub mod interfaces;
 pub mod methods;
 
 // The kind of method that is asked for.
-#[derive(Drop)]
+#[derive(Clone, Copy)]
 pub enum Kind {
     Getter,
     Setter,
@@ -19,7 +21,7 @@ pub enum Kind {
 }
 
 // A slot, or a total of slots: known with its number, or undetermined with the unresolved ancestor's index.
-#[derive(Drop)]
+#[derive(Clone, Copy)]
 pub enum Slot {
     Known(usize),
     Undetermined(usize),

@@ -1,4 +1,6 @@
 // The commands that write a file: the line that is said, every byte of the output, and what of it is to be saved.
+#![tactic(auto)]
+
 ghost use Rattle.std.specs.Prelude.{◌≡◌};
 ghost use Rattle.made.specs.Made.{normalised_save, linked_save, linked_whose, normal_made, adopt_made, link_made, salvage_made, Makes};
 

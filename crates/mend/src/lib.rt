@@ -1,4 +1,6 @@
 // What is left of a damaged file: which descriptors are refused, and which lie on a parent cycle.
+#![tactic(auto)]
+
 mod own;
 mod reports;
 

@@ -1,4 +1,6 @@
 // Reads parameters and methods. Positions are in the pool; places are in the file.
+#![tactic(auto)]
+
 ghost use Rattle.std.specs.Prelude.{true, false, ◌≡◌, ◌+◌, ◌*◌, ◌%◌, ◌/◌, ◌≤◌, ◌<◌, length, take, get_or};
 ghost use Rattle.number.specs.Limits.{file_limit, own_limit};
 ghost use Rattle.reading.specs.Got.{step_of, many, Accepted};

@@ -1,4 +1,6 @@
 // The minor that a view of two files needs.
+#![tactic(auto)]
+
 ghost use Rattle.std.specs.Prelude.{◌≡◌, ℕ, ◌+◌, ◌≤◌, ◌<◌, length};
 ghost use Rattle.number.specs.Limits.{row_limit};
 ghost use Rattle.reader.specs.Values.{descriptor_in};

@@ -1,4 +1,6 @@
 // The mode of a file, as the system tells it: what kind of file it is, and its permissions.
+#![tactic(auto)]
+
 ghost use Rattle.libc.specs.Io.{Ended};
 
 // Room for what the system tells of a file.

@@ -1,4 +1,6 @@
 // Identifiers, and the pool pointers that lead to them.
+#![tactic(auto)]
+
 ghost use Rattle.std.specs.Prelude.{◌≡◌, true, ◌+◌, ◌-◌, ◌≤◌, ◌<◌, length, take};
 ghost use Rattle.number.specs.Limits.{file_limit};
 ghost use Rattle.number.specs.Part.{part};

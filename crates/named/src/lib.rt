@@ -1,4 +1,6 @@
 // The files that the words of a line name, in the store.
+#![tactic(auto)]
+
 ghost use Rattle.std.specs.Prelude.{◌≤◌};
 ghost use Rattle.number.specs.Limits.{pile_limit};
 ghost use Rattle.words.specs.Words.{words_of};

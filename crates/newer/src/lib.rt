@@ -1,4 +1,6 @@
 // Whether one of the tags 23 to 25, which minor 2 brought, stands in a descriptor of an accepted file. Positions are in its pool.
+#![tactic(auto)]
+
 ghost use Rattle.std.specs.Prelude.{◌≡◌, ◌≤◌, length};
 ghost use Rattle.number.specs.Limits.{file_limit};
 ghost use Rattle.reader.specs.Records.{ShowsType, ShowsParam, ShowsMethod, ShowsDescriptor};

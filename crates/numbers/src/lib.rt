@@ -1,5 +1,7 @@
 // Answers as numbers, written at the front of a list of the caller's that has room for any answer, for C and Rust.
 // The first number of an answer to a question: 0 found, 1 none, 2 undetermined with the index, 3 refused with number and place.
+#![tactic(auto)]
+
 ghost use Rattle.std.specs.Prelude.{◌≡◌, [], ◌∷◌, ◌+◌, ◌≤◌, length};
 ghost use Rattle.std.proofs.lemmas.List.Edits.{sets};
 ghost use Rattle.numbers.specs.Call.{room};

@@ -1,4 +1,6 @@
 // What normalising, adopting and linking answer, as one line at the front of a buffer and as numbers.
+#![tactic(auto)]
+
 ghost use Rattle.std.specs.Prelude.{◌≡◌, ◌++◌, ◌≤◌, length};
 ghost use Rattle.std.proofs.lemmas.List.Edits.{sets};
 ghost use Rattle.link.specs.declared.Linked.TheVariants as linked;

@@ -1,4 +1,6 @@
 // The normal form of the entries that tables tell of the rows of two files, each name once: its tables, its length and its bytes.
+#![tactic(auto)]
+
 pub mod file;
 pub mod leads;
 mod measure;

@@ -1,4 +1,6 @@
 // Paths for the calls of the system, which read a path up to a zero byte, and where the last part of a path starts.
+#![tactic(auto)]
+
 ghost use Rattle.std.specs.Prelude.{◌≡◌, min, ◌≤◌, length, replicate};
 ghost use Rattle.libc.specs.Io.{Ended};
 ghost use Rattle.paths.specs.Path.{path_limit, has_zero, judged, ended_of, last_part};

@@ -1,4 +1,6 @@
 // Writes the pieces of a pool, words and descriptors, which lie in two other pools, by the table of the places of uses.
+#![tactic(auto)]
+
 ghost use Rattle.std.specs.Prelude.{◌≡◌, ◌-◌, ◌≤◌, ◌<◌, length, get_or};
 ghost use Rattle.std.proofs.lemmas.List.Edits.{sets};
 ghost use Rattle.number.specs.Limits.{file_limit, row_limit};

@@ -1,4 +1,6 @@
 // A pile of files, linked one by one. A caller holds one file at a time, and lends the same two buffers to each call.
+#![tactic(auto)]
+
 ghost use Rattle.std.specs.Prelude.{◌≡◌, ◌<◌, length, take};
 ghost use Rattle.number.specs.Limits.{pile_limit};
 ghost use Rattle.reading.specs.Got.{Accepted};
@@ -14,7 +16,7 @@ use reading::{Refusal, Verdict};
 
 // How many files there are in a pile, and the length of what they left. It stands at the front of the first buffer after
 // an odd number of files, else of the second.
-#[derive(Drop)]
+#[derive(Clone, Copy)]
 pub struct Pile {
     pub files: usize,
     pub length: usize,

@@ -1,4 +1,6 @@
 // A link of many files, from the bytes of its line to standard output, standard error and a file.
+#![tactic(auto)]
+
 ghost use Rattle.std.specs.Prelude.{◌≤◌, length};
 ghost use Rattle.number.specs.Limits.{file_limit, pile_limit};
 ghost use Rattle.failures.specs.Room.{word_limit};

@@ -1,4 +1,6 @@
 // The line that tells how a link of many files went.
+#![tactic(auto)]
+
 ghost use Rattle.said.specs.Saying.{Says};
 ghost use Rattle.pile.specs.declared.Added.TheVariants.{Refused};
 ghost use Rattle.piled.specs.Lines.{say_piled};

@@ -1,4 +1,6 @@
 // A link of many files, which are fetched and added one by one, and its answer.
+#![tactic(auto)]
+
 ghost use Rattle.std.specs.Prelude.{◌≡◌, ◌≤◌};
 ghost use Rattle.number.specs.Limits.{pile_limit};
 ghost use Rattle.words.specs.Words.{words_of};

@@ -1,4 +1,6 @@
 // Where the words of uses are to lie: a table of first uses becomes, in its own place, a table of pool pointers.
+#![tactic(auto)]
+
 ghost use Rattle.std.specs.Prelude.{◌≡◌, ◌+◌, ◌*◌, ◌≤◌, ◌<◌, length, set};
 ghost use Rattle.number.specs.Limits.{file_limit};
 ghost use Rattle.key.specs.First.{first_same, Filled, Past};

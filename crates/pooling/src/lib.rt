@@ -1,4 +1,6 @@
 // Writes the pool of a normal form that stores each name once: the words of uses and the descriptors, by tables.
+#![tactic(auto)]
+
 ghost use Rattle.std.specs.Prelude.{◌≡◌, List, ℕ, ◌<◌, length};
 ghost use Rattle.number.specs.Limits.{row_limit};
 ghost use Rattle.reader.specs.Values.{Entry};

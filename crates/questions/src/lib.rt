@@ -1,4 +1,6 @@
 // The line that answers a command about a file, from the words of its line.
+#![tactic(auto)]
+
 ghost use Rattle.words.specs.Words.{words_of};
 ghost use Rattle.said.specs.Saying.{Says};
 ghost use Rattle.questions.specs.Lines.{asked_saying};

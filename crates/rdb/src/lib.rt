@@ -1,4 +1,6 @@
 // The face of the reader of types.rdb files: the check, an entity by its dotted path, a constant.
+#![tactic(auto)]
+
 ghost use Rattle.std.specs.Prelude.{◌≡◌, ◌≤◌, length};
 ghost use Rattle.number.specs.Limits.{file_limit};
 ghost use Rattle.reading.specs.Got.{Accepted};

@@ -1,4 +1,6 @@
 // Where the parts of a record of an accepted types.rdb stand, and where they end. Texts are not looked at again.
+#![tactic(auto)]
+
 ghost use Rattle.std.specs.Prelude.{◌≡◌, ◌+◌, ◌≤◌, length};
 ghost use Rattle.number.specs.Limits.{file_limit};
 ghost use Rattle.number.specs.Number.{le};
@@ -14,7 +16,7 @@ use rdb_interface::SetCount;
 use rdb_text::Text;
 
 // What a counted list of an enum or an interface holds.
-#[derive(Drop)]
+#[derive(Clone, Copy)]
 pub enum Item {
     Member,
     Base,

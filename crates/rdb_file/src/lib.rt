@@ -1,4 +1,6 @@
 // A whole types.rdb: everything reachable, depth first.
+#![tactic(auto)]
+
 ghost use Rattle.std.specs.Prelude.{◌≡◌, List, ℕ, ◌+◌, ◌≤◌, ◌<◌, length, get_or};
 ghost use Rattle.number.specs.Limits.{file_limit};
 ghost use Rattle.number.specs.Number.{le};

@@ -1,4 +1,6 @@
 // The counted lists inside a part of an entity of a types.rdb, each element by its position from 0.
+#![tactic(auto)]
+
 ghost use Rattle.std.specs.Prelude.{◌≡◌, ◌≤◌, ◌<◌, length, get_or};
 ghost use Rattle.number.specs.Limits.{file_limit};
 ghost use Rattle.reading.specs.Got.{Accepted};

@@ -1,4 +1,6 @@
 // Interfaces of a types.rdb.
+#![tactic(auto)]
+
 ghost use Rattle.std.specs.Prelude.{◌+◌, ◌≤◌, length};
 ghost use Rattle.number.specs.Limits.{file_limit};
 ghost use Rattle.reading.specs.Got.{many};
@@ -10,7 +12,7 @@ use rdb_text::Class;
 use reading::{Refusal, Step};
 
 // Whether an attribute that is read-only has a number of set exceptions: always, as document 001 says, or not, as LibreOffice writes its files.
-#[derive(Drop)]
+#[derive(Clone, Copy)]
 pub enum SetCount {
     Always,
     UnlessReadOnly,

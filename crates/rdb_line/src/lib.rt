@@ -1,4 +1,6 @@
 // The line of a path of a types.rdb, passed through a buffer: what the path leads to, and the path.
+#![tactic(auto)]
+
 ghost use Rattle.std.specs.Prelude.{◌≡◌, ◌++◌, ◌+◌, ◌≤◌, ◌<◌, length, set};
 ghost use Rattle.number.specs.Limits.{file_limit};
 ghost use Rattle.number.specs.Number.{le};

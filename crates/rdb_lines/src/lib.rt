@@ -1,5 +1,7 @@
 // The listing of a types.rdb that was accepted, buffer by buffer: its text can be far longer than the file. For each buffer the entries are visited again:
 // lines that stand before the buffer's are counted, and none is spelt after its end.
+#![tactic(auto)]
+
 ghost use Rattle.std.specs.Prelude.{◌≡◌, [], ◌∷◌, ◌+◌, ◌≤◌, ◌<◌};
 ghost use Rattle.rdb_map.specs.Map.{visit_limit};
 ghost use Rattle.rdb_interface.specs.declared.SetCount.{SetCount};

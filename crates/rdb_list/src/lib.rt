@@ -1,1 +1,2 @@
 // What a types.rdb holds, entry by entry.
+#![tactic(auto)]

@@ -1,4 +1,6 @@
 // Maps of a types.rdb: entries, each with the offset of its key and that of its payload.
+#![tactic(auto)]
+
 ghost use Rattle.std.specs.Prelude.{◌≡◌, ◌+◌, ◌-◌, ◌*◌, ◌≤◌, ◌<◌, length, true};
 ghost use Rattle.number.specs.Limits.{file_limit};
 ghost use Rattle.number.specs.Number.{le};

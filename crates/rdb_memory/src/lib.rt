@@ -1,4 +1,6 @@
 // Texts of a types.rdb, Len-Strings, Idx-Strings and counted lists of them, each read once: a memory that is lent along says which were read well.
+#![tactic(auto)]
+
 ghost use Rattle.std.specs.Prelude.{◌≡◌, true, ◌≤◌, ◌<◌, length};
 ghost use Rattle.number.specs.Limits.{file_limit};
 ghost use Rattle.number.specs.Part.{part};

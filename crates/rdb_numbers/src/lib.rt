@@ -1,4 +1,6 @@
 // Answers about a types.rdb as numbers, for C and Rust: by the number of a reading, written at the front of a list that has room for any answer.
+#![tactic(auto)]
+
 ghost use Rattle.std.specs.Prelude.{◌≡◌, ◌+◌, ◌^◌, ◌≤◌, ◌<◌, length};
 ghost use Rattle.std.proofs.lemmas.List.Edits.{sets};
 ghost use Rattle.number.specs.Number.{le};

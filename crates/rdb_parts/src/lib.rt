@@ -1,4 +1,6 @@
 // The counted parts of an entity of a types.rdb, each by its position from 0.
+#![tactic(auto)]
+
 ghost use Rattle.std.specs.Prelude.{◌≡◌, ◌≤◌, length};
 ghost use Rattle.number.specs.Limits.{file_limit};
 ghost use Rattle.reading.specs.Got.{Accepted};
@@ -18,7 +20,7 @@ use reading::{Refusal, Verdict};
 
 // A counted list of an entity: the entries of a module or a constant group; the members of an enum; the mandatory bases, optional bases, attributes and
 // methods of an interface; the annotations of an enum, an interface or a constant group.
-#[derive(Drop)]
+#[derive(Clone, Copy)]
 pub enum Part {
     Entry,
     Member,
@@ -31,7 +33,7 @@ pub enum Part {
 
 // A counted list of one of those parts: the annotations of a constant, a member, a base, an attribute or a method, an attribute's exceptions, a method's
 // parameters and exceptions.
-#[derive(Drop)]
+#[derive(Clone, Copy)]
 pub enum Inner {
     EntryNote,
     MemberNote,
@@ -46,7 +48,7 @@ pub enum Inner {
 }
 
 // An entry of a map: its key without the NUL, the kind byte of its payload, and the payload's offset.
-#[derive(Drop)]
+#[derive(Clone, Copy)]
 pub struct EntryPart {
     pub key: Text,
     pub kind: u8,
@@ -54,14 +56,14 @@ pub struct EntryPart {
 }
 
 // A member of an enum, its value as stored.
-#[derive(Drop)]
+#[derive(Clone, Copy)]
 pub struct MemberPart {
     pub name: Text,
     pub value: u32,
 }
 
 // An attribute with its kind byte, or a parameter with its direction byte.
-#[derive(Drop)]
+#[derive(Clone, Copy)]
 pub struct TypedPart {
     pub kind: u8,
     pub name: Text,
@@ -69,14 +71,14 @@ pub struct TypedPart {
 }
 
 // A method, with its return type.
-#[derive(Drop)]
+#[derive(Clone, Copy)]
 pub struct MethodPart {
     pub name: Text,
     pub result: Text,
 }
 
 // A base, an exception or an annotation is its text.
-#[derive(Drop)]
+#[derive(Clone, Copy)]
 pub enum PartAnswer {
     Text(Text),
     Entry(EntryPart),

@@ -1,4 +1,6 @@
 // Where the elements of an entity's counted lists stand in an accepted types.rdb.
+#![tactic(auto)]
+
 ghost use Rattle.std.specs.Prelude.{◌≡◌, true, ◌+◌, ◌≤◌, length, get_or};
 ghost use Rattle.number.specs.Limits.{file_limit};
 ghost use Rattle.reading.specs.Got.{Accepted};

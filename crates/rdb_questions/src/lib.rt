@@ -1,4 +1,6 @@
 // The answer to a command about a types.rdb, from the words of its line.
+#![tactic(auto)]
+
 ghost use Rattle.std.specs.Prelude.{Bool};
 ghost use Rattle.words.specs.Words.{words_of, word_in};
 ghost use Rattle.said.specs.Saying.{Says};

@@ -1,4 +1,6 @@
 // Records of a types.rdb: annotations, enums, constants.
+#![tactic(auto)]
+
 ghost use Rattle.std.specs.Prelude.{◌≡◌, ◌+◌, ◌≤◌, length};
 ghost use Rattle.number.specs.Limits.{file_limit};
 ghost use Rattle.number.specs.Number.{le};

@@ -1,5 +1,7 @@
 // Whether the bytes between two places of a file are US-ASCII, or UTF-8, in a bounded number of steps: for each block of 64 bytes the
 // first byte from its start on that is not US-ASCII, and the first that is of no character.
+#![tactic(auto)]
+
 ghost use Rattle.std.specs.Prelude.{◌≡◌, ◌+◌, ◌-◌, ◌/◌, ◌≤◌, length};
 ghost use Rattle.number.specs.Limits.{file_limit};
 ghost use Rattle.number.specs.Part.{part};

@@ -1,4 +1,6 @@
 // The lines that answer questions about a types.rdb: its check, an entity by its path, a constant.
+#![tactic(auto)]
+
 ghost use Rattle.std.specs.Prelude.{◌≤◌, length};
 ghost use Rattle.number.specs.Limits.{file_limit};
 ghost use Rattle.reading.specs.Got.{Accepted};

@@ -1,4 +1,6 @@
 // Marks: a table of bits, one for each number, that are set one by one, 32 in a cell.
+#![tactic(auto)]
+
 ghost use Rattle.std.specs.Prelude.{◌≡◌, ◌*◌, ◌<◌, length};
 ghost use Rattle.rdb_seen.specs.Marks.{marked, Marking};
 

@@ -1,4 +1,6 @@
 // The value of a constant of a types.rdb as it is printed, from its stored bytes. Each writer answers the place after what it wrote.
+#![tactic(auto)]
+
 ghost use Rattle.std.specs.Prelude.{◌≡◌, ◌++◌, ℕ, ◌+◌, ◌*◌, ◌%◌, ◌^◌, ◌≤◌, ◌<◌, length, get_or};
 ghost use Rattle.number.specs.Limits.{file_limit};
 ghost use Rattle.std.proofs.lemmas.List.Edits.{sets};

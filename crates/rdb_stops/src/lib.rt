@@ -1,4 +1,6 @@
 // Where names end: for each block of 64 bytes the first byte from its start on that no name has.
+#![tactic(auto)]
+
 ghost use Rattle.std.specs.Prelude.{◌≡◌, ◌+◌, ◌-◌, ◌/◌, ◌≤◌, length};
 ghost use Rattle.number.specs.Limits.{file_limit};
 ghost use Rattle.number.specs.Scan.{scan};

@@ -1,4 +1,6 @@
 // What a line asks about a types.rdb, by its second word, with `part` its fifth too, and the number of its words.
+#![tactic(auto)]
+
 ghost use Rattle.std.specs.Prelude.{◌≡◌, ◌+◌, ◌≤◌};
 ghost use Rattle.text.specs.Writing.{Wrote};
 ghost use Rattle.said.specs.Saying.{Says, mistaken};
@@ -9,7 +11,7 @@ use rdb_parts::{Inner, Part};
 use said::{ANSWER_ROOM, Said, Why};
 
 // `Part` and `Inner` ask for a part of an entity, and `Which` for one that there is not.
-#[derive(Drop)]
+#[derive(Clone, Copy)]
 pub enum Asked {
     Check,
     List,

@@ -1,18 +1,20 @@
 // Texts of a types.rdb: which bytes they have. Len-Strings, Idx-Strings and counted lists of them are read by rdb_memory.
+#![tactic(auto)]
+
 ghost use Rattle.std.specs.Prelude.{◌≡◌, ◌≤◌, length};
 ghost use Rattle.number.specs.Part.{part};
 ghost use Rattle.rdb_runs.specs.Bytes.{is_ascii, is_utf8};
 ghost use Rattle.rdb_text.specs.Bytes.{suits};
 
 // US-ASCII for UNOIDL related names, UTF-8 for annotations.
-#[derive(Drop)]
+#[derive(Clone, Copy)]
 pub enum Class {
     Ascii,
     Utf8,
 }
 
 // Where a text's bytes lie: their offset in the file, and how many they are.
-#[derive(Drop)]
+#[derive(Clone, Copy)]
 pub struct Text {
     pub at: usize,
     pub len: usize,

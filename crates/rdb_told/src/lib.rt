@@ -1,4 +1,6 @@
 // The line that tells a part of an entity of a types.rdb, buffer by buffer: its texts may be longer than a buffer.
+#![tactic(auto)]
+
 ghost use Rattle.std.specs.Prelude.{◌≡◌, ◌++◌, ◌+◌, ◌≤◌, length};
 ghost use Rattle.number.specs.Limits.{file_limit};
 ghost use Rattle.decimal.specs.Digits.{digits_of};

@@ -1,4 +1,6 @@
 // The value of a constant of a types.rdb, as one of ten kinds.
+#![tactic(auto)]
+
 ghost use Rattle.std.specs.Prelude.{◌≡◌, ◌+◌, ◌≤◌, ◌<◌, length};
 ghost use Rattle.number.specs.Number.{le};
 ghost use Rattle.rdb_record.specs.Constant.{value_size};

@@ -1,4 +1,6 @@
 // The reader's face: the check of a file, and what the crates above may know of one.
+#![tactic(auto)]
+
 ghost use Rattle.std.specs.Prelude.{◌≡◌, ℕ};
 ghost use Rattle.reading.specs.Got.{got, Accepted};
 ghost use Rattle.reader.specs.Rules.{is_identifier};
@@ -23,7 +25,7 @@ pub const FURTHER_ASTRING: u8 = types::FURTHER_ASTRING;
 pub const STRINGS_MINOR: u8 = types::STRINGS_MINOR;
 
 // Where the parts of an accepted file stand: its number of interfaces, and the offsets of directory and pool.
-#[derive(Drop)]
+#[derive(Clone, Copy)]
 pub struct Layout {
     pub count: usize,
     pub directory: usize,

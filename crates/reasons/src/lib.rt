@@ -1,4 +1,6 @@
 // The reason of a refusal in plain words: one line for standard error, made whole at the front of a lent buffer.
+#![tactic(auto)]
+
 mod length;
 
 ghost use Rattle.std.specs.Prelude.{[], ◌++◌, ◌+◌, ◌≤◌, length};

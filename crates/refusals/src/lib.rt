@@ -1,4 +1,6 @@
 // Why a line was refused, in words on standard error: its words, one of its files, or the union of them.
+#![tactic(auto)]
+
 ghost use Rattle.std.specs.Prelude.{◌≤◌, length};
 ghost use Rattle.number.specs.Limits.{pile_limit};
 ghost use Rattle.failures.specs.Room.{word_limit};

@@ -1,4 +1,6 @@
 // Lines on standard error: why a file, a question or a link was refused. Each goes out in one write.
+#![tactic(auto)]
+
 ghost use Rattle.std.specs.Prelude.{◌≡◌, ◌+◌, ◌≤◌, length};
 ghost use Rattle.number.specs.Choice.{when◌then◌else◌};
 ghost use Rattle.reader.specs.Rules.{is_identifier};

@@ -1,4 +1,6 @@
 // Tables filled from files: the rows of a file's entries stand from `from` on.
+#![tactic(auto)]
+
 ghost use Rattle.std.specs.Prelude.{◌≡◌, List, ℕ, ◌+◌, ◌≤◌, ◌<◌, length};
 ghost use Rattle.number.specs.Limits.{row_limit, last_row};
 ghost use Rattle.key.specs.First.{Filled, Past};

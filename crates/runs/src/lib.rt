@@ -1,5 +1,7 @@
 // The command of a line, from its bytes to standard output, standard error and files. Its words are parted by a separator, which is a space in a batch
 // and a zero byte between arguments.
+#![tactic(auto)]
+
 ghost use Rattle.std.specs.Prelude.{List, ℕ, ◌≤◌, length};
 ghost use Rattle.number.specs.Limits.{file_limit};
 ghost use Rattle.failures.specs.Room.{word_limit};

@@ -1,4 +1,6 @@
 // A line that is said, its newline included, at the front of a buffer: its room, its length and why; a mistake, a number, none, a refusal.
+#![tactic(auto)]
+
 ghost use Rattle.std.specs.Prelude.{◌+◌, ◌≤◌, length};
 ghost use Rattle.text.specs.Writing.{Wrote};
 ghost use Rattle.said.specs.declared.Why.TheVariants.{Answered, Refused};

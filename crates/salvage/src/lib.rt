@@ -1,4 +1,6 @@
 // Salvage: the normal form of what is left of a damaged file, and a report of what is not.
+#![tactic(auto)]
+
 ghost use Rattle.std.specs.Prelude.{◌≤◌, length};
 ghost use Rattle.number.specs.Limits.{file_limit};
 ghost use Rattle.salvage.specs.Salvage.{Salvages};

@@ -1,6 +1,8 @@
 // Whether two descriptors mean the same, each in the pool of an accepted file (document 01, refusal 23). Two records of the same
 // meaning have the same size, so both are walked at once. A number answered is where the record in `pool` ends, or 0 where the two
 // differ. The table `first` holds for each row the first row of the same key; the rows of the second file come after the n of the first.
+#![tactic(auto)]
+
 ghost use Rattle.std.specs.Prelude.{◌≡◌, ◌+◌, ◌-◌, ◌≤◌, ◌<◌, length, get_or};
 ghost use Rattle.number.specs.Limits.{file_limit, row_limit};
 ghost use Rattle.number.specs.Choice.{when◌then◌else◌};

@@ -1,4 +1,6 @@
 // An output put in place whole: written to a temporary file in the same folder, then renamed.
+#![tactic(auto)]
+
 ghost use Rattle.std.specs.Prelude.{◌≤◌};
 ghost use Rattle.paths.specs.Path.{judged};
 ghost use Rattle.saving.specs.Saving.{Told, Carried};

@@ -1,4 +1,6 @@
 // The line that tells a lookup's answer, its newline included, at the front of a buffer.
+#![tactic(auto)]
+
 ghost use Rattle.std.specs.Prelude.{◌≡◌, ◌++◌, ℕ, ◌+◌, ◌^◌, ◌≤◌, ◌<◌, length};
 ghost use Rattle.text.specs.Line.{newline};
 ghost use Rattle.lookup.specs.Constant.{signed};

@@ -1,4 +1,6 @@
 // The rule that a refusal is of, in plain words, written from a place of a lent buffer on.
+#![tactic(auto)]
+
 ghost use Rattle.std.specs.Prelude.{◌+◌, ◌≤◌};
 ghost use Rattle.text.specs.Writing.{Wrote};
 ghost use Rattle.failures.specs.Room.{room};

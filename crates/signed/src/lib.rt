@@ -1,4 +1,6 @@
 // Signed numbers as natural ones, and natural ones as signed.
+#![tactic(auto)]
+
 ghost use Rattle.std.specs.Prelude.{◌≡◌};
 ghost use Rattle.signed.specs.Bits.{bits_of, or_zero, signed};
 

@@ -1,4 +1,6 @@
 // The table of an interface, made line by line: from the highest interface known down to the asked one.
+#![tactic(auto)]
+
 mod levels;
 mod line;
 pub mod moving;
@@ -15,7 +17,7 @@ use reader::Layout;
 
 // Where the table of the asked interface goes on: the owner's methods that are left, the place of the next in the pool and its slot; and how many
 // interfaces come after the owner, which are the first of the asked one's chain.
-#[derive(Drop)]
+#[derive(Clone, Copy)]
 pub struct TableAt {
     pub asked: usize,
     pub steps: usize,

@@ -1,5 +1,7 @@
 // What the first stages of a link tell of two files' rows: tables filled from the files, and 23.
 // The files are s and t, their pools p and q, and their layouts l and k.
+#![tactic(auto)]
+
 ghost use Rattle.std.specs.Prelude.{◌≡◌, ◌+◌, length};
 ghost use Rattle.number.specs.Limits.{row_limit};
 ghost use Rattle.key.specs.First.{Past};

@@ -1,4 +1,6 @@
 // What stands at a path, as the system tells it, and what is then done with an output there. The system's answers come in as values.
+#![tactic(auto)]
+
 ghost use Rattle.std.specs.Prelude.{◌≡◌};
 ghost use Rattle.standing.specs.Standing.{is_file, is_link, is_shut, failed_by, of_file, of_link, standing, if_forced, decision};
 

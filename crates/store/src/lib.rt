@@ -1,4 +1,6 @@
 // Files by name, read where they are not kept from an earlier command of the batch (crate `kept`).
+#![tactic(auto)]
+
 ghost use Rattle.std.specs.Prelude.{◌≡◌, false, ◌+◌, ◌≤◌, ◌<◌, length};
 ghost use Rattle.paths.specs.Path.{path_limit};
 ghost use Rattle.number.specs.Limits.{file_most};

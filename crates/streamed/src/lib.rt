@@ -1,4 +1,6 @@
 // An answer that may be longer than a buffer: what it begins with, and what is left of it, buffer by buffer.
+#![tactic(auto)]
+
 ghost use Rattle.std.specs.Prelude.{◌≡◌, List, ℕ};
 ghost use Rattle.streamed.specs.declared.Stream.TheVariants.{Lines, Part, Paths};
 ghost use Rattle.streamed.specs.Stream.{no_rest, is_over, spoken, listing, telling, paths, after_part, after_paths, LeftOf, Turned};

@@ -1,4 +1,6 @@
 // Standard output and standard error, each line in one write.
+#![tactic(auto)]
+
 ghost use Rattle.std.specs.Prelude.{List, ℕ, ◌≤◌, length};
 ghost use Rattle.failures.specs.Room.{room};
 ghost use Rattle.streams.specs.Printed.{Front, Prints};

@@ -1,4 +1,6 @@
 // The table of an interface as an answer: its first line, where it has one, and what is left after it.
+#![tactic(auto)]
+
 ghost use Rattle.std.specs.Prelude.{List, ℕ, ◌≤◌};
 ghost use Rattle.reader.specs.Values.{Entry};
 ghost use Rattle.reader.specs.Reader.{decode};

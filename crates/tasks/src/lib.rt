@@ -1,5 +1,7 @@
 // What a line asks for: a command with its words, or a mistake. Words are parted by a separator, which is a space in a batch and a zero byte between
 // arguments.
+#![tactic(auto)]
+
 ghost use Rattle.std.specs.Prelude.{◌≡◌, ◌+◌, ◌≤◌};
 ghost use Rattle.words.specs.Words.{words_of, word_in, Spans};
 ghost use Rattle.verbs.specs.Verbs.{verb_of};

@@ -1,4 +1,6 @@
 // What standard output gets of a command, each line in one write, and what is said of it on standard error.
+#![tactic(auto)]
+
 pub mod answer;
 
 ghost use Rattle.std.specs.Prelude.{◌≡◌, true, List, ℕ, ◌≤◌, length};

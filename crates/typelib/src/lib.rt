@@ -1,4 +1,6 @@
 // The whole file.
+#![tactic(auto)]
+
 mod chains;
 mod front;
 mod keys;

@@ -1,4 +1,6 @@
 // Reads a type. Positions are in the pool; places are in the file.
+#![tactic(auto)]
+
 ghost use Rattle.std.specs.Prelude.{true, ◌≡◌, ◌+◌, ◌≤◌, ◌<◌, length, get_or};
 ghost use Rattle.number.specs.Limits.{file_limit};
 ghost use Rattle.reading.specs.Got.{step_of, byte};
@@ -33,7 +35,7 @@ pub const FURTHER_ASTRING: u8 = 25;
 pub const STRINGS_MINOR: u8 = 2;
 
 // What a tag stands for.
-#[derive(Drop)]
+#[derive(Clone, Copy)]
 pub enum Class {
     Reserved,
     Plain,

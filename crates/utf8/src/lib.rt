@@ -1,4 +1,6 @@
 // Characters in UTF-8.
+#![tactic(auto)]
+
 ghost use Rattle.std.specs.Prelude.{◌≡◌, ◌+◌, ◌≤◌, length, get_or, take};
 ghost use Rattle.utf8.specs.Utf8.{lowest, highest, off_second, off_tail, size_after, size_of, char_size};
 

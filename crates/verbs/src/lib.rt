@@ -1,4 +1,6 @@
 // The commands of the program `xpt` by name, how many words each has, and lines with an empty word.
+#![tactic(auto)]
+
 ghost use Rattle.std.specs.Prelude.{◌≡◌};
 ghost use Rattle.words.specs.Words.{words_of};
 ghost use Rattle.verbs.specs.Verbs.{member_of, question_of, verb_of, words_in};
@@ -6,7 +8,7 @@ ghost use Rattle.verbs.specs.Empty.{has_empty};
 ghost use Rattle.verbs.specs.declared.Verb.TheVariants.{Ask};
 
 // A command that is answered from one file.
-#[derive(Drop)]
+#[derive(Clone, Copy)]
 pub enum Question {
     Check,
     Iid,
@@ -18,7 +20,7 @@ pub enum Question {
 }
 
 // What the first word of a command asks for.
-#[derive(Drop)]
+#[derive(Clone, Copy)]
 pub enum Verb {
     Ask(Question),
     List,

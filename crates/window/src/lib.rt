@@ -1,5 +1,7 @@
 // A part of a long text into a lent buffer. The text is passed from its first byte on; what lies in the buffer's part of it is stored. Each function
 // answers the place after what it passed.
+#![tactic(auto)]
+
 ghost use Rattle.std.specs.Prelude.{◌+◌, ◌≤◌, ◌<◌, ◌≡◌, ◌++◌, length, get_or};
 ghost use Rattle.decimal.specs.Digits.{digits_of};
 ghost use Rattle.window.specs.Window.{text_limit, byte_in, Passed};

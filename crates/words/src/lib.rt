@@ -1,4 +1,6 @@
 // The words that a command line gives, read.
+#![tactic(auto)]
+
 ghost use Rattle.std.specs.Prelude.{◌≡◌, true, ◌+◌, ◌-◌, ◌*◌, ◌≤◌, ◌<◌, length};
 ghost use Rattle.decimal.specs.Digits.{value_of};
 ghost use Rattle.key.specs.Word.{same_word};

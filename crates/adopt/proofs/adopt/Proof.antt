@@ -1,6 +1,6 @@
 -- `adopt::adopt` meets its contract.
 -- Assumes nothing.
-use Rattle.number.proofs.Tools.{arith, needs}
+use Rattle.number.proofs.Tools.{arith, rules}
 use Rattle.head.proofs.HeaderLaws.{header_read, header_refused}
 use Rattle.genuine.proofs.Front.{read_Headed, refused_Headed}
 use Rattle.adopt.proofs.Answers as answers

@@ -1,7 +1,7 @@
 -- `adopt::put_fitted` meets its contract.
 -- Assumes nothing.
 use Rattle.std.specs.Prelude.{◌≡◌, ◌+◌}
-use Rattle.number.proofs.Tools.{arith, needs, length}
+use Rattle.number.proofs.Tools.{arith, rules, length}
 use Rattle.adopt.specs.Adopt.{moved_bytes}
 use Rattle.adopt.proofs.Stored.{length_moved}
 use Rattle.adopt.proofs.Answers as answers

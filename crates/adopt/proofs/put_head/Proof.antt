@@ -1,6 +1,6 @@
 -- `adopt::put_head` meets its contract: one field after another.
 -- Assumes nothing.
-use Rattle.number.proofs.Tools.{arith, needs}
+use Rattle.number.proofs.Tools.{arith, rules}
 use Rattle.adopt.proofs.Stored.{head_stored}
 use Rattle.adopt.proofs.put_head.Statement.{statement}
 use Rattle.adopt.proofs.put_head.Tie as tie

@@ -1,6 +1,6 @@
 -- `adopt::put_moved` meets its contract: header, annotations, zero bytes and the rest, one after another.
 -- Assumes nothing.
-use Rattle.number.proofs.Tools.{arith, needs}
+use Rattle.number.proofs.Tools.{arith, rules}
 use Rattle.adopt.proofs.Stored.{moved_stored}
 use Rattle.adopt.proofs.put_moved.Statement.{statement}
 use Rattle.adopt.proofs.put_moved.Tie as tie

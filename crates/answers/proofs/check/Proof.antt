@@ -1,6 +1,6 @@
 -- `answers::check` meets its contract.
 -- Assumes nothing.
-use Rattle.number.proofs.Tools.{needs}
+use Rattle.number.proofs.Tools.{rules}
 use Rattle.text.specs.Line.{line_of}
 use Rattle.answers.specs.Commands.{check_saying}
 use Rattle.said.specs.Saying.{say_verdict, verdict_why}

@@ -1,6 +1,6 @@
 -- `answers::constant` meets its contract.
 -- Assumes nothing.
-use Rattle.number.proofs.Tools.{sym, ap, ◌∙◌, needs}
+use Rattle.number.proofs.Tools.{sym, ap, ◌∙◌, rules}
 use Rattle.answers.specs.Commands.{constant_saying}
 use Rattle.sayings.specs.Sayings.{say_constant}
 use Rattle.said.proofs.SayingLaws.{Says-as}

@@ -1,6 +1,6 @@
 -- `answers::counted` meets its contract. Digits of another length are asked as no bytes, which is answered alike.
 -- Assumes nothing.
-use Rattle.number.proofs.Tools.{sym, ap, ◌∙◌, needs}
+use Rattle.number.proofs.Tools.{sym, ap, ◌∙◌, rules}
 use Rattle.reader.specs.Reader.{decode}
 use Rattle.lookup.specs.Question.{ask_looks}
 use Rattle.answers.specs.Commands.{with_hex, counted_saying}

@@ -1,6 +1,6 @@
 -- `answers::iid` meets its contract.
 -- Assumes nothing.
-use Rattle.number.proofs.Tools.{needs}
+use Rattle.number.proofs.Tools.{rules}
 use Rattle.guids.proofs.FormLaws.{plain_told, plain_other, plain_length_lem}
 use Rattle.answers.specs.Commands.{iid_saying}
 use Rattle.answers.proofs.iid.Statement.{statement}

@@ -1,6 +1,6 @@
 -- `answers::in_slot` meets its contract.
 -- Assumes nothing.
-use Rattle.number.proofs.Tools.{sym, ap, ◌∙◌, needs}
+use Rattle.number.proofs.Tools.{sym, ap, ◌∙◌, rules}
 use Rattle.sayings.specs.Sayings.{say_method}
 use Rattle.said.proofs.SayingLaws.{Says-as}
 use Rattle.answers.proofs.CommandLaws.{slot_is, slot_not_decimal, slot_too_large}

@@ -2,7 +2,7 @@
 -- Assumes nothing.
 use Prim.Native.Nat.{ℕ}
 use mathlib.Core.List.{List}
-use Rattle.number.proofs.Tools.{sym, ap, ◌∙◌, needs}
+use Rattle.number.proofs.Tools.{sym, ap, ◌∙◌, rules}
 use Rattle.reader.specs.Reader.{decode}
 use Rattle.lookup.specs.Question.{ask_key}
 use Rattle.answers.specs.Commands.{key_saying}

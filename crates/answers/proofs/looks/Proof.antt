@@ -1,6 +1,6 @@
 -- `answers::looks` meets its contract.
 -- Assumes nothing.
-use Rattle.number.proofs.Tools.{needs}
+use Rattle.number.proofs.Tools.{rules}
 use Rattle.guids.proofs.FormLaws.{plain_told, plain_other, plain_length_lem}
 use Rattle.answers.specs.Commands.{looks_saying}
 use Rattle.answers.proofs.looks.Statement.{statement}

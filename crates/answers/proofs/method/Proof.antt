@@ -1,6 +1,6 @@
 -- `answers::method` meets its contract.
 -- Assumes nothing.
-use Rattle.number.proofs.Tools.{sym, ◌∙◌, needs}
+use Rattle.number.proofs.Tools.{sym, ◌∙◌, rules}
 use Rattle.answers.specs.Commands.{method_saying}
 use Rattle.answers.proofs.CommandLaws.{index_is, index_not_decimal, index_too_large}
 use Rattle.answers.proofs.method.Statement.{statement}

@@ -1,6 +1,6 @@
 -- `answers::of_kind` meets its contract.
 -- Assumes nothing.
-use Rattle.number.proofs.Tools.{sym, ap, ◌∙◌, needs}
+use Rattle.number.proofs.Tools.{sym, ap, ◌∙◌, rules}
 use Rattle.sayings.specs.Sayings.{say_method}
 use Rattle.said.proofs.SayingLaws.{Says-as}
 use Rattle.answers.proofs.CommandLaws.{kind_getter, kind_setter, kind_plain, kind_other}

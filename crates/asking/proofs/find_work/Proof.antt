@@ -1,6 +1,6 @@
 -- `asking::find_work` meets its contract: the words lie within the line.
 -- Assumes nothing.
-use Rattle.number.proofs.Tools.{subst, arith, needs}
+use Rattle.number.proofs.Tools.{subst, arith, rules}
 use Rattle.feed.specs.Arguments.{GatheredIn}
 use Rattle.asking.proofs.find_work.Statement.{statement}
 use Rattle.asking.proofs.find_work.Tie as tie

@@ -1,7 +1,7 @@
 -- `asking::put` meets its contract: the bytes lie within the text.
 -- Assumes nothing.
 use lib.Seq.{length-take-le}
-use Rattle.number.proofs.Tools.{sym, arith, needs}
+use Rattle.number.proofs.Tools.{sym, arith, rules}
 use Rattle.asking.proofs.put.Statement.{statement}
 use Rattle.asking.proofs.put.Tie as tie
 

@@ -1,7 +1,7 @@
 -- `asking::put_help_of` meets its contract: the word lies within the line.
 -- Assumes nothing.
 use lib.Seq.{length-take-le}
-use Rattle.number.proofs.Tools.{sym, arith, needs}
+use Rattle.number.proofs.Tools.{sym, arith, rules}
 use Rattle.asking.proofs.put_help_of.Statement.{statement}
 use Rattle.asking.proofs.put_help_of.Tie as tie
 

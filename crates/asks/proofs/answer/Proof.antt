@@ -1,6 +1,6 @@
 -- `asks::answer` meets its contract: the line's task is the question.
 -- Assumes nothing.
-use Rattle.number.proofs.Tools.{needs}
+use Rattle.number.proofs.Tools.{rules}
 use Rattle.commands.specs.Answer.{verb_answer, task_answer, answer_of}
 use Rattle.asks.proofs.answer.Statement.{statement}
 use Rattle.asks.proofs.answer.Tie as tie

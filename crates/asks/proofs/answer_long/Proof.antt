@@ -4,7 +4,7 @@ use mir.Syntax.{w32}
 use mir.Facts.{to_z-of_z}
 use lib.IntN.{ℤ}
 use lib.Seq.{length-take-le}
-use Rattle.number.proofs.Tools.{sym, subst, ℕ, arith, needs, take}
+use Rattle.number.proofs.Tools.{sym, subst, ℕ, arith, rules, take}
 use Rattle.input.specs.declared.Came.{Came}
 use Rattle.input.specs.File.{StandsBehind, Unread, ReadIn, FirstBytes}
 use Rattle.asks.specs.Asked.{name_in}

@@ -5,7 +5,7 @@ use mir.Syntax.{w32}
 use mir.Facts.{to_z-of_z}
 use lib.IntN.{ℤ}
 use lib.Seq.{length-take-le}
-use Rattle.number.proofs.Tools.{sym, subst, ℕ, arith, needs, length, take}
+use Rattle.number.proofs.Tools.{sym, subst, ℕ, arith, rules, length, take}
 use Rattle.input.specs.declared.Begun.{Begun}
 use Rattle.number.specs.Limits.{file_most}
 use Rattle.input.specs.File.{StandsBehind, Unread, Begins}

@@ -1,6 +1,6 @@
 -- `asks::ask_file` meets its contract: the word of the line is the path.
 -- Assumes nothing.
-use Rattle.number.proofs.Tools.{needs}
+use Rattle.number.proofs.Tools.{rules}
 use Rattle.asks.specs.Asked.{name_in}
 use Rattle.asks.proofs.ask_file.Statement.{statement}
 use Rattle.asks.proofs.ask_file.Tie as tie

@@ -4,7 +4,7 @@ use mathlib.Core.List.{List, []}
 use mir.Syntax.{w32}
 use mir.Facts.{to_z-of_z}
 use lib.IntN.{ℤ}
-use Rattle.number.proofs.Tools.{sym, subst, ◌∙◌, ℕ, arith, needs}
+use Rattle.number.proofs.Tools.{sym, subst, ◌∙◌, ℕ, arith, rules}
 use Rattle.input.specs.File.{StandsBehind}
 use Rattle.asks.specs.Asked.{name_in}
 use Rattle.asks.proofs.ask_named.Statement.{statement}

@@ -1,6 +1,6 @@
 -- `asks::run` meets its contract: what is no question is left to a session.
 -- Assumes nothing.
-use Rattle.number.proofs.Tools.{sym, ◌∙◌, ap, needs}
+use Rattle.number.proofs.Tools.{sym, ◌∙◌, ap, rules}
 use Rattle.tasks.specs.declared.Task.TheVariants.{Run}
 use Rattle.asks.specs.Asked.{is_question, is_asked, is_here}
 use Rattle.asks.proofs.AskLaws.{other_verb, other_task_lem}

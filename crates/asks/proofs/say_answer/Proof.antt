@@ -2,7 +2,7 @@
 -- Assumes nothing.
 use mathlib.Core.List.{[]}
 use borrow.Author.Tests.{not-true, not-false}
-use Rattle.number.proofs.Tools.{subst, needs}
+use Rattle.number.proofs.Tools.{subst, rules}
 use Rattle.streams.specs.Printed.{Prints}
 use Rattle.told.proofs.PrintLaws.{Tells-open}
 use Rattle.asks.specs.Asked.{answer_text, Replied, answered}

@@ -2,7 +2,7 @@
 -- Assumes nothing.
 use mir.Syntax.{w32}
 use mir.Facts.{to_z-of_z}
-use Rattle.number.proofs.Tools.{needs}
+use Rattle.number.proofs.Tools.{rules}
 use Rattle.asks.proofs.AskLaws.{Unread-told}
 use Rattle.asks.proofs.say_unread.Statement.{statement}
 use Rattle.asks.proofs.say_unread.Tie as tie

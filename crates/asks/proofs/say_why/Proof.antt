@@ -1,6 +1,6 @@
 -- `asks::say_why` meets its contract.
 -- Assumes nothing.
-use Rattle.number.proofs.Tools.{refl, needs}
+use Rattle.number.proofs.Tools.{refl, rules}
 use Rattle.told.specs.Tells.{is_open}
 use Rattle.asks.proofs.say_why.Statement.{statement}
 use Rattle.asks.proofs.say_why.Tie as tie

@@ -1,6 +1,6 @@
 -- `broken::descriptor_rule` meets its contract.
 -- Assumes nothing.
-use Rattle.number.proofs.Tools.{arith, needs, refl, is_lt, no_lt, is_eq, no_eq}
+use Rattle.number.proofs.Tools.{arith, rules, refl, is_lt, no_lt, is_eq, no_eq}
 use Rattle.broken.specs.Rule.{descriptor_rule}
 use Rattle.broken.proofs.RuleLaws.{methods_stop}
 use Rattle.broken.proofs.descriptor_rule.Statement.{statement}

@@ -1,7 +1,7 @@
 -- `broken::method_rule` meets its contract.
 -- Assumes nothing.
 use Rattle.std.specs.Prelude.{◌+◌}
-use Rattle.number.proofs.Tools.{arith, needs, refl, is_lt, no_lt, is_eq, no_eq}
+use Rattle.number.proofs.Tools.{arith, rules, refl, is_lt, no_lt, is_eq, no_eq}
 use Rattle.broken.specs.Rule.{method_rule}
 use Rattle.broken.proofs.RuleLaws.{arguments_stop}
 use Rattle.broken.proofs.method_rule.Statement.{statement}

@@ -1,7 +1,7 @@
 -- `broken::method_stop` meets its contract. The loop's invariant: k records are read up to p, and the reading stops where that of the rest does.
 -- Assumes nothing.
 use Rattle.std.specs.Prelude.{◌≡◌, ◌-◌, ◌≤◌}
-use Rattle.number.proofs.Tools.{arith, needs, length}
+use Rattle.number.proofs.Tools.{arith, rules, length}
 use Rattle.method.proofs.MethodLaws.{method_ends}
 use Rattle.method.specs.Method.{read_method}
 use Rattle.broken.specs.Stop.{stop_from, stop_of}

@@ -1,6 +1,6 @@
 -- `broken::own_rule` meets its contract.
 -- Assumes nothing.
-use Rattle.number.proofs.Tools.{arith, needs, refl, is_eq, no_eq}
+use Rattle.number.proofs.Tools.{arith, rules, refl, is_eq, no_eq}
 use Rattle.broken.specs.Rule.{own_rule}
 use Rattle.broken.proofs.own_rule.Statement.{statement}
 use Rattle.broken.proofs.own_rule.Tie as tie

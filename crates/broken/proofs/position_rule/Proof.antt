@@ -1,6 +1,6 @@
 -- `broken::position_rule` meets its contract.
 -- Assumes nothing.
-use Rattle.number.proofs.Tools.{arith, needs, refl, is_lt, no_lt, is_eq, no_eq, is_ne, no_ne}
+use Rattle.number.proofs.Tools.{arith, rules, refl, is_lt, no_lt, is_eq, no_eq, is_ne, no_ne}
 use Rattle.broken.specs.Rule.{position_rule}
 use Rattle.broken.proofs.position_rule.Statement.{statement}
 use Rattle.broken.proofs.position_rule.Tie as tie

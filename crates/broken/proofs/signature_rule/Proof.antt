@@ -1,6 +1,6 @@
 -- `broken::signature_rule` meets its contract.
 -- Assumes nothing.
-use Rattle.number.proofs.Tools.{arith, needs}
+use Rattle.number.proofs.Tools.{arith, rules}
 use Rattle.reading.proofs.Rows.{accepted}
 use Rattle.method.proofs.Arguments.{arguments_end}
 use Rattle.method.proofs.RuleLaws.{result_at, result_type}

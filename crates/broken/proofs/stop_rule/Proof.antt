@@ -1,6 +1,6 @@
 -- `broken::stop_rule` meets its contract.
 -- Assumes nothing.
-use Rattle.number.proofs.Tools.{arith, needs, refl, is_true, is_false, is_ne, no_ne}
+use Rattle.number.proofs.Tools.{arith, rules, refl, is_true, is_false, is_ne, no_ne}
 use Rattle.number.proofs.Choice.{yes_eq, not_eq}
 use Rattle.broken.specs.Rule.{param_rule, stop_rule}
 use Rattle.broken.proofs.stop_rule.Statement.{statement}

@@ -1,6 +1,6 @@
 -- `broken::table_rule` meets its contract.
 -- Assumes nothing.
-use Rattle.number.proofs.Tools.{needs}
+use Rattle.number.proofs.Tools.{rules}
 use Rattle.broken.specs.Rule.{table_rule}
 use Rattle.broken.proofs.RuleLaws.{rule_stop, rule_many, rule_pair}
 use Rattle.broken.proofs.table_rule.Statement.{statement}

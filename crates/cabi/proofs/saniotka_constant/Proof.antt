@@ -1,6 +1,6 @@
 -- `cabi::saniotka_constant` meets its contract.
 -- Assumes nothing.
-use Rattle.number.proofs.Tools.{arith, needs}
+use Rattle.number.proofs.Tools.{arith, rules}
 use Rattle.numbers.specs.Numbers.{constant_numbers}
 use Rattle.numbers.proofs.Calls.{short, answers}
 use Rattle.cabi.proofs.saniotka_constant.Statement.{statement}

@@ -1,6 +1,6 @@
 -- `cabi::saniotka_method` meets its contract.
 -- Assumes nothing.
-use Rattle.number.proofs.Tools.{arith, needs}
+use Rattle.number.proofs.Tools.{arith, rules}
 use Rattle.numbers.specs.Numbers.{method_numbers}
 use Rattle.numbers.proofs.Calls.{short, answers}
 use Rattle.cabi.proofs.saniotka_method.Statement.{statement}

@@ -1,7 +1,7 @@
 -- `changes::say_listed` meets its contract: each report is read within its list.
 -- Assumes nothing.
 use Rattle.std.specs.Prelude.{◌-◌, ◌≤◌}
-use Rattle.number.proofs.Tools.{arith, needs}
+use Rattle.number.proofs.Tools.{arith, rules}
 use Rattle.changes.proofs.say_listed.Statement.{statement}
 use Rattle.changes.proofs.say_listed.Tie as tie
 

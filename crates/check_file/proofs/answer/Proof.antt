@@ -1,6 +1,6 @@
 -- `check_file::answer` meets its contract: the line of what the check answers.
 -- Assumes nothing.
-use Rattle.number.proofs.Tools.{needs}
+use Rattle.number.proofs.Tools.{rules}
 use Rattle.check_file.proofs.answer.Statement.{statement}
 use Rattle.check_file.proofs.answer.Tie as tie
 

@@ -1,7 +1,7 @@
 -- `check_file::report` meets its contract: a line lies within its 64 bytes.
 -- Assumes nothing.
 use lib.Seq.{length-take-le}
-use Rattle.number.proofs.Tools.{sym, needs, arith}
+use Rattle.number.proofs.Tools.{sym, rules, arith}
 use Rattle.check_file.proofs.report.Statement.{statement}
 use Rattle.check_file.proofs.report.Tie as tie
 

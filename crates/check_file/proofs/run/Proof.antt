@@ -1,7 +1,7 @@
 -- `check_file::run` meets its contract: what was read stands at the front of the buffer.
 -- Assumes nothing.
 use lib.Seq.{length-take-le}
-use Rattle.number.proofs.Tools.{refl, sym, subst, ℕ, arith, needs, take}
+use Rattle.number.proofs.Tools.{refl, sym, subst, ℕ, arith, rules, take}
 use Rattle.key.proofs.Orders.{same_word_lem}
 use Rattle.ascii.specs.Ascii.{ascii}
 use Rattle.input.specs.declared.Came.{Came}

@@ -1,6 +1,6 @@
 -- `commands::answer` meets its contract.
 -- Assumes nothing.
-use Rattle.number.proofs.Tools.{needs}
+use Rattle.number.proofs.Tools.{rules}
 use Rattle.commands.specs.Answer.{task_answer, answer_of}
 use Rattle.commands.proofs.ReplyLaws.{Says-Replies, Opens-Replies, silent_Says}
 use Rattle.commands.proofs.answer.Statement.{statement}

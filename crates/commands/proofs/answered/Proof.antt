@@ -1,6 +1,6 @@
 -- `commands::answered` meets its contract.
 -- Assumes nothing.
-use Rattle.number.proofs.Tools.{refl, needs}
+use Rattle.number.proofs.Tools.{refl, rules}
 use Rattle.commands.proofs.answered.Statement.{statement}
 use Rattle.commands.proofs.answered.Tie as tie
 

@@ -1,6 +1,6 @@
 -- `commands::run` meets its contract.
 -- Assumes nothing.
-use Rattle.number.proofs.Tools.{needs}
+use Rattle.number.proofs.Tools.{rules}
 use Rattle.commands.specs.Answer.{verb_answer}
 use Rattle.commands.proofs.ReplyLaws.{Says-Replies, Makes-Replies}
 use Rattle.commands.proofs.run.Statement.{statement}

@@ -1,6 +1,6 @@
 -- `commands::table` meets its contract.
 -- Assumes nothing.
-use Rattle.number.proofs.Tools.{needs}
+use Rattle.number.proofs.Tools.{rules}
 use Rattle.words.proofs.SpanLaws.{word_bytes}
 use Rattle.streamed.proofs.StreamLaws.{listing-Opens}
 use Rattle.commands.specs.Answer.{verb_answer}

@@ -1,6 +1,6 @@
 -- `commands::written` meets its contract.
 -- Assumes nothing.
-use Rattle.number.proofs.Tools.{refl, needs}
+use Rattle.number.proofs.Tools.{refl, rules}
 use Rattle.commands.proofs.written.Statement.{statement}
 use Rattle.commands.proofs.written.Tie as tie
 

@@ -1,6 +1,6 @@
 -- `directory::check_directory` meets its contract: the part lent is the pool.
 -- Assumes nothing.
-use Rattle.number.proofs.Tools.{needs}
+use Rattle.number.proofs.Tools.{rules}
 use Rattle.number.proofs.Parts.{part_rest}
 use Rattle.directory.proofs.check_directory.Statement.{statement}
 use Rattle.directory.proofs.check_directory.Tie as tie

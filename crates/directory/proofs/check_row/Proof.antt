@@ -1,6 +1,6 @@
 -- `directory::check_row` meets its contract, in the order of the definition's lines. `first`, `name` and `space` are the places after each test passed.
 -- Assumes nothing.
-use Rattle.number.proofs.Tools.{sym, ◌∙◌, needs}
+use Rattle.number.proofs.Tools.{sym, ◌∙◌, rules}
 use Rattle.reading.proofs.Steps.{at_end, at_bad, is_true, is_false, next-end, next-refused}
 use Rattle.directory.specs.Directory.{read_row}
 use Rattle.directory.proofs.check_row.Statement.{statement}

@@ -1,7 +1,7 @@
 -- `directory::check_rows` meets its contract. The loop's invariant: the whole is what the entries from k on give.
 -- Assumes nothing.
 use Rattle.std.specs.Prelude.{◌≡◌, ◌+◌, ◌-◌, ◌*◌, ◌≤◌}
-use Rattle.number.proofs.Tools.{arith, needs}
+use Rattle.number.proofs.Tools.{arith, rules}
 use Rattle.reading.specs.Got.{many, step_of}
 use Rattle.reading.proofs.Steps.{turn_refused}
 use Rattle.directory.specs.Directory.{read_row, read_directory}

@@ -1,6 +1,6 @@
 -- `directory::iid_falls` meets its contract: the high halves tell, or the low ones.
 -- Assumes nothing.
-use Rattle.number.proofs.Tools.{refl, sym, arith, needs, is_true, is_false}
+use Rattle.number.proofs.Tools.{refl, sym, arith, rules, is_true, is_false}
 use Rattle.number.proofs.Choice.{yes_le, not_le}
 use native.Mathlib.Nat.{le_of_lt}
 use Rattle.directory.specs.Directory.{falls}

@@ -1,6 +1,6 @@
 -- `directory::lacks_iid` meets its contract.
 -- Assumes nothing.
-use Rattle.number.proofs.Tools.{refl, arith, needs, is_eq, no_eq}
+use Rattle.number.proofs.Tools.{refl, arith, rules, is_eq, no_eq}
 use Rattle.directory.specs.Directory.{lacks_iid}
 use Rattle.directory.proofs.lacks_iid.Statement.{statement}
 use Rattle.directory.proofs.lacks_iid.Tie as tie

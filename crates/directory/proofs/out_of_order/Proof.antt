@@ -1,6 +1,6 @@
 -- `directory::out_of_order` meets its contract.
 -- Assumes nothing.
-use Rattle.number.proofs.Tools.{refl, arith, needs, is_eq, no_eq}
+use Rattle.number.proofs.Tools.{refl, arith, rules, is_eq, no_eq}
 use Rattle.directory.specs.Directory.{out_of_order}
 use Rattle.directory.proofs.out_of_order.Statement.{statement}
 use Rattle.directory.proofs.out_of_order.Tie as tie

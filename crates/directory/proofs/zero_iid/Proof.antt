@@ -1,6 +1,6 @@
 -- `directory::zero_iid` meets its contract.
 -- Assumes nothing.
-use Rattle.number.proofs.Tools.{sym, arith, needs}
+use Rattle.number.proofs.Tools.{sym, arith, rules}
 use Rattle.number.specs.Choice.{◌=?◌}
 use Rattle.number.proofs.Choice.{not_eq}
 use Rattle.directory.proofs.IidLaws.{iid_zero, iid_nonzero}

@@ -1,7 +1,7 @@
 -- `failures::aside` meets its contract.
 -- Assumes nothing.
 use mathlib.Core.List.{◌++◌}
-use Rattle.number.proofs.Tools.{arith, needs}
+use Rattle.number.proofs.Tools.{arith, rules}
 use Rattle.ascii.specs.Ascii.{ascii}
 use Rattle.text.proofs.WritingLaws.{wrote, Wrote-then}
 use Rattle.failures.specs.Lines.{without_error, name_before, aside_text}

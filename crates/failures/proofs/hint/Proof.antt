@@ -1,6 +1,6 @@
 -- `failures::hint` meets its contract.
 -- Assumes nothing.
-use Rattle.number.proofs.Tools.{needs}
+use Rattle.number.proofs.Tools.{rules}
 use Rattle.failures.specs.Lines.{hint_text}
 use Rattle.failures.proofs.hint.Statement.{statement}
 use Rattle.failures.proofs.hint.Tie as tie

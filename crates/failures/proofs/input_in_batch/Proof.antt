@@ -1,6 +1,6 @@
 -- `failures::input_in_batch` meets its contract.
 -- Assumes nothing.
-use Rattle.number.proofs.Tools.{needs}
+use Rattle.number.proofs.Tools.{rules}
 use Rattle.failures.specs.Lines.{input_in_batch_text}
 use Rattle.failures.proofs.input_in_batch.Statement.{statement}
 use Rattle.failures.proofs.input_in_batch.Tie as tie

@@ -1,6 +1,6 @@
 -- `failures::line_too_long` meets its contract.
 -- Assumes nothing.
-use Rattle.number.proofs.Tools.{needs}
+use Rattle.number.proofs.Tools.{rules}
 use Rattle.failures.specs.Lines.{line_too_long_text}
 use Rattle.failures.proofs.line_too_long.Statement.{statement}
 use Rattle.failures.proofs.line_too_long.Tie as tie

@@ -1,6 +1,6 @@
 -- `failures::no_command` meets its contract.
 -- Assumes nothing.
-use Rattle.number.proofs.Tools.{needs}
+use Rattle.number.proofs.Tools.{rules}
 use Rattle.failures.specs.Lines.{no_command_text}
 use Rattle.failures.proofs.no_command.Statement.{statement}
 use Rattle.failures.proofs.no_command.Tie as tie

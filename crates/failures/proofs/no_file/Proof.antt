@@ -1,6 +1,6 @@
 -- `failures::no_file` meets its contract.
 -- Assumes nothing.
-use Rattle.number.proofs.Tools.{needs}
+use Rattle.number.proofs.Tools.{rules}
 use Rattle.failures.specs.Lines.{no_file_text}
 use Rattle.failures.proofs.no_file.Statement.{statement}
 use Rattle.failures.proofs.no_file.Tie as tie

@@ -1,6 +1,6 @@
 -- `failures::output_gone` meets its contract.
 -- Assumes nothing.
-use Rattle.number.proofs.Tools.{needs}
+use Rattle.number.proofs.Tools.{rules}
 use Rattle.failures.specs.Lines.{output_gone_text}
 use Rattle.failures.proofs.output_gone.Statement.{statement}
 use Rattle.failures.proofs.output_gone.Tie as tie

@@ -1,6 +1,6 @@
 -- `failures::put_before` meets its contract.
 -- Assumes nothing.
-use Rattle.number.proofs.Tools.{refl, arith, needs, is_lt, no_lt, is_eq, no_eq}
+use Rattle.number.proofs.Tools.{refl, arith, rules, is_lt, no_lt, is_eq, no_eq}
 use Rattle.text.proofs.WritingLaws.{Wrote-as}
 use Rattle.failures.specs.Lines.{name_before}
 use Rattle.failures.proofs.MadeLaws.{none_written}

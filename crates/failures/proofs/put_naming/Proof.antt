@@ -1,6 +1,6 @@
 -- `failures::put_naming` meets its contract.
 -- Assumes nothing.
-use Rattle.number.proofs.Tools.{arith, needs}
+use Rattle.number.proofs.Tools.{arith, rules}
 use Rattle.ascii.specs.Ascii.{ascii}
 use Rattle.text.proofs.WritingLaws.{wrote, Wrote-then}
 use Rattle.failures.specs.Shown.{shown_word}

@@ -1,6 +1,6 @@
 -- `failures::put_question` meets its contract.
 -- Assumes nothing.
-use Rattle.number.proofs.Tools.{arith, needs}
+use Rattle.number.proofs.Tools.{arith, rules}
 use Rattle.text.proofs.WritingLaws.{wrote}
 use Rattle.failures.specs.Lines.{question_words}
 use Rattle.failures.proofs.put_question.Statement.{statement}

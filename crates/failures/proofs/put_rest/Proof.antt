@@ -1,6 +1,6 @@
 -- `failures::put_rest` meets its contract.
 -- Assumes nothing.
-use Rattle.number.proofs.Tools.{refl, arith, needs, is_lt, no_lt}
+use Rattle.number.proofs.Tools.{refl, arith, rules, is_lt, no_lt}
 use Rattle.number.proofs.Parts.{part_rest}
 use Rattle.text.proofs.WritingLaws.{wrote, Wrote-as}
 use Rattle.failures.specs.Lines.{without_error}

@@ -3,7 +3,7 @@
 use lib.ListN.{length-set}
 use lib.Seq.{sets, take_all}
 use Rattle.std.specs.Prelude.{◌≡◌, ◌+◌, ◌-◌, ◌≤◌}
-use Rattle.number.proofs.Tools.{refl, arith, needs, length, take}
+use Rattle.number.proofs.Tools.{refl, arith, rules, length, take}
 use Rattle.failures.specs.Shown.{shown_word}
 use Rattle.failures.proofs.ShownLaws.{length_shown, shown_stored}
 use Rattle.failures.proofs.put_shown.Statement.{statement}

@@ -1,6 +1,6 @@
 -- `failures::put_words` meets its contract.
 -- Assumes nothing.
-use Rattle.number.proofs.Tools.{arith, needs}
+use Rattle.number.proofs.Tools.{arith, rules}
 use Rattle.text.proofs.WritingLaws.{wrote}
 use Rattle.failures.specs.Lines.{verb_words}
 use Rattle.failures.proofs.MadeLaws.{none_written}

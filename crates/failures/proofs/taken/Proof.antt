@@ -1,6 +1,6 @@
 -- `failures::taken` meets its contract.
 -- Assumes nothing.
-use Rattle.number.proofs.Tools.{needs}
+use Rattle.number.proofs.Tools.{rules}
 use Rattle.failures.specs.Lines.{taken_text}
 use Rattle.failures.proofs.taken.Statement.{statement}
 use Rattle.failures.proofs.taken.Tie as tie

@@ -2,7 +2,7 @@
 -- Assumes nothing.
 use mir.Facts.{to_z-of_z}
 use mir.Syntax.{w32}
-use Rattle.number.proofs.Tools.{ap, ◌∙◌, needs}
+use Rattle.number.proofs.Tools.{ap, ◌∙◌, rules}
 use Rattle.ascii.specs.Ascii.{ascii}
 use Rattle.signed.specs.Bits.{or_zero}
 use Rattle.failures.specs.Lines.{failed_text, unread_text}

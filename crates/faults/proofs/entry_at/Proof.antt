@@ -1,6 +1,6 @@
 -- `faults::entry_at` meets its contract.
 -- Assumes nothing.
-use Rattle.number.proofs.Tools.{arith, needs, refl, is_lt, no_lt}
+use Rattle.number.proofs.Tools.{arith, rules, refl, is_lt, no_lt}
 use Rattle.faults.specs.Fault.{entry_at}
 use Rattle.faults.proofs.entry_at.Statement.{statement}
 use Rattle.faults.proofs.entry_at.Tie as tie

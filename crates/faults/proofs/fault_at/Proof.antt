@@ -1,6 +1,6 @@
 -- `faults::fault_at` meets its contract.
 -- Assumes nothing.
-use Rattle.number.proofs.Tools.{arith, needs, refl, is_eq, no_eq}
+use Rattle.number.proofs.Tools.{arith, rules, refl, is_eq, no_eq}
 use Rattle.head.proofs.HeaderLaws.{header_said}
 use Rattle.faults.specs.Fault.{no_fault, fault_at}
 use Rattle.faults.proofs.FaultLaws.{own_read_lem, own_none}

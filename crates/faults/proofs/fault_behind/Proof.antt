@@ -1,6 +1,6 @@
 -- `faults::fault_behind` meets its contract.
 -- Assumes nothing.
-use Rattle.number.proofs.Tools.{needs}
+use Rattle.number.proofs.Tools.{rules}
 use Rattle.faults.proofs.fault_behind.Statement.{statement}
 use Rattle.faults.proofs.fault_behind.Tie as tie
 

@@ -1,6 +1,6 @@
 -- `faults::fault_of` meets its contract.
 -- Assumes nothing.
-use Rattle.number.proofs.Tools.{arith, needs, refl, is_eq, no_eq, is_lt, no_lt}
+use Rattle.number.proofs.Tools.{arith, rules, refl, is_eq, no_eq, is_lt, no_lt}
 use Rattle.head.proofs.HeaderLaws.{header_said}
 use Rattle.faults.specs.Fault.{no_fault, fault_of}
 use Rattle.faults.proofs.FaultLaws.{fault_rule, fault_read, fault_none}

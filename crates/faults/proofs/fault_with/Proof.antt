@@ -1,6 +1,6 @@
 -- `faults::fault_with` meets its contract.
 -- Assumes nothing.
-use Rattle.number.proofs.Tools.{arith, needs, is_lt, no_lt}
+use Rattle.number.proofs.Tools.{arith, rules, is_lt, no_lt}
 use Rattle.number.proofs.Parts.{part_rest}
 use Rattle.typelib.specs.Typelib.{pool_of, context_of}
 use Rattle.faults.specs.Fault.{fault_with}

@@ -1,6 +1,6 @@
 -- `faults::own_fault` meets its contract.
 -- Assumes nothing.
-use Rattle.number.proofs.Tools.{arith, needs, refl, is_le, no_le, is_ne, no_ne}
+use Rattle.number.proofs.Tools.{arith, rules, refl, is_le, no_le, is_ne, no_ne}
 use Rattle.typelib.specs.Directory.{own_pointer}
 use Rattle.faults.specs.Fault.{no_fault, own_fault}
 use Rattle.faults.proofs.FaultLaws.{fault_rule}

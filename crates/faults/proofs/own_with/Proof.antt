@@ -1,6 +1,6 @@
 -- `faults::own_with` meets its contract.
 -- Assumes nothing.
-use Rattle.number.proofs.Tools.{needs}
+use Rattle.number.proofs.Tools.{rules}
 use Rattle.number.proofs.Parts.{part_rest}
 use Rattle.typelib.specs.Typelib.{pool_of, context_of}
 use Rattle.faults.proofs.own_with.Statement.{statement}

@@ -1,6 +1,6 @@
 -- `feed::last_line` meets its contract: nothing is left, or what is left is the last line.
 -- Assumes nothing.
-use Rattle.number.proofs.Tools.{sym, subst, needs}
+use Rattle.number.proofs.Tools.{sym, subst, rules}
 use Rattle.feed.specs.declared.Feed.{Feed}
 use Rattle.feed.specs.Input.{TakesLine}
 use Rattle.feed.proofs.InputLaws.{takes_last, over_plain}

@@ -2,7 +2,7 @@
 -- Assumes nothing.
 use lib.ListN.{length-set}
 use Rattle.std.specs.Prelude.{◌≡◌, ◌+◌, ◌-◌, ◌≤◌}
-use Rattle.number.proofs.Tools.{refl, arith, needs, length}
+use Rattle.number.proofs.Tools.{refl, arith, rules, length}
 use Rattle.feed.proofs.BufferLaws.{MovedTo, moved_start, moved_next, moved_none, moved_all}
 use Rattle.feed.proofs.move_down.Statement.{statement}
 use Rattle.feed.proofs.move_down.Tie as tie

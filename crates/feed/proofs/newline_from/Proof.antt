@@ -1,7 +1,7 @@
 -- `feed::newline_from` meets its contract. The loop's invariant: no newline stands before i. The measure is what is left to look at.
 -- Assumes nothing.
 use Rattle.std.specs.Prelude.{◌≡◌, ◌-◌, ◌≤◌}
-use Rattle.number.proofs.Tools.{subst, ℕ, arith, needs}
+use Rattle.number.proofs.Tools.{subst, ℕ, arith, rules}
 use Rattle.feed.specs.Input.{NoNewline}
 use Rattle.feed.proofs.InputLaws.{none_empty, none_next}
 use Rattle.feed.proofs.newline_from.Statement.{statement}

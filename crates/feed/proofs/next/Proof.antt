@@ -1,7 +1,7 @@
 -- `feed::next` meets its contract: what comes next is what comes after a line that is passed over.
 -- Assumes nothing.
 use borrow.Author.Tests.{not-true, not-false}
-use Rattle.number.proofs.Tools.{arith, needs}
+use Rattle.number.proofs.Tools.{arith, rules}
 use Rattle.feed.proofs.InputLaws.{then_Comes, over_passing, more_passing}
 use Rattle.feed.specs.declared.Coming.TheVariants.{Over}
 use Rattle.feed.proofs.next.Statement.{statement}

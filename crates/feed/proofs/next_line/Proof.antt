@@ -1,6 +1,6 @@
 -- `feed::next_line` meets its contract: the first newline behind what was seen is that of the whole line.
 -- Assumes nothing.
-use Rattle.number.proofs.Tools.{sym, subst, needs}
+use Rattle.number.proofs.Tools.{sym, subst, rules}
 use Rattle.feed.specs.declared.Feed.{Feed}
 use Rattle.feed.specs.Input.{TakesLine}
 use Rattle.feed.proofs.InputLaws.{first_whole, takes_line, searched}

@@ -2,7 +2,7 @@
 -- Assumes nothing.
 use mathlib.Core.List.{◌++◌}
 use Rattle.std.specs.Prelude.{◌≡◌, ◌-◌}
-use Rattle.number.proofs.Tools.{refl, ℕ, arith, needs, length, drop}
+use Rattle.number.proofs.Tools.{refl, ℕ, arith, rules, length, drop}
 use Rattle.feed.proofs.BufferLaws.{front_kept}
 use Rattle.feed.proofs.read_at.Statement.{statement}
 use Rattle.feed.proofs.read_at.Tie as tie

@@ -1,7 +1,7 @@
 -- `feed::skip` meets its contract: up to the newline, or all of it.
 -- Assumes nothing.
 use borrow.Author.Tests.{not-true, not-false}
-use Rattle.number.proofs.Tools.{sym, subst, needs}
+use Rattle.number.proofs.Tools.{sym, subst, rules}
 use Rattle.feed.specs.Input.{Skips}
 use Rattle.feed.proofs.InputLaws.{first_whole, Skips-none, Skips-line, Skips-all}
 use Rattle.feed.proofs.skip.Statement.{statement}

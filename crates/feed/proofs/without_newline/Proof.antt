@@ -1,6 +1,6 @@
 -- `feed::without_newline` meets its contract: too long, the last, or not whole.
 -- Assumes nothing.
-use Rattle.number.proofs.Tools.{sym, subst, needs}
+use Rattle.number.proofs.Tools.{sym, subst, rules}
 use Rattle.feed.specs.declared.Feed.{Feed}
 use Rattle.feed.specs.Input.{PassesLine}
 use Rattle.feed.proofs.InputLaws.{passes_line, asks_more}

@@ -1,7 +1,7 @@
 -- `filing::put_directory` meets its contract.
 -- Assumes nothing.
 use Rattle.std.specs.Prelude.{◌-◌}
-use Rattle.number.proofs.Tools.{arith, needs}
+use Rattle.number.proofs.Tools.{arith, rules}
 use Rattle.iids.specs.Cells.{cell}
 use Rattle.writing.proofs.Lent.{length-rest}
 use Rattle.filing.proofs.Rows as laws

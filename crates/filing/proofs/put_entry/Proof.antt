@@ -1,6 +1,6 @@
 -- `filing::put_entry` meets its contract: one field after another.
 -- Assumes nothing.
-use Rattle.number.proofs.Tools.{arith, needs}
+use Rattle.number.proofs.Tools.{arith, rules}
 use Rattle.filing.proofs.Rows as laws
 use Rattle.filing.proofs.put_entry.Statement.{statement}
 use Rattle.filing.proofs.put_entry.Tie as tie

@@ -1,6 +1,6 @@
 -- `filing::space_place` meets its contract.
 -- Assumes nothing.
-use Rattle.number.proofs.Tools.{arith, needs, refl, is_eq, no_eq}
+use Rattle.number.proofs.Tools.{arith, rules, refl, is_eq, no_eq}
 use Rattle.iids.specs.Cells.{cell}
 use Rattle.filing.specs.Listed.{space_of}
 use Rattle.filing.proofs.space_place.Statement.{statement}

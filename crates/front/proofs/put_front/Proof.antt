@@ -1,7 +1,7 @@
 -- `front::put_front` meets its contract: one field after another.
 -- Assumes nothing.
 use lib.ListN.{length-set}
-use Rattle.number.proofs.Tools.{arith, needs}
+use Rattle.number.proofs.Tools.{arith, rules}
 use Rattle.normal.specs.Normal.{note_bytes}
 use Rattle.front.proofs.Fields as laws
 use Rattle.front.proofs.put_front.Statement.{statement}

@@ -1,6 +1,6 @@
 -- `gather::is_default` meets its contract.
 -- Assumes nothing.
-use Rattle.number.proofs.Tools.{arith, needs}
+use Rattle.number.proofs.Tools.{arith, rules}
 use Rattle.gather.proofs.Keys as laws
 use Rattle.gather.proofs.is_default.Statement.{statement}
 use Rattle.gather.proofs.is_default.Tie as tie

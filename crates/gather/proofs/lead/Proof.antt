@@ -1,6 +1,6 @@
 -- `gather::lead` meets its contract.
 -- Assumes nothing.
-use Rattle.number.proofs.Tools.{arith, needs, sym}
+use Rattle.number.proofs.Tools.{arith, rules, sym}
 use Rattle.gather.proofs.Leads as laws
 use Rattle.gather.proofs.lead.Statement.{statement}
 use Rattle.gather.proofs.lead.Tie as tie

@@ -1,6 +1,6 @@
 -- `gather::note_body` meets its contract.
 -- Assumes nothing.
-use Rattle.number.proofs.Tools.{arith, needs, refl}
+use Rattle.number.proofs.Tools.{arith, rules, refl}
 use Rattle.number.specs.Limits.{file_limit}
 use Rattle.gather.proofs.Words.{Based-here, Based-there}
 use Rattle.gather.proofs.Owns as laws

@@ -1,6 +1,6 @@
 -- `gather::note_descriptor` meets its contract.
 -- Assumes nothing.
-use Rattle.number.proofs.Tools.{arith, needs, refl}
+use Rattle.number.proofs.Tools.{arith, rules, refl}
 use Rattle.writing.proofs.Sources.{Room-Stands, Known-Stands}
 use Rattle.interfaces.proofs.Descriptors.{front_in}
 use Rattle.gather.proofs.Descriptors as laws

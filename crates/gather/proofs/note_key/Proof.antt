@@ -1,6 +1,6 @@
 -- `gather::note_key` meets its contract.
 -- Assumes nothing.
-use Rattle.number.proofs.Tools.{arith, needs, sym, ◌∙◌}
+use Rattle.number.proofs.Tools.{arith, rules, sym, ◌∙◌}
 use Rattle.key.specs.Key.{key_space}
 use Rattle.gather.proofs.Keys as laws
 use Rattle.gather.proofs.note_key.Statement.{statement}

@@ -2,7 +2,7 @@
 -- Assumes nothing.
 use lib.ListN.{length-set}
 use Rattle.std.specs.Prelude.{◌-◌}
-use Rattle.number.proofs.Tools.{arith, needs}
+use Rattle.number.proofs.Tools.{arith, rules}
 use Rattle.gather.proofs.Turns as turns
 use Rattle.gather.proofs.note_rows.Statement.{statement}
 use Rattle.gather.proofs.note_rows.Tie as tie

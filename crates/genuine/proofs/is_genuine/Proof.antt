@@ -1,6 +1,6 @@
 -- `genuine::is_genuine` meets its contract.
 -- Assumes nothing.
-use Rattle.number.proofs.Tools.{arith, needs}
+use Rattle.number.proofs.Tools.{arith, rules}
 use Rattle.head.proofs.HeaderLaws.{header_read, header_refused}
 use Rattle.genuine.proofs.Front.{refused_Headed}
 use Rattle.genuine.proofs.Passing as laws

@@ -1,6 +1,6 @@
 -- `genuine::lists_genuine` meets its contract.
 -- Assumes nothing.
-use Rattle.number.proofs.Tools.{arith, needs}
+use Rattle.number.proofs.Tools.{arith, rules}
 use Rattle.genuine.proofs.Passing as laws
 use Rattle.genuine.proofs.lists_genuine.Statement.{statement}
 use Rattle.genuine.proofs.lists_genuine.Tie as tie

@@ -1,6 +1,6 @@
 -- `genuine::passes_annotations` meets its contract.
 -- Assumes nothing.
-use Rattle.number.proofs.Tools.{needs}
+use Rattle.number.proofs.Tools.{rules}
 use Rattle.genuine.proofs.Passing.{end-passes, refused_fails}
 use Rattle.genuine.proofs.passes_annotations.Statement.{statement}
 use Rattle.genuine.proofs.passes_annotations.Tie as tie

@@ -1,6 +1,6 @@
 -- `genuine::passes_directory` meets its contract.
 -- Assumes nothing.
-use Rattle.number.proofs.Tools.{needs}
+use Rattle.number.proofs.Tools.{rules}
 use Rattle.genuine.proofs.Passing.{end-passes, refused_fails}
 use Rattle.genuine.proofs.passes_directory.Statement.{statement}
 use Rattle.genuine.proofs.passes_directory.Tie as tie

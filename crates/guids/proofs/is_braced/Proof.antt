@@ -1,6 +1,6 @@
 -- `guids::is_braced` meets its contract.
 -- Assumes nothing.
-use Rattle.number.proofs.Tools.{refl, arith, needs, is_ne, no_ne, ◌=?◌}
+use Rattle.number.proofs.Tools.{refl, arith, rules, is_ne, no_ne, ◌=?◌}
 use Rattle.guids.specs.Forms.{is_braced}
 use Rattle.guids.proofs.is_braced.Statement.{statement}
 use Rattle.guids.proofs.is_braced.Tie as tie

@@ -1,6 +1,6 @@
 -- `guids::is_hyphened` meets its contract.
 -- Assumes nothing.
-use Rattle.number.proofs.Tools.{refl, arith, needs, is_ne, no_ne, ◌=?◌}
+use Rattle.number.proofs.Tools.{refl, arith, rules, is_ne, no_ne, ◌=?◌}
 use Rattle.guids.specs.Forms.{is_hyphened}
 use Rattle.guids.proofs.is_hyphened.Statement.{statement}
 use Rattle.guids.proofs.is_hyphened.Tie as tie

@@ -1,6 +1,6 @@
 -- `guids::plain` meets its contract.
 -- Assumes nothing.
-use Rattle.number.proofs.Tools.{sym, ◌∙◌, arith, needs}
+use Rattle.number.proofs.Tools.{sym, ◌∙◌, arith, rules}
 use Rattle.guids.proofs.FormLaws.{braced_length, inside, outside}
 use Rattle.guids.proofs.plain.Statement.{statement}
 use Rattle.guids.proofs.plain.Tie as tie

@@ -3,7 +3,7 @@
 use mathlib.Core.List.{List, ◌++◌}
 use lib.ListN.{length-append}
 use Rattle.std.specs.Prelude.{◌≡◌, ◌+◌}
-use Rattle.number.proofs.Tools.{ℕ, arith, needs, length, take, drop}
+use Rattle.number.proofs.Tools.{ℕ, arith, rules, length, take, drop}
 use Rattle.decimal.proofs.Stores.{chain}
 use Rattle.guids.specs.Forms.{unhyphened}
 use Rattle.guids.proofs.FormLaws.{filled}

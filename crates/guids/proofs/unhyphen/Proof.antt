@@ -1,6 +1,6 @@
 -- `guids::unhyphen` meets its contract.
 -- Assumes nothing.
-use Rattle.number.proofs.Tools.{sym, ◌∙◌, needs}
+use Rattle.number.proofs.Tools.{sym, ◌∙◌, rules}
 use Rattle.guids.proofs.FormLaws.{hyphened_length, spells, Spells-none}
 use Rattle.guids.proofs.unhyphen.Statement.{statement}
 use Rattle.guids.proofs.unhyphen.Tie as tie

@@ -1,6 +1,6 @@
 -- `halving::compare_iid` meets its contract.
 -- Assumes nothing.
-use Rattle.number.proofs.Tools.{arith, needs}
+use Rattle.number.proofs.Tools.{arith, rules}
 use Rattle.halving.proofs.Numbers as laws
 use Rattle.halving.proofs.compare_iid.Statement.{statement}
 use Rattle.halving.proofs.compare_iid.Tie as tie

@@ -2,7 +2,7 @@
 -- Assumes nothing.
 use Rattle.std.specs.Prelude.{◌+◌, ◌-◌, ◌/◌}
 use Rattle.number.specs.Number.{be}
-use Rattle.number.proofs.Tools.{refl, sym, ◌∙◌, arith, needs}
+use Rattle.number.proofs.Tools.{refl, sym, ◌∙◌, arith, rules}
 use Rattle.reader.proofs.Laid.{entry_in}
 use Rattle.halving.specs.Halving.{middle}
 use Rattle.halving.proofs.Turns as laws

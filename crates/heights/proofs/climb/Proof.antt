@@ -1,7 +1,7 @@
 -- `heights::climb` meets its contract.
 -- Assumes nothing.
 use Rattle.std.specs.Prelude.{◌-◌, ◌≤◌}
-use Rattle.number.proofs.Tools.{needs, arith}
+use Rattle.number.proofs.Tools.{rules, arith}
 use Rattle.heights.specs.Climb.{row_above}
 use Rattle.heights.proofs.ClimbLaws as laws
 use Rattle.heights.proofs.climb.Statement.{statement}

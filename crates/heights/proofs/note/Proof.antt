@@ -4,7 +4,7 @@ use lib.ListN.{length}
 use lib.ListN.{length-set}
 use Rattle.std.specs.Prelude.{◌≡◌, ◌+◌, ◌≤◌}
 use Rattle.number.specs.Limits.{row_limit}
-use Rattle.number.proofs.Tools.{needs, arith}
+use Rattle.number.proofs.Tools.{rules, arith}
 use Rattle.heights.specs.Climb.{row_above, Height, Noted}
 use Rattle.heights.proofs.ClimbLaws as laws
 use Rattle.heights.proofs.note.Statement.{statement}

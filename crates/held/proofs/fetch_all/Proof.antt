@@ -1,6 +1,6 @@
 -- `held::fetch_all` meets its contract: no file, one, or two.
 -- Assumes nothing.
-use Rattle.number.proofs.Tools.{arith, needs}
+use Rattle.number.proofs.Tools.{arith, rules}
 use Rattle.held.proofs.HeldLaws.{had_found, first_Held, none_Held}
 use Rattle.held.proofs.fetch_all.Statement.{statement}
 use Rattle.held.proofs.fetch_all.Tie as tie

@@ -1,6 +1,6 @@
 -- `held::fetch_next` meets its contract.
 -- Assumes nothing.
-use Rattle.number.proofs.Tools.{subst, needs}
+use Rattle.number.proofs.Tools.{subst, rules}
 use Rattle.held.specs.Held.{WhereHad}
 use Rattle.held.proofs.fetch_next.Statement.{statement}
 use Rattle.held.proofs.fetch_next.Tie as tie

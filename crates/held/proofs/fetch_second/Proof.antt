@@ -1,6 +1,6 @@
 -- `held::fetch_second` meets its contract.
 -- Assumes nothing.
-use Rattle.number.proofs.Tools.{arith, needs}
+use Rattle.number.proofs.Tools.{arith, rules}
 use Rattle.held.proofs.HeldLaws.{second_Held}
 use Rattle.held.proofs.fetch_second.Statement.{statement}
 use Rattle.held.proofs.fetch_second.Tie as tie

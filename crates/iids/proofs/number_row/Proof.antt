@@ -2,7 +2,7 @@
 -- Assumes nothing.
 use Rattle.iids.specs.Numbers.{number_row}
 use Rattle.iids.specs.Cells.{cell}
-use Rattle.number.proofs.Tools.{refl, arith, needs, is_true, is_false, is_eq, no_eq}
+use Rattle.number.proofs.Tools.{refl, arith, rules, is_true, is_false, is_eq, no_eq}
 use Rattle.iids.proofs.number_row.Statement.{statement}
 use Rattle.iids.proofs.number_row.Tie as tie
 

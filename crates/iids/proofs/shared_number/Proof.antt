@@ -1,7 +1,7 @@
 -- `iids::shared_number` meets its contract.
 -- Assumes nothing.
 use Rattle.iids.specs.Joined.{shared_number}
-use Rattle.number.proofs.Tools.{refl, needs, is_true, is_false}
+use Rattle.number.proofs.Tools.{refl, rules, is_true, is_false}
 use Rattle.iids.proofs.shared_number.Statement.{statement}
 use Rattle.iids.proofs.shared_number.Tie as tie
 

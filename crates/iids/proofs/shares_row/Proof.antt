@@ -2,7 +2,7 @@
 -- Assumes nothing.
 use Rattle.iids.specs.Cells.{cell}
 use Rattle.iids.specs.Joined.{shares_row}
-use Rattle.number.proofs.Tools.{refl, arith, needs, is_eq, no_eq, is_ne, no_ne}
+use Rattle.number.proofs.Tools.{refl, arith, rules, is_eq, no_eq, is_ne, no_ne}
 use Rattle.iids.proofs.shares_row.Statement.{statement}
 use Rattle.iids.proofs.shares_row.Tie as tie
 

@@ -3,7 +3,7 @@
 use Rattle.iids.proofs.NumberLaws as laws
 use Rattle.iids.specs.Cells.{cell}
 use Rattle.iids.specs.Joined.{two_numbers}
-use Rattle.number.proofs.Tools.{refl, arith, needs, is_true, is_false, is_eq, no_eq}
+use Rattle.number.proofs.Tools.{refl, arith, rules, is_true, is_false, is_eq, no_eq}
 use Rattle.iids.proofs.two_numbers.Statement.{statement}
 use Rattle.iids.proofs.two_numbers.Tie as tie
 

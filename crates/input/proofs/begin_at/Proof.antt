@@ -6,7 +6,7 @@ use mir.Val.{to_z, of_z}
 use mir.Facts.{to_z-of_z}
 use lib.IntN.{ℤ}
 use lib.Seq.{take_all}
-use Rattle.number.proofs.Tools.{sym, subst, arith, needs}
+use Rattle.number.proofs.Tools.{sym, subst, arith, rules}
 use Rattle.input.specs.declared.Came.{Came}
 use Rattle.input.specs.File.{StandsBehind, Unread, Comes, ReadIn}
 use Rattle.input.proofs.FileLaws.{read_first}

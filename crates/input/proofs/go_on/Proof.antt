@@ -4,7 +4,7 @@ use mir.Syntax.{w32}
 use mir.Val.{to_z, of_z}
 use mir.Facts.{to_z-of_z}
 use lib.IntN.{ℤ}
-use Rattle.number.proofs.Tools.{sym, subst, needs, take}
+use Rattle.number.proofs.Tools.{sym, subst, rules, take}
 use Rattle.input.specs.File.{StandsBehind}
 use Rattle.input.proofs.FileLaws.{put_first, read_first}
 use Rattle.input.proofs.go_on.Statement.{statement}

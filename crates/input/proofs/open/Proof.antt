@@ -1,6 +1,6 @@
 -- `input::open` meets its contract: the call opened it, or it is standard input.
 -- Assumes nothing.
-use Rattle.number.proofs.Tools.{needs}
+use Rattle.number.proofs.Tools.{rules}
 use Rattle.input.specs.File.SystemCalls.{opened, failed}
 use Rattle.input.proofs.open.Statement.{statement}
 use Rattle.input.proofs.open.Tie as tie

@@ -7,7 +7,7 @@ use lib.IntN.{ℤ}
 use mathlib.Core.List.{List}
 use Prim.Native.Nat.{ℕ}
 use Rattle.std.specs.Prelude.{◌≡◌, ◌-◌, ◌≤◌}
-use Rattle.number.proofs.Tools.{refl, sym, subst, ◌∙◌, arith, needs, length, take}
+use Rattle.number.proofs.Tools.{refl, sym, subst, ◌∙◌, arith, rules, length, take}
 use Rattle.input.specs.Came.{CameIn}
 use Rattle.input.specs.declared.Came.{Came}
 use Rattle.input.specs.File.{StandsBehind, EndedBehind, Goes, Comes}

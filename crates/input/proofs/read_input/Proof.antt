@@ -4,7 +4,7 @@ use mathlib.Core.List.{[]}
 use mir.Syntax.{w32}
 use mir.Facts.{to_z-of_z}
 use lib.IntN.{ℤ}
-use Rattle.number.proofs.Tools.{sym, subst, needs}
+use Rattle.number.proofs.Tools.{sym, subst, rules}
 use Rattle.input.specs.File.{StandsBehind}
 use Rattle.input.proofs.read_input.Statement.{statement}
 use Rattle.input.proofs.read_input.Tie as tie

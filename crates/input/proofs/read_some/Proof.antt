@@ -1,7 +1,7 @@
 -- `input::read_some` meets its contract: the call of `read` gave what stands behind the first bytes, and none where the file ended.
 -- Assumes nothing.
 use Rattle.std.specs.Prelude.{◌-◌}
-use Rattle.number.proofs.Tools.{sym, subst, arith, needs, length, take}
+use Rattle.number.proofs.Tools.{sym, subst, arith, rules, length, take}
 use Rattle.input.specs.File.{StandsBehind}
 use Rattle.input.specs.File.SystemCalls.{moved, ended, failed}
 use Rattle.input.proofs.FileLaws.{came_behind}

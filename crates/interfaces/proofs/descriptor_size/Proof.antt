@@ -1,6 +1,6 @@
 -- `interfaces::descriptor_size` meets its contract.
 -- Assumes nothing.
-use Rattle.number.proofs.Tools.{arith, needs}
+use Rattle.number.proofs.Tools.{arith, rules}
 use Rattle.interfaces.proofs.Descriptors as laws
 use Rattle.interfaces.proofs.descriptor_size.Statement.{statement}
 use Rattle.interfaces.proofs.descriptor_size.Tie as tie

@@ -1,7 +1,7 @@
 -- `interfaces::parent_number` meets its contract.
 -- Assumes nothing.
 use mathlib.Core.Logic.{inl, inr}
-use Rattle.number.proofs.Tools.{arith, needs, refl, is_eq, no_eq}
+use Rattle.number.proofs.Tools.{arith, rules, refl, is_eq, no_eq}
 use Rattle.writing.specs.Source.{renumber}
 use Rattle.interfaces.specs.Source.{renumber_parent}
 use Rattle.interfaces.proofs.parent_number.Statement.{statement}

@@ -1,7 +1,7 @@
 -- `interfaces::put_descriptor` meets its contract.
 -- Assumes nothing.
 use Rattle.std.specs.Prelude.{◌+◌}
-use Rattle.number.proofs.Tools.{arith, refl, needs}
+use Rattle.number.proofs.Tools.{arith, refl, rules}
 use Rattle.writing.proofs.Lent.{back}
 use Rattle.writing.proofs.Turns as turns
 use Rattle.writing.proofs.Sources.{Room-Stands, Known-Stands, Room-lent}

@@ -1,7 +1,7 @@
 -- `interfaces::put_tail` meets its contract.
 -- Assumes nothing.
 use lib.ListN.{length-take, length-drop}
-use Rattle.number.proofs.Tools.{arith, refl, needs}
+use Rattle.number.proofs.Tools.{arith, refl, rules}
 use Rattle.writing.proofs.Sources.{Room-lent}
 use Rattle.interfaces.proofs.Descriptors as laws
 use Rattle.interfaces.proofs.put_tail.Statement.{statement}

@@ -1,6 +1,6 @@
 -- `interfaces::tail_at` meets its contract.
 -- Assumes nothing.
-use Rattle.number.proofs.Tools.{arith, needs}
+use Rattle.number.proofs.Tools.{arith, rules}
 use Rattle.interfaces.proofs.Descriptors as laws
 use Rattle.interfaces.proofs.tail_at.Statement.{statement}
 use Rattle.interfaces.proofs.tail_at.Tie as tie

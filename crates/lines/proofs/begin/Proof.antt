@@ -1,6 +1,6 @@
 -- `lines::begin` meets its contract: too long, or listed.
 -- Assumes nothing.
-use Rattle.number.proofs.Tools.{sym, arith, needs}
+use Rattle.number.proofs.Tools.{sym, arith, rules}
 use Rattle.printed.specs.Listing.{too_long}
 use Rattle.text.proofs.WritingLaws.{wrote, Wrote-as}
 use Rattle.lines.proofs.BeginLaws.{printed_long, printed_listing, starts_only}

@@ -1,6 +1,6 @@
 -- `lines::fill` meets its contract: the pool runs to the file's end.
 -- Assumes nothing.
-use Rattle.number.proofs.Tools.{needs}
+use Rattle.number.proofs.Tools.{rules}
 use Rattle.number.proofs.Parts.{part_rest}
 use Rattle.lines.proofs.fill.Statement.{statement}
 use Rattle.lines.proofs.fill.Tie as tie

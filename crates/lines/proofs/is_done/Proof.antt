@@ -1,6 +1,6 @@
 -- `lines::is_done` meets its contract, by each kind of cursor.
 -- Assumes nothing.
-use Rattle.number.proofs.Tools.{sym, ap, needs}
+use Rattle.number.proofs.Tools.{sym, ap, rules}
 use Rattle.lines.specs.Cursor.{is_done}
 use Rattle.lines.proofs.is_done.Statement.{statement}
 use Rattle.lines.proofs.is_done.Tie as tie

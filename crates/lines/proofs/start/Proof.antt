@@ -1,6 +1,6 @@
 -- `lines::start` meets its contract: accepted or refused.
 -- Assumes nothing.
-use Rattle.number.proofs.Tools.{sym, ◌∙◌, needs}
+use Rattle.number.proofs.Tools.{sym, ◌∙◌, rules}
 use Rattle.reading.specs.declared.Verdict.TheVariants.{Accepted, Refused}
 use Rattle.text.specs.Line.{line_of}
 use Rattle.reader.specs.Values.{entries_in}

@@ -1,6 +1,6 @@
 -- `listed::fill` meets its contract: a buffer was filled, and is shown.
 -- Assumes nothing.
-use Rattle.number.proofs.Tools.{arith, needs}
+use Rattle.number.proofs.Tools.{arith, rules}
 use Rattle.listed.proofs.RestLaws.{Filled-shown}
 use Rattle.listed.proofs.fill.Statement.{statement}
 use Rattle.listed.proofs.fill.Tie as tie

@@ -1,6 +1,6 @@
 -- `listed::go_on` meets its contract: over, the closing newline, or lines.
 -- Assumes nothing.
-use Rattle.number.proofs.Tools.{arith, needs}
+use Rattle.number.proofs.Tools.{arith, rules}
 use Rattle.listed.proofs.OpenLaws.{at_leaves, at_gives, over_gives, closing_gives}
 use Rattle.listed.proofs.go_on.Statement.{statement}
 use Rattle.listed.proofs.go_on.Tie as tie

@@ -1,6 +1,6 @@
 -- `listed::is_over` meets its contract.
 -- Assumes nothing.
-use Rattle.number.proofs.Tools.{refl, needs}
+use Rattle.number.proofs.Tools.{refl, rules}
 use Rattle.listed.specs.Rest.{nothing_next, is_over}
 use Rattle.listed.proofs.is_over.Statement.{statement}
 use Rattle.listed.proofs.is_over.Tie as tie

@@ -1,6 +1,6 @@
 -- `listed::open` meets its contract: refused, or the first line of an accepted file.
 -- Assumes nothing.
-use Rattle.number.proofs.Tools.{sym, ◌∙◌, arith, needs}
+use Rattle.number.proofs.Tools.{sym, ◌∙◌, arith, rules}
 use Rattle.text.specs.Line.{line_of}
 use Rattle.reader.specs.Reader.Laws.{accepted_decodes}
 use Rattle.listed.proofs.OpenLaws.{Opens-refused, Opens-accepted}

@@ -1,6 +1,6 @@
 -- `listed::rest_of` meets its contract.
 -- Assumes nothing.
-use Rattle.number.proofs.Tools.{refl, needs}
+use Rattle.number.proofs.Tools.{refl, rules}
 use Rattle.number.specs.Choice.{when◌then◌else◌}
 use Rattle.listed.specs.Rest.{after_lines, rest_of}
 use Rattle.listed.proofs.rest_of.Statement.{statement}

@@ -1,7 +1,7 @@
 -- `listed::tab` meets its contract: in a batch, or not.
 -- Assumes nothing.
 use lib.Seq.{length-take-le}
-use Rattle.number.proofs.Tools.{sym, arith, needs}
+use Rattle.number.proofs.Tools.{sym, arith, rules}
 use Rattle.listed.proofs.RestLaws.{shown_tabs, shown_plain}
 use Rattle.listed.proofs.tab.Statement.{statement}
 use Rattle.listed.proofs.tab.Tie as tie

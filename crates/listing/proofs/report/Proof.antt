@@ -1,7 +1,7 @@
 -- `listing::report` meets its contract: the first line lies within its 64 bytes, and the rest is left at the cursor.
 -- Assumes nothing.
 use lib.Seq.{length-take-le}
-use Rattle.number.proofs.Tools.{sym, arith, needs}
+use Rattle.number.proofs.Tools.{sym, arith, rules}
 use Rattle.lines.proofs.PrintLaws.{Printing-first}
 use Rattle.listing.proofs.report.Statement.{statement}
 use Rattle.listing.proofs.report.Tie as tie

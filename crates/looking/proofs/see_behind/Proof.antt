@@ -1,7 +1,7 @@
 -- `looking::see_behind` meets its contract: the path lies within its 4,096 bytes.
 -- Assumes nothing.
 use lib.Seq.{length-take-le}
-use Rattle.number.proofs.Tools.{sym, arith, needs}
+use Rattle.number.proofs.Tools.{sym, arith, rules}
 use Rattle.looking.proofs.see_behind.Statement.{statement}
 use Rattle.looking.proofs.see_behind.Tie as tie
 

@@ -1,6 +1,6 @@
 -- `made::adopt` meets its contract.
 -- Assumes nothing.
-use Rattle.number.proofs.Tools.{arith, needs, sym, ◌∙◌}
+use Rattle.number.proofs.Tools.{arith, rules, sym, ◌∙◌}
 use Rattle.made.proofs.AdoptLaws.{adopt_within, written-Makes, refused-Makes}
 use Rattle.made.proofs.adopt.Statement.{statement}
 use Rattle.made.proofs.adopt.Tie as tie

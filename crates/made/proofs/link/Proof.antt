@@ -1,6 +1,6 @@
 -- `made::link` meets its contract.
 -- Assumes nothing.
-use Rattle.number.proofs.Tools.{ap, ◌∙◌, needs}
+use Rattle.number.proofs.Tools.{ap, ◌∙◌, rules}
 use Rattle.made.specs.Made.{linked_save, linked_whose, link_made}
 use Rattle.made.proofs.link.Statement.{statement}
 use Rattle.made.proofs.link.Tie as tie

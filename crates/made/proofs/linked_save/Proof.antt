@@ -1,6 +1,6 @@
 -- `made::linked_save` meets its contract.
 -- Assumes nothing.
-use Rattle.number.proofs.Tools.{refl, needs}
+use Rattle.number.proofs.Tools.{refl, rules}
 use Rattle.made.specs.Made.{linked_save}
 use Rattle.made.proofs.linked_save.Statement.{statement}
 use Rattle.made.proofs.linked_save.Tie as tie

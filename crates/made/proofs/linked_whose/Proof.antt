@@ -1,6 +1,6 @@
 -- `made::linked_whose` meets its contract.
 -- Assumes nothing.
-use Rattle.number.proofs.Tools.{refl, needs}
+use Rattle.number.proofs.Tools.{refl, rules}
 use Rattle.made.specs.Made.{linked_whose}
 use Rattle.made.proofs.linked_whose.Statement.{statement}
 use Rattle.made.proofs.linked_whose.Tie as tie

@@ -1,6 +1,6 @@
 -- `made::normal` meets its contract.
 -- Assumes nothing.
-use Rattle.number.proofs.Tools.{refl, ap, ◌∙◌, needs}
+use Rattle.number.proofs.Tools.{refl, ap, ◌∙◌, rules}
 use Rattle.made.specs.Made.{normalised_save, normal_made}
 use Rattle.made.proofs.normal.Statement.{statement}
 use Rattle.made.proofs.normal.Tie as tie

@@ -1,6 +1,6 @@
 -- `made::normalised_save` meets its contract.
 -- Assumes nothing.
-use Rattle.number.proofs.Tools.{refl, needs}
+use Rattle.number.proofs.Tools.{refl, rules}
 use Rattle.made.specs.Made.{normalised_save}
 use Rattle.made.proofs.normalised_save.Statement.{statement}
 use Rattle.made.proofs.normalised_save.Tie as tie

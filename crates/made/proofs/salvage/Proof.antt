@@ -1,6 +1,6 @@
 -- `made::salvage` meets its contract.
 -- Assumes nothing.
-use Rattle.number.proofs.Tools.{refl, ap, ◌∙◌, needs}
+use Rattle.number.proofs.Tools.{refl, ap, ◌∙◌, rules}
 use Rattle.made.specs.Made.{normalised_save, salvage_made}
 use Rattle.made.proofs.salvage.Statement.{statement}
 use Rattle.made.proofs.salvage.Tie as tie

@@ -1,7 +1,7 @@
 -- `manual::help` meets its contract.
 -- Assumes nothing.
 use mathlib.Core.List.{◌++◌}
-use Rattle.number.proofs.Tools.{arith, needs}
+use Rattle.number.proofs.Tools.{arith, rules}
 use Rattle.text.proofs.WritingLaws.{wrote, Wrote-then}
 use Rattle.failures.proofs.MadeLaws.{made}
 use Rattle.manual.specs.Manual.{intro_text, asking_text, member_text, types_text, output_text, note_text, help_text}

@@ -1,6 +1,6 @@
 -- `manual::help_of` meets its contract.
 -- Assumes nothing.
-use Rattle.number.proofs.Tools.{needs}
+use Rattle.number.proofs.Tools.{rules}
 use Rattle.manual.specs.Manual.{help_of}
 use Rattle.manual.proofs.help_of.Statement.{statement}
 use Rattle.manual.proofs.help_of.Tie as tie

@@ -1,6 +1,6 @@
 -- `manual::put_answer` meets its contract.
 -- Assumes nothing.
-use Rattle.number.proofs.Tools.{arith, needs}
+use Rattle.number.proofs.Tools.{arith, rules}
 use Rattle.text.proofs.WritingLaws.{wrote}
 use Rattle.manual.specs.Manual.{answer_text}
 use Rattle.manual.proofs.put_answer.Statement.{statement}

@@ -1,7 +1,7 @@
 -- `manual::put_notes` meets its contract.
 -- Assumes nothing.
 use mathlib.Core.List.{◌++◌}
-use Rattle.number.proofs.Tools.{arith, needs}
+use Rattle.number.proofs.Tools.{arith, rules}
 use Rattle.text.proofs.WritingLaws.{wrote, Wrote-then}
 use Rattle.manual.specs.Manual.{file_note, hex_note, index_note, stream_note, note_text}
 use Rattle.manual.proofs.put_notes.Statement.{statement}

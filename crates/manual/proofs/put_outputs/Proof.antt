@@ -1,7 +1,7 @@
 -- `manual::put_outputs` meets its contract.
 -- Assumes nothing.
 use mathlib.Core.List.{◌++◌}
-use Rattle.number.proofs.Tools.{arith, needs}
+use Rattle.number.proofs.Tools.{arith, rules}
 use Rattle.text.proofs.WritingLaws.{wrote, Wrote-then}
 use Rattle.verbs.specs.declared.Verb.TheVariants as verb
 use Rattle.manual.specs.Manual.{entry_text, batch_text, option_text, output_text}

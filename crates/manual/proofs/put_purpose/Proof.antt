@@ -1,6 +1,6 @@
 -- `manual::put_purpose` meets its contract.
 -- Assumes nothing.
-use Rattle.number.proofs.Tools.{arith, needs}
+use Rattle.number.proofs.Tools.{arith, rules}
 use Rattle.text.proofs.WritingLaws.{wrote}
 use Rattle.failures.proofs.MadeLaws.{none_written}
 use Rattle.manual.specs.Manual.{purpose_text}

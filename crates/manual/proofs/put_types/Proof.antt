@@ -1,7 +1,7 @@
 -- `manual::put_types` meets its contract.
 -- Assumes nothing.
 use mathlib.Core.List.{◌++◌}
-use Rattle.number.proofs.Tools.{arith, needs}
+use Rattle.number.proofs.Tools.{arith, rules}
 use Rattle.text.proofs.WritingLaws.{wrote, Wrote-then}
 use Rattle.manual.specs.Manual.{rdb_check_help, rdb_list_help, rdb_entity_help, rdb_const_help, rdb_part_help, office_help, types_text}
 use Rattle.manual.proofs.put_types.Statement.{statement}

@@ -1,6 +1,6 @@
 -- `manual::version` meets its contract.
 -- Assumes nothing.
-use Rattle.number.proofs.Tools.{needs}
+use Rattle.number.proofs.Tools.{rules}
 use Rattle.manual.specs.Manual.{version_text}
 use Rattle.manual.proofs.version.Statement.{statement}
 use Rattle.manual.proofs.version.Tie as tie

@@ -1,6 +1,6 @@
 -- `method::of_block` meets its contract.
 -- Assumes nothing.
-use Rattle.number.proofs.Tools.{arith, needs, sym}
+use Rattle.number.proofs.Tools.{arith, rules, sym}
 use lib.ListN.{get_or-eq_default}
 use Rattle.method.proofs.of_block.Statement.{statement}
 use Rattle.method.proofs.of_block.Tie as tie

@@ -1,6 +1,6 @@
 -- `method::read_again` meets its contract.
 -- Assumes nothing.
-use Rattle.number.proofs.Tools.{arith, needs, sym, ◌∙◌}
+use Rattle.number.proofs.Tools.{arith, rules, sym, ◌∙◌}
 use Rattle.method.proofs.MethodLaws.{many-one, method_ends}
 use Rattle.method.proofs.SeenLaws.{seen_known}
 use Rattle.method.proofs.read_again.Statement.{statement}

@@ -1,6 +1,6 @@
 -- `method::read_one` meets its contract.
 -- Assumes nothing.
-use Rattle.number.proofs.Tools.{arith, needs, sym, ◌∙◌}
+use Rattle.number.proofs.Tools.{arith, rules, sym, ◌∙◌}
 use Rattle.reading.proofs.Steps.{at_bad, is_ne, no_ne, byte_in_lem, byte_out, next-end, next-refused, next_last}
 use Rattle.name.proofs.NameLaws.{name_ends}
 use Rattle.method.specs.Method.{read_method}

@@ -1,7 +1,7 @@
 -- `method::read_shared` meets its contract. The loop's invariant: k methods have been read up to p, and the tables have their flags and name pointers.
 -- Assumes nothing.
 use Rattle.std.specs.Prelude.{◌≡◌, ◌-◌, ◌≤◌}
-use Rattle.number.proofs.Tools.{arith, needs, refl, length}
+use Rattle.number.proofs.Tools.{arith, rules, refl, length}
 use lib.ListN.{length-set}
 use Rattle.method.specs.Tables.{Gathered, Remembered}
 use Rattle.method.proofs.MethodLaws.{method_ends, Gathered-none, Gathered-more, Gathered-stop, Gathered-done}

@@ -1,6 +1,6 @@
 -- `method::read_signature` meets its contract.
 -- Assumes nothing.
-use Rattle.number.proofs.Tools.{arith, needs, refl}
+use Rattle.number.proofs.Tools.{arith, rules, refl}
 use Rattle.reading.proofs.Steps.{byte_in_lem, byte_out}
 use Rattle.reading.proofs.Rows.{accepted}
 use Rattle.method.specs.Method.{read_signature}

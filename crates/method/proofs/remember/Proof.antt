@@ -1,6 +1,6 @@
 -- `method::remember` meets its contract.
 -- Assumes nothing.
-use Rattle.number.proofs.Tools.{arith, needs, refl}
+use Rattle.number.proofs.Tools.{arith, rules, refl}
 use Rattle.method.proofs.SeenLaws.{seen_more}
 use Rattle.method.proofs.remember.Statement.{statement}
 use Rattle.method.proofs.remember.Tie as tie

@@ -1,6 +1,6 @@
 -- `method::rule_signature` meets its contract.
 -- Assumes nothing.
-use Rattle.number.proofs.Tools.{arith, needs}
+use Rattle.number.proofs.Tools.{arith, rules}
 use Rattle.reading.proofs.Steps.{at_end, at_bad, is_true, is_false}
 use Rattle.method.specs.Method.{rule_signature}
 use Rattle.method.proofs.RuleLaws.{result_at, result_type, result_is, result_to, result_broken, arguments_are, rule_from}

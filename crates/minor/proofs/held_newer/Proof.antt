@@ -1,6 +1,6 @@
 -- `minor::held_newer` meets its contract.
 -- Assumes nothing.
-use Rattle.number.proofs.Tools.{arith, needs}
+use Rattle.number.proofs.Tools.{arith, rules}
 use Rattle.minor.proofs.Owns as owns
 use Rattle.minor.proofs.Minors as laws
 use Rattle.minor.proofs.held_newer.Statement.{statement}

@@ -1,7 +1,7 @@
 -- `minor::row_newer` meets its contract: no row, or an entry of one file or of the other.
 -- Assumes nothing.
 use Rattle.std.specs.Prelude.{◌-◌}
-use Rattle.number.proofs.Tools.{arith, needs}
+use Rattle.number.proofs.Tools.{arith, rules}
 use Rattle.minor.proofs.Minors as laws
 use Rattle.minor.proofs.row_newer.Statement.{statement}
 use Rattle.minor.proofs.row_newer.Tie as tie

@@ -1,6 +1,6 @@
 -- `name::follow_name` meets its contract.
 -- Assumes nothing.
-use Rattle.number.proofs.Tools.{arith, needs}
+use Rattle.number.proofs.Tools.{arith, rules}
 use Rattle.reading.proofs.Steps.{at_bad, is_lt, no_lt, is_eq, no_eq}
 use Rattle.name.specs.Name.{follow}
 use Rattle.name.proofs.follow_name.Statement.{statement}

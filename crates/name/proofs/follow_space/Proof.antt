@@ -1,6 +1,6 @@
 -- `name::follow_space` meets its contract.
 -- Assumes nothing.
-use Rattle.number.proofs.Tools.{arith, needs}
+use Rattle.number.proofs.Tools.{arith, rules}
 use Rattle.reading.proofs.Steps.{at_end, is_eq, no_eq}
 use Rattle.name.specs.Name.{follow_space}
 use Rattle.name.proofs.follow_space.Statement.{statement}

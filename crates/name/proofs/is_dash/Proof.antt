@@ -1,6 +1,6 @@
 -- `name::is_dash` meets its contract.
 -- Assumes nothing.
-use Rattle.number.proofs.Tools.{arith, needs}
+use Rattle.number.proofs.Tools.{arith, rules}
 use Rattle.number.specs.Choice.{◌=?◌}
 use Rattle.name.proofs.Words.{dash_one, dash_else}
 use Rattle.name.proofs.is_dash.Statement.{statement}

@@ -1,6 +1,6 @@
 -- `name::is_identifier` meets its contract.
 -- Assumes nothing.
-use Rattle.number.proofs.Tools.{sym, ◌∙◌, arith, needs}
+use Rattle.number.proofs.Tools.{sym, ◌∙◌, arith, rules}
 use Rattle.number.specs.Choice.{◌=?◌}
 use Rattle.name.proofs.Words.{identifier_dash, judge_none, judge_long, judge_letters}
 use Rattle.name.proofs.is_identifier.Statement.{statement}

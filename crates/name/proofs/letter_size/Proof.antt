@@ -1,6 +1,6 @@
 -- `name::letter_size` meets its contract.
 -- Assumes nothing.
-use Rattle.number.proofs.Tools.{take, arith, needs}
+use Rattle.number.proofs.Tools.{take, arith, rules}
 use lib.Seq.{length-take-le, get_or-take}
 use Rattle.name.proofs.Letters.{size_low, size_plain, size_delete, size_high}
 use Rattle.name.proofs.letter_size.Statement.{statement}

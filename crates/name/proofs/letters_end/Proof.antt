@@ -1,7 +1,7 @@
 -- `name::letters_end` meets its contract. The loop's invariant: the letters from `at` on end where those from `i` on do.
 -- Assumes nothing.
 use Rattle.std.specs.Prelude.{◌≡◌, ◌-◌, ◌≤◌}
-use Rattle.number.proofs.Tools.{ℕ, sym, ◌∙◌, arith, needs, take}
+use Rattle.number.proofs.Tools.{ℕ, sym, ◌∙◌, arith, rules, take}
 use mathlib.Core.List.{List}
 use lib.Seq.{length-take-le}
 use Rattle.name.specs.Name.{letters_end}

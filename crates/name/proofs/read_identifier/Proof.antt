@@ -1,7 +1,7 @@
 -- `name::read_identifier` meets its contract: the ways out of the search.
 -- Assumes nothing.
 use mathlib.Core.Logic.{inl, inr}
-use Rattle.number.proofs.Tools.{sym, ◌∙◌, arith, needs}
+use Rattle.number.proofs.Tools.{sym, ◌∙◌, arith, rules}
 use Rattle.name.proofs.Words.{search_range}
 use Rattle.name.proofs.NameLaws.{end_range, step_good, step_dash, step_wrong, step_unfinished}
 use Rattle.name.proofs.read_identifier.Statement.{statement}

@@ -1,6 +1,6 @@
 -- `name::read_name` meets its contract.
 -- Assumes nothing.
-use Rattle.number.proofs.Tools.{arith, needs}
+use Rattle.number.proofs.Tools.{arith, rules}
 use Rattle.reading.proofs.Steps.{at_end, next-end, next-refused, field_in, field_out}
 use Rattle.name.specs.Name.{read_name}
 use Rattle.name.proofs.read_name.Statement.{statement}

@@ -1,6 +1,6 @@
 -- `name::search_end` meets its contract.
 -- Assumes nothing.
-use Rattle.number.proofs.Tools.{refl, arith, needs, is_lt, no_lt}
+use Rattle.number.proofs.Tools.{refl, arith, rules, is_lt, no_lt}
 use Rattle.name.specs.Name.{search_end}
 use Rattle.name.proofs.search_end.Statement.{statement}
 use Rattle.name.proofs.search_end.Tie as tie

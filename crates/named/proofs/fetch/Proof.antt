@@ -1,6 +1,6 @@
 -- `named::fetch` meets its contract.
 -- Assumes nothing.
-use Rattle.number.proofs.Tools.{needs}
+use Rattle.number.proofs.Tools.{rules}
 use Rattle.words.proofs.SpanLaws.{word_bytes}
 use Rattle.named.proofs.fetch.Statement.{statement}
 use Rattle.named.proofs.fetch.Tie as tie

@@ -1,6 +1,6 @@
 -- `named::file_at` meets its contract.
 -- Assumes nothing.
-use Rattle.number.proofs.Tools.{needs}
+use Rattle.number.proofs.Tools.{rules}
 use Rattle.words.proofs.SpanLaws.{word_bytes}
 use Rattle.named.proofs.file_at.Statement.{statement}
 use Rattle.named.proofs.file_at.Tie as tie

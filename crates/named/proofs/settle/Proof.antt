@@ -1,6 +1,6 @@
 -- `named::settle` meets its contract: it writes a file, or does not.
 -- Assumes nothing.
-use Rattle.number.proofs.Tools.{sym, ap, ◌∙◌, needs}
+use Rattle.number.proofs.Tools.{sym, ap, ◌∙◌, rules}
 use Rattle.number.proofs.Scans.{clash}
 use Rattle.tasks.specs.Tasks.{is_writing}
 use Rattle.words.proofs.SpanLaws.{word_bytes}

@@ -1,6 +1,6 @@
 -- `newer::descriptor_newer` meets its contract.
 -- Assumes nothing.
-use Rattle.number.proofs.Tools.{arith, needs}
+use Rattle.number.proofs.Tools.{arith, rules}
 use Rattle.reader.proofs.Shown as shown
 use Rattle.newer.proofs.Shown as laws
 use Rattle.newer.proofs.descriptor_newer.Statement.{statement}

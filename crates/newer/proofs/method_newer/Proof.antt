@@ -1,6 +1,6 @@
 -- `newer::method_newer` meets its contract.
 -- Assumes nothing.
-use Rattle.number.proofs.Tools.{arith, needs}
+use Rattle.number.proofs.Tools.{arith, rules}
 use Rattle.newer.proofs.Shown as laws
 use Rattle.newer.proofs.method_newer.Statement.{statement}
 use Rattle.newer.proofs.method_newer.Tie as tie

@@ -1,6 +1,6 @@
 -- `newer::type_newer` meets its contract.
 -- Assumes nothing.
-use Rattle.number.proofs.Tools.{needs}
+use Rattle.number.proofs.Tools.{rules}
 use Rattle.newer.proofs.Shown as laws
 use Rattle.newer.proofs.type_newer.Statement.{statement}
 use Rattle.newer.proofs.type_newer.Tie as tie

@@ -1,7 +1,7 @@
 -- `numbers::put_counted` meets its contract.
 -- Assumes nothing.
 use lib.ListN.{length-set}
-use Rattle.number.proofs.Tools.{arith, refl, needs}
+use Rattle.number.proofs.Tools.{arith, refl, rules}
 use Rattle.numbers.specs.Numbers.{counted_numbers}
 use Rattle.numbers.proofs.put_counted.Statement.{statement}
 use Rattle.numbers.proofs.put_counted.Tie as tie

@@ -3,7 +3,7 @@
 use mathlib.Core.List.{List}
 use lib.ListN.{set, length-set}
 use lib.Seq.{sets}
-use Rattle.number.proofs.Tools.{arith, needs, ap, ◌∙◌, ℕ}
+use Rattle.number.proofs.Tools.{arith, rules, ap, ◌∙◌, ℕ}
 use Rattle.numbers.specs.Numbers.{slot_numbers, found_numbers}
 use Rattle.numbers.proofs.Founds.{found_stored}
 use Rattle.numbers.proofs.put_found.Statement.{statement}

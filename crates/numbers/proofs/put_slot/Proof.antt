@@ -2,7 +2,7 @@
 -- Assumes nothing.
 use native.Mathlib.Numerals.{add-one}
 use lib.ListN.{length-set}
-use Rattle.number.proofs.Tools.{arith, needs, refl}
+use Rattle.number.proofs.Tools.{arith, rules, refl}
 use Rattle.numbers.specs.Numbers.{slot_numbers}
 use Rattle.numbers.proofs.put_slot.Statement.{statement}
 use Rattle.numbers.proofs.put_slot.Tie as tie

@@ -1,7 +1,7 @@
 -- `numbers::put_verdict` meets its contract.
 -- Assumes nothing.
 use lib.ListN.{length-set}
-use Rattle.number.proofs.Tools.{arith, needs, refl}
+use Rattle.number.proofs.Tools.{arith, rules, refl}
 use Rattle.numbers.specs.Numbers.{verdict_numbers}
 use Rattle.numbers.proofs.put_verdict.Statement.{statement}
 use Rattle.numbers.proofs.put_verdict.Tie as tie

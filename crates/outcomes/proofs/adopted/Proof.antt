@@ -1,7 +1,7 @@
 -- `outcomes::adopted` meets its contract. A number of 64 bits has at most 20 digits, so the line fits.
 -- Assumes nothing.
 use mathlib.Core.List.{◌++◌}
-use Rattle.number.proofs.Tools.{refl, arith, needs}
+use Rattle.number.proofs.Tools.{refl, arith, rules}
 use Rattle.decimal.specs.Digits.{digits_of}
 use Rattle.decimal.proofs.Laws.{length_u64}
 use Rattle.text.specs.Line.{space, line_of}

@@ -2,7 +2,7 @@
 -- Assumes nothing.
 use Prim.Native.Nat.{ℕ}
 use mathlib.Core.List.{◌++◌}
-use Rattle.number.proofs.Tools.{refl, ap, arith, needs}
+use Rattle.number.proofs.Tools.{refl, ap, arith, rules}
 use Rattle.decimal.specs.Digits.{digits_of}
 use Rattle.decimal.proofs.Laws.{length_byte}
 use Rattle.text.specs.Line.{refused, space}

@@ -1,6 +1,6 @@
 -- `outcomes::linked` meets its contract.
 -- Assumes nothing.
-use Rattle.number.proofs.Tools.{needs}
+use Rattle.number.proofs.Tools.{rules}
 use Rattle.outcomes.specs.Lines.{linked_text, say_linked, linked_why}
 use Rattle.outcomes.proofs.linked.Statement.{statement}
 use Rattle.outcomes.proofs.linked.Tie as tie

@@ -1,6 +1,6 @@
 -- `outcomes::normalised` meets its contract.
 -- Assumes nothing.
-use Rattle.number.proofs.Tools.{needs}
+use Rattle.number.proofs.Tools.{rules}
 use Rattle.outcomes.specs.Lines.{normalised_text, say_normalised, normalised_why}
 use Rattle.outcomes.proofs.normalised.Statement.{statement}
 use Rattle.outcomes.proofs.normalised.Tie as tie

@@ -1,7 +1,7 @@
 -- `outcomes::put_checked` meets its contract. A number of 64 bits has at most 20 digits, so the line fits.
 -- Assumes nothing.
 use mathlib.Core.List.{◌++◌}
-use Rattle.number.proofs.Tools.{arith, needs}
+use Rattle.number.proofs.Tools.{arith, rules}
 use Rattle.decimal.specs.Digits.{digits_of}
 use Rattle.decimal.proofs.Laws.{length_u64}
 use Rattle.text.specs.Line.{accepted, space, newline, line_of}

@@ -1,6 +1,6 @@
 -- `outcomes::which_number` meets its contract.
 -- Assumes nothing.
-use Rattle.number.proofs.Tools.{refl, arith, needs}
+use Rattle.number.proofs.Tools.{refl, arith, rules}
 use Rattle.outcomes.specs.Lines.{which_number}
 use Rattle.outcomes.proofs.which_number.Statement.{statement}
 use Rattle.outcomes.proofs.which_number.Tie as tie

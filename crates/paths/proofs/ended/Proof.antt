@@ -1,7 +1,7 @@
 -- `paths::ended` meets its contract: the bytes stand before the zeros, the last of which is none of the path's.
 -- Assumes nothing.
 use lib.Seq.{length-take-le}
-use Rattle.number.proofs.Tools.{sym, arith, needs}
+use Rattle.number.proofs.Tools.{sym, arith, rules}
 use Rattle.paths.proofs.Laws.{zeros_length, ended_last, ended_is}
 use Rattle.paths.proofs.ended.Statement.{statement}
 use Rattle.paths.proofs.ended.Tie as tie

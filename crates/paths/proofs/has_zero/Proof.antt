@@ -1,7 +1,7 @@
 -- `paths::has_zero` meets its contract. The loop's invariant: no byte before i is 0.
 -- Assumes nothing.
 use Rattle.std.specs.Prelude.{◌-◌, ◌≤◌}
-use Rattle.number.proofs.Tools.{subst, arith, needs, length}
+use Rattle.number.proofs.Tools.{subst, arith, rules, length}
 use Rattle.number.proofs.Choice.{yes_eq, not_eq}
 use Rattle.number.proofs.Scans.{Misses, Misses-none, Misses-more, Misses-some, hits_some}
 use Rattle.paths.specs.Path.{is_zero_at, has_zero}

@@ -1,6 +1,6 @@
 -- `paths::judge` meets its contract, test by test.
 -- Assumes nothing.
-use Rattle.number.proofs.Tools.{refl, sym, ◌∙◌, arith, needs, is_eq, no_eq, is_lt, no_lt, is_true, is_false}
+use Rattle.number.proofs.Tools.{refl, sym, ◌∙◌, arith, rules, is_eq, no_eq, is_lt, no_lt, is_true, is_false}
 use Rattle.paths.specs.Path.{judged}
 use Rattle.paths.proofs.judge.Statement.{statement}
 use Rattle.paths.proofs.judge.Tie as tie

@@ -1,6 +1,6 @@
 -- `pieces::put_body` meets its contract.
 -- Assumes nothing.
-use Rattle.number.proofs.Tools.{arith, needs}
+use Rattle.number.proofs.Tools.{arith, rules}
 use Rattle.pieces.proofs.Bodies as laws
 use Rattle.pieces.proofs.put_body.Statement.{statement}
 use Rattle.pieces.proofs.put_body.Tie as tie

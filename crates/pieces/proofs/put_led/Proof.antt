@@ -1,6 +1,6 @@
 -- `pieces::put_led` meets its contract.
 -- Assumes nothing.
-use Rattle.number.proofs.Tools.{arith, needs}
+use Rattle.number.proofs.Tools.{arith, rules}
 use Rattle.names.proofs.Words.{word_here, word_there}
 use Rattle.pieces.proofs.put_led.Statement.{statement}
 use Rattle.pieces.proofs.put_led.Tie as tie

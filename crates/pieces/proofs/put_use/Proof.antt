@@ -1,6 +1,6 @@
 -- `pieces::put_use` meets its contract.
 -- Assumes nothing.
-use Rattle.number.proofs.Tools.{arith, needs, refl, sym, ◌∙◌}
+use Rattle.number.proofs.Tools.{arith, rules, refl, sym, ◌∙◌}
 use Rattle.iids.specs.Cells.{cell}
 use Rattle.names.proofs.Words.{word_use}
 use Rattle.pieces.proofs.Uses as laws

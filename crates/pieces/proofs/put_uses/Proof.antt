@@ -1,7 +1,7 @@
 -- `pieces::put_uses` meets its contract.
 -- Assumes nothing.
 use Rattle.std.specs.Prelude.{◌-◌}
-use Rattle.number.proofs.Tools.{arith, needs}
+use Rattle.number.proofs.Tools.{arith, rules}
 use Rattle.iids.specs.Cells.{cell}
 use Rattle.names.specs.Uses.{spelt}
 use Rattle.pieces.proofs.Uses as laws

@@ -1,6 +1,6 @@
 -- `pile::add` meets its contract.
 -- Assumes nothing.
-use Rattle.number.proofs.Tools.{refl, arith, is_le, no_le, is_eq, no_eq, needs}
+use Rattle.number.proofs.Tools.{refl, arith, is_le, no_le, is_eq, no_eq, rules}
 use Rattle.pile.specs.Pile.{added}
 use Rattle.pile.proofs.add.Statement.{statement}
 use Rattle.pile.proofs.add.Tie as tie

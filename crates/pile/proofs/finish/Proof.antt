@@ -1,6 +1,6 @@
 -- `pile::finish` meets its contract.
 -- Assumes nothing.
-use Rattle.number.proofs.Tools.{refl, ap, ◌∙◌, ℕ, arith, is_lt, no_lt, needs}
+use Rattle.number.proofs.Tools.{refl, ap, ◌∙◌, ℕ, arith, is_lt, no_lt, rules}
 use mathlib.Core.List.{List}
 use Rattle.pile.proofs.Faces.{empty_bytes}
 use Rattle.pile.specs.Pile.{added, ended}

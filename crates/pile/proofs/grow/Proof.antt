@@ -1,6 +1,6 @@
 -- `pile::grow` meets its contract.
 -- Assumes nothing.
-use Rattle.number.proofs.Tools.{needs}
+use Rattle.number.proofs.Tools.{rules}
 use Rattle.pile.proofs.Faces.{grown_written, grown_refused}
 use Rattle.pile.proofs.grow.Statement.{statement}
 use Rattle.pile.proofs.grow.Tie as tie

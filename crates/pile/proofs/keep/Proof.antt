@@ -1,6 +1,6 @@
 -- `pile::keep` meets its contract.
 -- Assumes nothing.
-use Rattle.number.proofs.Tools.{sym, ◌∙◌, needs}
+use Rattle.number.proofs.Tools.{sym, ◌∙◌, rules}
 use Rattle.link.proofs.Faces.{accepted}
 use Rattle.pile.proofs.Faces as faces
 use Rattle.pile.proofs.keep.Statement.{statement}

@@ -1,6 +1,6 @@
 -- `pile::keep_accepted` meets its contract.
 -- Assumes nothing.
-use Rattle.number.proofs.Tools.{arith, needs}
+use Rattle.number.proofs.Tools.{arith, rules}
 use Rattle.pile.proofs.Faces as faces
 use Rattle.pile.proofs.keep_accepted.Statement.{statement}
 use Rattle.pile.proofs.keep_accepted.Tie as tie

@@ -1,6 +1,6 @@
 -- `pile::link_front` meets its contract.
 -- Assumes nothing.
-use Rattle.number.proofs.Tools.{sym, arith, needs}
+use Rattle.number.proofs.Tools.{sym, arith, rules}
 use lib.Seq.{take_all, length-take-le}
 use Rattle.pile.proofs.link_front.Statement.{statement}
 use Rattle.pile.proofs.link_front.Tie as tie

@@ -1,6 +1,6 @@
 -- `pile::put_more` meets its contract.
 -- Assumes nothing.
-use Rattle.number.proofs.Tools.{arith, needs}
+use Rattle.number.proofs.Tools.{arith, rules}
 use Rattle.pile.proofs.Faces as faces
 use Rattle.pile.proofs.put_more.Statement.{statement}
 use Rattle.pile.proofs.put_more.Tie as tie

@@ -1,6 +1,6 @@
 -- `pile_runs::save_pile` meets its contract: the bytes lie within the buffer that they are in.
 -- Assumes nothing.
-use Rattle.number.proofs.Tools.{subst, needs}
+use Rattle.number.proofs.Tools.{subst, rules}
 use Rattle.number.specs.Limits.{file_limit}
 use Rattle.piling.specs.Answers.{SavesIn}
 use Rattle.pile_runs.proofs.save_pile.Statement.{statement}

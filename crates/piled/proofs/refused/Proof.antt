@@ -1,7 +1,7 @@
 -- `piled::refused` meets its contract.
 -- Assumes nothing.
 use mathlib.Core.List.{◌++◌}
-use Rattle.number.proofs.Tools.{ℕ, refl, ap, arith, needs}
+use Rattle.number.proofs.Tools.{ℕ, refl, ap, arith, rules}
 use Rattle.ascii.specs.Ascii.{ascii}
 use Rattle.decimal.specs.Digits.{digits_of}
 use Rattle.decimal.proofs.Laws.{length_byte, length_u64}

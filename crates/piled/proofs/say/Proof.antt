@@ -1,6 +1,6 @@
 -- `piled::say` meets its contract.
 -- Assumes nothing.
-use Rattle.number.proofs.Tools.{needs}
+use Rattle.number.proofs.Tools.{rules}
 use Rattle.piled.specs.Lines.{say_piled}
 use Rattle.piled.proofs.say.Statement.{statement}
 use Rattle.piled.proofs.say.Tie as tie

@@ -1,6 +1,6 @@
 -- `piling::add_kept` meets its contract.
 -- Assumes nothing.
-use Rattle.number.proofs.Tools.{◌∙◌, arith, needs}
+use Rattle.number.proofs.Tools.{◌∙◌, arith, rules}
 use Rattle.kept.proofs.NameLaws.{lent}
 use Rattle.piling.proofs.PileLaws.{added-Short}
 use Rattle.piling.proofs.add_kept.Statement.{statement}

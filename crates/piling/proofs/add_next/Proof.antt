@@ -1,6 +1,6 @@
 -- `piling::add_next` meets its contract.
 -- Assumes nothing.
-use Rattle.number.proofs.Tools.{refl, needs}
+use Rattle.number.proofs.Tools.{refl, rules}
 use Rattle.piling.specs.Fetching.{WentOn}
 use Rattle.piling.proofs.add_next.Statement.{statement}
 use Rattle.piling.proofs.add_next.Tie as tie

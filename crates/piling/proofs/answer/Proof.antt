@@ -1,6 +1,6 @@
 -- `piling::answer` meets its contract: what a pile answers is told, or which file is wanting.
 -- Assumes nothing.
-use Rattle.number.proofs.Tools.{refl, needs}
+use Rattle.number.proofs.Tools.{refl, rules}
 use Rattle.piling.proofs.AnswerLaws.{saves_room, told, missed}
 use Rattle.piling.proofs.answer.Statement.{statement}
 use Rattle.piling.proofs.answer.Tie as tie

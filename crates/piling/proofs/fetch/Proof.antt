@@ -1,6 +1,6 @@
 -- `piling::fetch` meets its contract.
 -- Assumes nothing.
-use Rattle.number.proofs.Tools.{needs}
+use Rattle.number.proofs.Tools.{rules}
 use Rattle.piling.proofs.fetch.Statement.{statement}
 use Rattle.piling.proofs.fetch.Tie as tie
 

@@ -1,7 +1,7 @@
 -- `piling::link_all` meets its contract.
 -- Assumes nothing.
 use Rattle.std.specs.Prelude.{◌-◌}
-use Rattle.number.proofs.Tools.{subst, arith, needs}
+use Rattle.number.proofs.Tools.{subst, arith, rules}
 use Rattle.words.specs.Words.{words_of}
 use Rattle.tasks.specs.Tasks.{in_batch}
 use Rattle.piling.specs.Fetching.{store_of, ShortEnd}

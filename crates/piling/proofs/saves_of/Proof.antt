@@ -1,6 +1,6 @@
 -- `piling::saves_of` meets its contract.
 -- Assumes nothing.
-use Rattle.number.proofs.Tools.{refl, needs}
+use Rattle.number.proofs.Tools.{refl, rules}
 use Rattle.piling.specs.Answers.{saves_of}
 use Rattle.piling.proofs.saves_of.Statement.{statement}
 use Rattle.piling.proofs.saves_of.Tie as tie

@@ -1,7 +1,7 @@
 -- `places::lay_out` meets its contract.
 -- Assumes nothing.
 use Rattle.std.specs.Prelude.{◌-◌}
-use Rattle.number.proofs.Tools.{arith, needs}
+use Rattle.number.proofs.Tools.{arith, rules}
 use Rattle.places.proofs.Outs as laws
 use Rattle.places.proofs.lay_out.Statement.{statement}
 use Rattle.places.proofs.lay_out.Tie as tie

@@ -1,6 +1,6 @@
 -- `pooling::pointed` meets its contract.
 -- Assumes nothing.
-use Rattle.number.proofs.Tools.{arith, needs, refl, is_eq, no_eq}
+use Rattle.number.proofs.Tools.{arith, rules, refl, is_eq, no_eq}
 use Rattle.pooling.specs.Tabled.{pointed_at}
 use Rattle.pooling.proofs.pointed.Statement.{statement}
 use Rattle.pooling.proofs.pointed.Tie as tie

@@ -1,6 +1,6 @@
 -- `pooling::put_own` meets its contract.
 -- Assumes nothing.
-use Rattle.number.proofs.Tools.{arith, needs}
+use Rattle.number.proofs.Tools.{arith, rules}
 use Rattle.pooling.proofs.Owns as laws
 use Rattle.pooling.proofs.put_own.Statement.{statement}
 use Rattle.pooling.proofs.put_own.Tie as tie

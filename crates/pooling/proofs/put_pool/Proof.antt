@@ -1,7 +1,7 @@
 -- `pooling::put_pool` meets its contract.
 -- Assumes nothing.
 use Rattle.std.specs.Prelude.{◌-◌}
-use Rattle.number.proofs.Tools.{arith, needs}
+use Rattle.number.proofs.Tools.{arith, rules}
 use Rattle.writing.specs.Source.{renumber}
 use Rattle.pooling.proofs.Turns as laws
 use Rattle.pooling.proofs.put_pool.Statement.{statement}

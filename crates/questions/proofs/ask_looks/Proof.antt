@@ -1,6 +1,6 @@
 -- `questions::ask_looks` meets its contract.
 -- Assumes nothing.
-use Rattle.number.proofs.Tools.{needs}
+use Rattle.number.proofs.Tools.{rules}
 use Rattle.questions.specs.Lines.{asked_saying}
 use Rattle.words.proofs.SpanLaws.{word_bytes}
 use Rattle.questions.proofs.ask_looks.Statement.{statement}

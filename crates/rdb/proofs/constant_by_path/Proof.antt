@@ -1,6 +1,6 @@
 -- `rdb::constant_by_path` meets its contract.
 -- Assumes nothing.
-use Rattle.number.proofs.Tools.{needs}
+use Rattle.number.proofs.Tools.{rules}
 use Rattle.rdb.proofs.AnswerLaws.{Checked-file, constant_Accepted, constant_refused}
 use Rattle.rdb.proofs.constant_by_path.Statement.{statement}
 use Rattle.rdb.proofs.constant_by_path.Tie as tie

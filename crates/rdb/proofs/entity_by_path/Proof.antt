@@ -1,6 +1,6 @@
 -- `rdb::entity_by_path` meets its contract.
 -- Assumes nothing.
-use Rattle.number.proofs.Tools.{needs}
+use Rattle.number.proofs.Tools.{rules}
 use Rattle.rdb.proofs.AnswerLaws.{Checked-file, entity_Accepted, entity_refused}
 use Rattle.rdb.proofs.entity_by_path.Statement.{statement}
 use Rattle.rdb.proofs.entity_by_path.Tie as tie

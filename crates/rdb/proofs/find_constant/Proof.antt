@@ -1,6 +1,6 @@
 -- `rdb::find_constant` meets its contract.
 -- Assumes nothing.
-use Rattle.number.proofs.Tools.{needs}
+use Rattle.number.proofs.Tools.{rules}
 use Rattle.rdb.proofs.AnswerLaws.{constant_stands, constant_there, constant_absent}
 use Rattle.rdb.proofs.find_constant.Statement.{statement}
 use Rattle.rdb.proofs.find_constant.Tie as tie

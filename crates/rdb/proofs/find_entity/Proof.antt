@@ -1,6 +1,6 @@
 -- `rdb::find_entity` meets its contract.
 -- Assumes nothing.
-use Rattle.number.proofs.Tools.{needs}
+use Rattle.number.proofs.Tools.{rules}
 use Rattle.rdb.proofs.AnswerLaws.{entity_inside, entity_there, entity_absent}
 use Rattle.rdb.proofs.find_entity.Statement.{statement}
 use Rattle.rdb.proofs.find_entity.Tie as tie

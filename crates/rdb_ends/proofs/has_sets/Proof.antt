@@ -1,6 +1,6 @@
 -- `rdb_ends::has_sets` meets its contract.
 -- Assumes nothing.
-use Rattle.number.proofs.Tools.{needs, arith}
+use Rattle.number.proofs.Tools.{rules, arith}
 use Rattle.rdb_interface.proofs.SetLaws.{has_always, has_kept, has_none}
 use Rattle.rdb_ends.proofs.has_sets.Statement.{statement}
 use Rattle.rdb_ends.proofs.has_sets.Tie as tie

@@ -1,6 +1,6 @@
 -- `rdb_ends::item_end` meets its contract.
 -- Assumes nothing.
-use Rattle.number.proofs.Tools.{needs, arith}
+use Rattle.number.proofs.Tools.{rules, arith}
 use Rattle.rdb_ends.specs.Ends.{item_end}
 use Rattle.rdb_ends.proofs.EndLaws.{item_member, item_base, item_attribute, item_method}
 use Rattle.rdb_ends.proofs.item_end.Statement.{statement}

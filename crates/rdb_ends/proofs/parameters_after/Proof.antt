@@ -2,7 +2,7 @@
 -- Assumes nothing.
 use native.Mathlib.Nat.{sub-zero}
 use Rattle.std.specs.Prelude.{◌≡◌, ◌≤◌, ◌-◌}
-use Rattle.number.proofs.Tools.{needs, arith, refl, sym, ◌∙◌}
+use Rattle.number.proofs.Tools.{rules, arith, refl, sym, ◌∙◌}
 use Rattle.reading.specs.Got.{many, Accepted}
 use Rattle.rdb_interface.specs.Interface.{read_parameter}
 use Rattle.rdb_ends.specs.Ends.{after, parameter_end}

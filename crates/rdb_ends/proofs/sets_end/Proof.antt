@@ -1,6 +1,6 @@
 -- `rdb_ends::sets_end` meets its contract.
 -- Assumes nothing.
-use Rattle.number.proofs.Tools.{needs, arith, refl, sym, ◌∙◌}
+use Rattle.number.proofs.Tools.{rules, arith, refl, sym, ◌∙◌}
 use Rattle.rdb_interface.proofs.SetLaws.{where_sets_lem, where_none}
 use Rattle.rdb_ends.specs.Ends.{sets_end}
 use Rattle.rdb_ends.proofs.EndLaws.{sets_list}

@@ -1,6 +1,6 @@
 -- `rdb_ends::text_at` meets its contract.
 -- Assumes nothing.
-use Rattle.number.proofs.Tools.{needs, arith}
+use Rattle.number.proofs.Tools.{rules, arith}
 use Rattle.rdb_ends.proofs.EndLaws.{text_here, text_inline, text_pointed}
 use Rattle.rdb_ends.proofs.text_at.Statement.{statement}
 use Rattle.rdb_ends.proofs.text_at.Tie as tie

@@ -2,7 +2,7 @@
 -- Assumes nothing.
 use native.Mathlib.Nat.{sub-zero}
 use Rattle.std.specs.Prelude.{◌≡◌, ◌≤◌, ◌-◌}
-use Rattle.number.proofs.Tools.{needs, arith, refl, sym, ◌∙◌}
+use Rattle.number.proofs.Tools.{rules, arith, refl, sym, ◌∙◌}
 use Rattle.rdb_ends.specs.Ends.{after, text_end}
 use Rattle.rdb_ends.specs.Here.{RunHere}
 use Rattle.rdb_ends.proofs.EndLaws.{after_next, after_done, run_first, run_rest}

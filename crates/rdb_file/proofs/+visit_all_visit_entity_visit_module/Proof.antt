@@ -2,7 +2,7 @@
 -- the entries of a map, two for a module.
 -- Assumes nothing.
 use Rattle.std.specs.Prelude.{◌≡◌, ◌≤◌, ◌+◌, ◌-◌}
-use Rattle.number.proofs.Tools.{needs, arith, refl, sym, ◌∙◌, length}
+use Rattle.number.proofs.Tools.{rules, arith, refl, sym, ◌∙◌, length}
 use Rattle.reading.proofs.Steps.{next-end, next-refused}
 use Rattle.rdb_map.specs.Map.{visit_limit}
 use Rattle.rdb_file.specs.Visit.{visit_entity}

@@ -1,6 +1,6 @@
 -- `rdb_file::check` meets its contract.
 -- Assumes nothing.
-use Rattle.number.proofs.Tools.{needs}
+use Rattle.number.proofs.Tools.{rules}
 use Rattle.rdb_file.proofs.VisitLaws.{verdict_end, verdict_refused}
 use Rattle.rdb_file.proofs.check.Statement.{statement}
 use Rattle.rdb_file.proofs.check.Tie as tie

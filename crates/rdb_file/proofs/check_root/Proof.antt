@@ -1,6 +1,6 @@
 -- `rdb_file::check_root` meets its contract.
 -- Assumes nothing.
-use Rattle.number.proofs.Tools.{needs, arith, sym, ◌∙◌}
+use Rattle.number.proofs.Tools.{rules, arith, sym, ◌∙◌}
 use Rattle.reading.proofs.Steps.{next-end, next-refused}
 use Rattle.rdb_file.proofs.VisitLaws.{map_Entered, map_Stands, map_most, root_out, root_map}
 use Rattle.rdb_file.proofs.check_root.Statement.{statement}

@@ -1,6 +1,6 @@
 -- `rdb_file::count_again` meets its contract.
 -- Assumes nothing.
-use Rattle.number.proofs.Tools.{needs, arith, refl, is_lt, no_lt}
+use Rattle.number.proofs.Tools.{rules, arith, refl, is_lt, no_lt}
 use Rattle.rdb_file.specs.Seen.{count_again}
 use Rattle.rdb_file.proofs.count_again.Statement.{statement}
 use Rattle.rdb_file.proofs.count_again.Tie as tie

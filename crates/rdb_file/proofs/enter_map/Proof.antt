@@ -1,6 +1,6 @@
 -- `rdb_file::enter_map` meets its contract.
 -- Assumes nothing.
-use Rattle.number.proofs.Tools.{needs, arith, sym, ◌∙◌}
+use Rattle.number.proofs.Tools.{rules, arith, sym, ◌∙◌}
 use Rattle.rdb_file.proofs.SeenLaws.{kept_same, Known-map, Known-again, Settled-entity}
 use Rattle.rdb_file.proofs.enter_map.Statement.{statement}
 use Rattle.rdb_file.proofs.enter_map.Tie as tie

@@ -1,6 +1,6 @@
 -- `rdb_file::is_reserved` meets its contract.
 -- Assumes nothing.
-use Rattle.number.proofs.Tools.{needs, arith, refl, sym, ap, ◌∙◌, is_lt, no_lt, is_eq, no_eq}
+use Rattle.number.proofs.Tools.{rules, arith, refl, sym, ap, ◌∙◌, is_lt, no_lt, is_eq, no_eq}
 use mathlib.Core.Bool.{not}
 use Rattle.rdb_file.specs.Kind.{is_reserved}
 use Rattle.rdb_file.proofs.is_reserved.Statement.{statement}

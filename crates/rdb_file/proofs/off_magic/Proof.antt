@@ -3,7 +3,7 @@
 use Rattle.std.specs.Prelude.{◌≡◌, ◌≤◌, ◌-◌}
 use Rattle.number.proofs.Scans.{Misses, Misses-none, Misses-more, Misses-some, hits_some}
 use Rattle.number.proofs.Choice.{yes_ne, not_ne}
-use Rattle.number.proofs.Tools.{needs, arith}
+use Rattle.number.proofs.Tools.{rules, arith}
 use Rattle.rdb_file.specs.File.{magic, off_magic}
 use Rattle.rdb_file.proofs.off_magic.Statement.{statement}
 use Rattle.rdb_file.proofs.off_magic.Tie as tie

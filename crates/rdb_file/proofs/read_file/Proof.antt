@@ -1,6 +1,6 @@
 -- `rdb_file::read_file` meets its contract.
 -- Assumes nothing.
-use Rattle.number.proofs.Tools.{needs, arith, sym, ◌∙◌}
+use Rattle.number.proofs.Tools.{rules, arith, sym, ◌∙◌}
 use Rattle.reading.proofs.Steps.{at_bad, is_lt, no_lt, is_ne, no_ne, is_true, is_false}
 use Rattle.rdb_file.specs.File.{read_file}
 use Rattle.rdb_file.proofs.SeenLaws.{Settled-none}

@@ -1,6 +1,6 @@
 -- `rdb_file::visit_again` meets its contract.
 -- Assumes nothing.
-use Rattle.number.proofs.Tools.{needs, arith, ◌∙◌}
+use Rattle.number.proofs.Tools.{rules, arith, ◌∙◌}
 use Rattle.rdb_file.proofs.SeenLaws.{record_Again, group_read, group_counts, group_stops}
 use Rattle.rdb_file.proofs.visit_again.Statement.{statement}
 use Rattle.rdb_file.proofs.visit_again.Tie as tie

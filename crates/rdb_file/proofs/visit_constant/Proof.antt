@@ -1,6 +1,6 @@
 -- `rdb_file::visit_constant` meets its contract.
 -- Assumes nothing.
-use Rattle.number.proofs.Tools.{needs, arith, sym, ◌∙◌}
+use Rattle.number.proofs.Tools.{rules, arith, sym, ◌∙◌}
 use Rattle.reading.proofs.Rows.{accepted}
 use Rattle.rdb_file.proofs.VisitLaws.{alone-end, alone-refused}
 use Rattle.rdb_file.proofs.SeenLaws.{alone_known, kept_same, kept_both, Learnt-Keeps, settled_constant}

@@ -1,7 +1,7 @@
 -- `rdb_file::visit_constants` meets its contract.
 -- Assumes nothing.
 use Rattle.std.specs.Prelude.{◌≡◌, ◌≤◌, ◌-◌}
-use Rattle.number.proofs.Tools.{needs, arith, refl, ◌∙◌, length}
+use Rattle.number.proofs.Tools.{rules, arith, refl, ◌∙◌, length}
 use Rattle.rdb_file.specs.Visit.{visit_constant}
 use Rattle.rdb_file.specs.Seen.{Keeps}
 use Rattle.rdb_file.proofs.VisitLaws.{Turned, Turned-start, Turned-more, turned_refused, turned_done}

@@ -1,6 +1,6 @@
 -- `rdb_file::visit_group` meets its contract.
 -- Assumes nothing.
-use Rattle.number.proofs.Tools.{needs, arith, sym, ◌∙◌}
+use Rattle.number.proofs.Tools.{rules, arith, sym, ◌∙◌}
 use Rattle.reading.proofs.Steps.{next-end, next-refused}
 use Rattle.rdb_file.proofs.VisitLaws.{group_out, group_map, map_Entered, map_Stands, map_end}
 use Rattle.rdb_file.proofs.SeenLaws.{kept_same, kept_both, Learnt-Keeps, trust_kept}

@@ -1,6 +1,6 @@
 -- `rdb_file::visit_known` meets its contract.
 -- Assumes nothing.
-use Rattle.number.proofs.Tools.{needs, arith, sym, ◌∙◌}
+use Rattle.number.proofs.Tools.{rules, arith, sym, ◌∙◌}
 use Rattle.rdb_file.proofs.SeenLaws.{trust, Settled-entity, Known-whole, Known-Visited, Known-record}
 use Rattle.rdb_file.proofs.visit_known.Statement.{statement}
 use Rattle.rdb_file.proofs.visit_known.Tie as tie

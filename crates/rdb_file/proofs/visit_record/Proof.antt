@@ -1,6 +1,6 @@
 -- `rdb_file::visit_record` meets its contract.
 -- Assumes nothing.
-use Rattle.number.proofs.Tools.{needs, arith}
+use Rattle.number.proofs.Tools.{rules, arith}
 use Rattle.reading.proofs.Steps.{is_eq, no_eq, at_end}
 use Rattle.rdb_file.specs.Visit.{visit_record}
 use Rattle.rdb_file.proofs.VisitLaws.{alone-end, alone-refused}

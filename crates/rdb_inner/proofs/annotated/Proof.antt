@@ -1,6 +1,6 @@
 -- `rdb_inner::annotated` meets its contract.
 -- Assumes nothing.
-use Rattle.number.proofs.Tools.{needs}
+use Rattle.number.proofs.Tools.{rules}
 use Rattle.rdb_inner.proofs.annotated.Statement.{statement}
 use Rattle.rdb_inner.proofs.annotated.Tie as tie
 

@@ -1,6 +1,6 @@
 -- `rdb_inner::constant_note` meets its contract.
 -- Assumes nothing.
-use Rattle.number.proofs.Tools.{needs, arith}
+use Rattle.number.proofs.Tools.{rules, arith}
 use Rattle.rdb_inner.proofs.InnerLaws.{constant_is, constant_listed, constant_there, constant_absent}
 use Rattle.rdb_inner.proofs.constant_note.Statement.{statement}
 use Rattle.rdb_inner.proofs.constant_note.Tie as tie

@@ -1,6 +1,6 @@
 -- `rdb_inner::exception_of` meets its contract.
 -- Assumes nothing.
-use Rattle.number.proofs.Tools.{needs, arith}
+use Rattle.number.proofs.Tools.{rules, arith}
 use Rattle.rdb_ends.proofs.EndLaws.{method_throwing}
 use Rattle.rdb_places.proofs.PlaceLaws.{method_list}
 use Rattle.rdb_parts.specs.Parts.{method_exception}

@@ -1,6 +1,6 @@
 -- `rdb_inner::find_inner` meets its contract.
 -- Assumes nothing.
-use Rattle.number.proofs.Tools.{needs}
+use Rattle.number.proofs.Tools.{rules}
 use Rattle.rdb_parts.proofs.SaidLaws.{checked, part_Visited, found_part, no_part}
 use Rattle.rdb_inner.proofs.find_inner.Statement.{statement}
 use Rattle.rdb_inner.proofs.find_inner.Tie as tie

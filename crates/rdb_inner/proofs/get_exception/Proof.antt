@@ -1,6 +1,6 @@
 -- `rdb_inner::get_exception` meets its contract.
 -- Assumes nothing.
-use Rattle.number.proofs.Tools.{needs, arith}
+use Rattle.number.proofs.Tools.{rules, arith}
 use Rattle.rdb_ends.proofs.EndLaws.{attribute_getting}
 use Rattle.rdb_places.proofs.PlaceLaws.{attribute_list}
 use Rattle.rdb_parts.specs.Parts.{attribute_get}

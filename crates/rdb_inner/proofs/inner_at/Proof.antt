@@ -1,6 +1,6 @@
 -- `rdb_inner::inner_at` meets its contract.
 -- Assumes nothing.
-use Rattle.number.proofs.Tools.{needs, arith}
+use Rattle.number.proofs.Tools.{rules, arith}
 use Rattle.rdb_parts.specs.Parts.{inner_at}
 use Rattle.rdb_inner.proofs.inner_at.Statement.{statement}
 use Rattle.rdb_inner.proofs.inner_at.Tie as tie

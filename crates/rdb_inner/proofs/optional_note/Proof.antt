@@ -1,6 +1,6 @@
 -- `rdb_inner::optional_note` meets its contract.
 -- Assumes nothing.
-use Rattle.number.proofs.Tools.{needs, arith}
+use Rattle.number.proofs.Tools.{rules, arith}
 use Rattle.rdb_path.proofs.Reaching.{visited_inside}
 use Rattle.rdb_ends.proofs.EndLaws.{base_text, base_noted}
 use Rattle.rdb_places.proofs.PlaceLaws.{optional_list}

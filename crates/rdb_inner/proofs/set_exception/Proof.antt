@@ -1,6 +1,6 @@
 -- `rdb_inner::set_exception` meets its contract.
 -- Assumes nothing.
-use Rattle.number.proofs.Tools.{needs, arith, refl}
+use Rattle.number.proofs.Tools.{rules, arith, refl}
 use Rattle.rdb_ends.proofs.EndLaws.{attribute_is, attribute_setting}
 use Rattle.rdb_places.proofs.PlaceLaws.{attribute_list}
 use Rattle.rdb_parts.specs.Parts.{attribute_set}

@@ -1,6 +1,6 @@
 -- `rdb_inner::set_part` meets its contract.
 -- Assumes nothing.
-use Rattle.number.proofs.Tools.{needs, arith, refl, sym, ◌∙◌}
+use Rattle.number.proofs.Tools.{rules, arith, refl, sym, ◌∙◌}
 use Rattle.rdb_interface.proofs.SetLaws.{where_sets_lem, where_none}
 use Rattle.rdb_ends.proofs.EndLaws.{sets_list}
 use Rattle.rdb_inner.specs.Inside.{set_text}

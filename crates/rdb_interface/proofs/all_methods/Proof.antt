@@ -1,6 +1,6 @@
 -- `rdb_interface::all_methods` meets its contract.
 -- Assumes nothing.
-use Rattle.number.proofs.Tools.{needs, arith}
+use Rattle.number.proofs.Tools.{rules, arith}
 use Rattle.rdb_text.proofs.FieldLaws.{counted_out_lem}
 use Rattle.rdb_memory.proofs.JudgeLaws.{Judged-same, Judged-counted}
 use Rattle.rdb_interface.proofs.all_methods.Statement.{statement}

@@ -1,6 +1,6 @@
 -- `rdb_interface::read_attribute` meets its contract.
 -- Assumes nothing.
-use Rattle.number.proofs.Tools.{needs, arith}
+use Rattle.number.proofs.Tools.{rules, arith}
 use Rattle.number.proofs.Choice.{not_lt}
 use Rattle.reading.proofs.Steps.{at_bad, is_lt}
 use Rattle.rdb_text.proofs.FieldLaws.{byte_in_lem, byte_out}

@@ -1,7 +1,7 @@
 -- `rdb_interface::read_attributes` meets its contract.
 -- Assumes nothing.
 use Rattle.std.specs.Prelude.{◌≡◌, ◌≤◌, ◌-◌}
-use Rattle.number.proofs.Tools.{needs, arith, refl, length}
+use Rattle.number.proofs.Tools.{rules, arith, refl, length}
 use Rattle.rdb_memory.proofs.JudgeLaws.{Turning, Turning-start, Turning-next, turning_refused, turning_done}
 use Rattle.rdb_interface.specs.Interface.{read_attribute}
 use Rattle.rdb_record.proofs.EndLaws.{Inside-end}

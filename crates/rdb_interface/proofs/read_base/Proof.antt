@@ -1,6 +1,6 @@
 -- `rdb_interface::read_base` meets its contract.
 -- Assumes nothing.
-use Rattle.number.proofs.Tools.{needs}
+use Rattle.number.proofs.Tools.{rules}
 use Rattle.rdb_memory.proofs.JudgeLaws.{Judged-end, Judged-refused, Judged-last}
 use Rattle.rdb_interface.specs.Interface.{read_base}
 use Rattle.rdb_record.proofs.EndLaws.{Inside-end, text_Inside}

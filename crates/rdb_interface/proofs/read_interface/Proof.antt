@@ -1,6 +1,6 @@
 -- `rdb_interface::read_interface` meets its contract.
 -- Assumes nothing.
-use Rattle.number.proofs.Tools.{needs, arith}
+use Rattle.number.proofs.Tools.{rules, arith}
 use Rattle.rdb_memory.proofs.JudgeLaws.{Judged-end, Judged-refused, Judged-last}
 use Rattle.rdb_interface.specs.Interface.{read_interface}
 use Rattle.rdb_record.proofs.EndLaws.{Inside-end}

@@ -1,6 +1,6 @@
 -- `rdb_interface::read_method` meets its contract.
 -- Assumes nothing.
-use Rattle.number.proofs.Tools.{needs, arith}
+use Rattle.number.proofs.Tools.{rules, arith}
 use Rattle.rdb_memory.proofs.JudgeLaws.{Judged-end, Judged-refused, Judged-last}
 use Rattle.rdb_interface.specs.Interface.{read_method}
 use Rattle.rdb_record.proofs.EndLaws.{Inside-end, text_Inside, texts_Inside}

@@ -1,6 +1,6 @@
 -- `rdb_interface::read_sets` meets its contract.
 -- Assumes nothing.
-use Rattle.number.proofs.Tools.{needs, arith}
+use Rattle.number.proofs.Tools.{rules, arith}
 use Rattle.reading.proofs.Steps.{at_end, is_eq}
 use Rattle.number.proofs.Choice.{not_eq}
 use Rattle.rdb_memory.proofs.JudgeLaws.{Judged-same, Judged-false}

@@ -1,6 +1,6 @@
 -- `rdb_line::put_constant` meets its contract.
 -- Assumes nothing.
-use Rattle.number.proofs.Tools.{arith, needs}
+use Rattle.number.proofs.Tools.{arith, rules}
 use Rattle.rdb_line.proofs.LineLaws.{constant-Passed}
 use Rattle.rdb_line.proofs.put_constant.Statement.{statement}
 use Rattle.rdb_line.proofs.put_constant.Tie as tie

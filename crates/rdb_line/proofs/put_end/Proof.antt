@@ -1,6 +1,6 @@
 -- `rdb_line::put_end` meets its contract.
 -- Assumes nothing.
-use Rattle.number.proofs.Tools.{arith, needs}
+use Rattle.number.proofs.Tools.{arith, rules}
 use Rattle.rdb_line.proofs.LineLaws.{end_Passed}
 use Rattle.rdb_line.proofs.put_end.Statement.{statement}
 use Rattle.rdb_line.proofs.put_end.Tie as tie

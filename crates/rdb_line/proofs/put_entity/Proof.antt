@@ -1,6 +1,6 @@
 -- `rdb_line::put_entity` meets its contract.
 -- Assumes nothing.
-use Rattle.number.proofs.Tools.{arith, needs, get_or}
+use Rattle.number.proofs.Tools.{arith, rules, get_or}
 use Rattle.ascii.specs.Ascii.{ascii}
 use Rattle.text.specs.Line.{space}
 use Rattle.rdb_line.proofs.LineLaws.{labelled_short, entity-Passed}

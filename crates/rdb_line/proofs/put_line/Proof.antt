@@ -1,6 +1,6 @@
 -- `rdb_line::put_line` meets its contract.
 -- Assumes nothing.
-use Rattle.number.proofs.Tools.{ap, sym, subst, arith, needs}
+use Rattle.number.proofs.Tools.{ap, sym, subst, arith, rules}
 use Rattle.rdb_line.specs.declared.Target.{Target}
 use Rattle.rdb_line.specs.Text.{line_text}
 use Rattle.rdb_line.specs.Spelt.{words_at, line_of, Stored}

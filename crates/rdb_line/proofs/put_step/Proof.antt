@@ -1,6 +1,6 @@
 -- `rdb_line::put_step` meets its contract.
 -- Assumes nothing.
-use Rattle.number.proofs.Tools.{◌∙◌, arith, needs}
+use Rattle.number.proofs.Tools.{◌∙◌, arith, rules}
 use Rattle.rdb_map.specs.Map.{key_at}
 use Rattle.rdb_line.proofs.LineLaws.{key_ended, key_word, Passed-as, step_first, step_more}
 use Rattle.rdb_line.proofs.put_step.Statement.{statement}

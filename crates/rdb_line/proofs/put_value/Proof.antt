@@ -1,7 +1,7 @@
 -- `rdb_line::put_value` meets its contract.
 -- Assumes nothing.
 use mathlib.Core.List.{◌++◌}
-use Rattle.number.proofs.Tools.{ap, length, arith, needs}
+use Rattle.number.proofs.Tools.{ap, length, arith, rules}
 use Rattle.ascii.specs.Ascii.{ascii}
 use Rattle.text.proofs.WritingLaws.{wrote, Wrote-then}
 use Rattle.rdb_list.specs.Listed.{value_in}

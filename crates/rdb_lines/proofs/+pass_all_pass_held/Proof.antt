@@ -2,7 +2,7 @@
 -- invariant: the lines from entry i on are left.
 -- Assumes nothing.
 use Rattle.std.specs.Prelude.{◌≡◌, ◌≤◌, ◌<◌, ◌+◌, ◌-◌}
-use Rattle.number.proofs.Tools.{needs, arith, ap, ◌∙◌, ℕ}
+use Rattle.number.proofs.Tools.{rules, arith, ap, ◌∙◌, ℕ}
 use Rattle.rdb_path.proofs.Reaching.{visited_inside, module_Reached}
 use Rattle.rdb_list.specs.Listed.{entity_lines, held_lines}
 use Rattle.rdb_line.specs.Spelt.{words_at}

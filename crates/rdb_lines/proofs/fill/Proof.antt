@@ -1,7 +1,7 @@
 -- `rdb_lines::fill` meets its contract.
 -- Assumes nothing.
 use mathlib.Core.List.{[]}
-use Rattle.number.proofs.Tools.{refl, ◌∙◌, arith, needs}
+use Rattle.number.proofs.Tools.{refl, ◌∙◌, arith, rules}
 use Rattle.rdb_path.proofs.Reaching.{root_Reached}
 use Rattle.rdb_lines.proofs.WalkLaws.{Walked-as}
 use Rattle.rdb_lines.proofs.FillLaws.{root_lines, root_held, Ready-first, full_lines, Fills-full, Fills-over}

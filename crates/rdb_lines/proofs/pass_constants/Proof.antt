@@ -1,7 +1,7 @@
 -- `rdb_lines::pass_constants` meets its contract. The loop's invariant: the lines from entry i on are left. The measure is how many they are.
 -- Assumes nothing.
 use Rattle.std.specs.Prelude.{◌≡◌, ◌-◌, ◌≤◌}
-use Rattle.number.proofs.Tools.{ap, ◌∙◌, ℕ, arith, needs}
+use Rattle.number.proofs.Tools.{ap, ◌∙◌, ℕ, arith, rules}
 use Rattle.rdb_list.specs.Listed.{constant_lines}
 use Rattle.rdb_line.specs.Spelt.{words_at}
 use Rattle.rdb_lines.specs.Walk.{Fit}

@@ -1,6 +1,6 @@
 -- `rdb_lines::pass_group` meets its contract.
 -- Assumes nothing.
-use Rattle.number.proofs.Tools.{◌∙◌, arith, needs}
+use Rattle.number.proofs.Tools.{◌∙◌, arith, rules}
 use Rattle.rdb_path.proofs.Reaching.{visited_inside, group_reached}
 use Rattle.rdb_lines.proofs.WalkLaws.{Walked-none, Walked-as}
 use Rattle.rdb_lines.proofs.MapLaws.{group_other, group_constants, group_held}

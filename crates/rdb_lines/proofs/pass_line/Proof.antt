@@ -1,6 +1,6 @@
 -- `rdb_lines::pass_line` meets its contract.
 -- Assumes nothing.
-use Rattle.number.proofs.Tools.{arith, needs}
+use Rattle.number.proofs.Tools.{arith, rules}
 use Rattle.rdb_lines.proofs.WalkLaws.{Walked-skip, Walked-line, Fit-line}
 use Rattle.rdb_lines.proofs.pass_line.Statement.{statement}
 use Rattle.rdb_lines.proofs.pass_line.Tie as tie

@@ -1,6 +1,6 @@
 -- `rdb_map::check_entry` meets its contract.
 -- Assumes nothing.
-use Rattle.number.proofs.Tools.{needs, arith, refl, sym, ◌∙◌}
+use Rattle.number.proofs.Tools.{rules, arith, refl, sym, ◌∙◌}
 use Rattle.rdb_map.proofs.NameLaws.{held_earlier, held_alone, put_Sorted}
 use Rattle.rdb_map.proofs.MapLaws.{key_end, Named-key, entry_over, entry_key_lem, entry_twice, entry_rest, checked_refused}
 use Rattle.rdb_map.proofs.check_entry.Statement.{statement}

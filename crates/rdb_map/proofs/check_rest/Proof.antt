@@ -1,7 +1,7 @@
 -- `rdb_map::check_rest` meets its contract.
 -- Assumes nothing.
 use Rattle.std.specs.Prelude.{◌≡◌, ◌≤◌, ◌-◌}
-use Rattle.number.proofs.Tools.{needs, arith, refl, length}
+use Rattle.number.proofs.Tools.{rules, arith, refl, length}
 use Rattle.sorting.specs.Table.{Sorted}
 use Rattle.reading.proofs.Steps.{turn_refused, turn_done}
 use Rattle.reading.specs.Got.{many, step_of}

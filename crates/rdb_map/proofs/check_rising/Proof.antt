@@ -1,6 +1,6 @@
 -- `rdb_map::check_rising` meets its contract.
 -- Assumes nothing.
-use Rattle.number.proofs.Tools.{needs, arith, refl}
+use Rattle.number.proofs.Tools.{rules, arith, refl}
 use Rattle.rdb_map.proofs.MapLaws.{key_end, Named-key, entry_over, entry_key_lem, entry_rest}
 use Rattle.rdb_map.proofs.RiseLaws.{rising_alone, rise_refused, rise_read, rise_falls}
 use Rattle.rdb_map.proofs.check_rising.Statement.{statement}

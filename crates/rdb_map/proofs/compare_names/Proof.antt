@@ -1,6 +1,6 @@
 -- `rdb_map::compare_names` meets its contract.
 -- Assumes nothing.
-use Rattle.number.proofs.Tools.{◌∙◌, needs, arith}
+use Rattle.number.proofs.Tools.{◌∙◌, rules, arith}
 use Rattle.key.proofs.Ends.{word_from}
 use Rattle.rdb_map.proofs.NameLaws.{name_starts, name_less, name_more, name_bytes_lem}
 use Rattle.rdb_stops.proofs.StopLaws.{Stops-from}

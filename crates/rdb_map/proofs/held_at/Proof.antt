@@ -1,6 +1,6 @@
 -- `rdb_map::held_at` meets its contract.
 -- Assumes nothing.
-use Rattle.number.proofs.Tools.{needs, arith}
+use Rattle.number.proofs.Tools.{rules, arith}
 use Rattle.sorting.proofs.Tables as laws
 use Rattle.key.specs.declared.Order.TheVariants.{Before, Same, After}
 use Rattle.key.specs.Word.{is_same}

@@ -1,6 +1,6 @@
 -- `rdb_map::read_key` meets its contract.
 -- Assumes nothing.
-use Rattle.number.proofs.Tools.{needs, arith}
+use Rattle.number.proofs.Tools.{rules, arith}
 use Rattle.reading.proofs.Steps.{at_bad, at_end_as, is_le, no_le, is_true, is_false}
 use Rattle.rdb_text.proofs.FieldLaws.{uint_in, uint_out}
 use Rattle.rdb_stops.proofs.StopLaws.{Stops-from}

@@ -1,6 +1,6 @@
 -- `rdb_map::read_payload` meets its contract.
 -- Assumes nothing.
-use Rattle.number.proofs.Tools.{needs, arith}
+use Rattle.number.proofs.Tools.{rules, arith}
 use Rattle.rdb_text.proofs.FieldLaws.{uint_in, uint_out}
 use Rattle.reading.proofs.Steps.{at_bad, at_end_as, is_lt, no_lt, is_le, no_le}
 use Rattle.rdb_map.specs.Map.{read_payload}

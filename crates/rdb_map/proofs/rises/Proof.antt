@@ -1,7 +1,7 @@
 -- `rdb_map::rises` meets its contract.
 -- Assumes nothing.
 use Rattle.std.specs.Prelude.{◌-◌}
-use Rattle.number.proofs.Tools.{needs, arith}
+use Rattle.number.proofs.Tools.{rules, arith}
 use Rattle.rdb_map.proofs.RiseLaws.{Rising-one, Rising-more}
 use Rattle.rdb_map.proofs.rises.Statement.{statement}
 use Rattle.rdb_map.proofs.rises.Tie as tie

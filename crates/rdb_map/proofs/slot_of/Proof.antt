@@ -1,7 +1,7 @@
 -- `rdb_map::slot_of` meets its contract.
 -- Assumes nothing.
 use Rattle.std.specs.Prelude.{◌-◌, ◌+◌, ◌/◌}
-use Rattle.number.proofs.Tools.{needs, arith}
+use Rattle.number.proofs.Tools.{rules, arith}
 use Rattle.sorting.proofs.Tables as laws
 use Rattle.rdb_map.specs.Table.{name_in}
 use Rattle.rdb_map.proofs.slot_of.Statement.{statement}

@@ -4,7 +4,7 @@ use Rattle.std.specs.Prelude.{◌≡◌, ◌≤◌, ◌-◌}
 use Rattle.number.proofs.Laws.{scan_done, scan_hit, scan_miss}
 use Rattle.number.proofs.Choice.{yes_eq, not_eq}
 use Rattle.number.specs.Scan.{scan}
-use Rattle.number.proofs.Tools.{needs, arith, refl, sym, ◌∙◌, length}
+use Rattle.number.proofs.Tools.{rules, arith, refl, sym, ◌∙◌, length}
 use Rattle.key.specs.Word.{zero_byte, word_end}
 use Rattle.rdb_map.proofs.word_end.Statement.{statement}
 use Rattle.rdb_map.proofs.word_end.Tie as tie

@@ -1,6 +1,6 @@
 -- `rdb_memory::fill_runs` meets its contract.
 -- Assumes nothing.
-use Rattle.number.proofs.Tools.{needs, arith, sym}
+use Rattle.number.proofs.Tools.{rules, arith, sym}
 use lib.Seq.{length-take-le}
 use Rattle.rdb_memory.proofs.GoodLaws.{Filled-front}
 use Rattle.rdb_memory.proofs.fill_runs.Statement.{statement}

@@ -1,6 +1,6 @@
 -- `rdb_memory::is_known` meets its contract.
 -- Assumes nothing.
-use Rattle.number.proofs.Tools.{needs, arith, refl, sym, ◌∙◌}
+use Rattle.number.proofs.Tools.{rules, arith, refl, sym, ◌∙◌}
 use Rattle.number.proofs.Scans.{clash}
 use Rattle.rdb_memory.proofs.GoodLaws.{mark_range}
 use Rattle.rdb_memory.proofs.is_known.Statement.{statement}

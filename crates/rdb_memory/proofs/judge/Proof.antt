@@ -1,6 +1,6 @@
 -- `rdb_memory::judge` meets its contract.
 -- Assumes nothing.
-use Rattle.number.proofs.Tools.{needs, arith}
+use Rattle.number.proofs.Tools.{rules, arith}
 use Rattle.rdb_memory.proofs.judge.Statement.{statement}
 use Rattle.rdb_memory.proofs.judge.Tie as tie
 

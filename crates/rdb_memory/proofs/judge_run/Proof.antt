@@ -1,6 +1,6 @@
 -- `rdb_memory::judge_run` meets its contract.
 -- Assumes nothing.
-use Rattle.number.proofs.Tools.{needs}
+use Rattle.number.proofs.Tools.{rules}
 use Rattle.rdb_text.specs.Bytes.{suits}
 use Rattle.rdb_memory.proofs.judge_run.Statement.{statement}
 use Rattle.rdb_memory.proofs.judge_run.Tie as tie

@@ -1,6 +1,6 @@
 -- `rdb_memory::known_end` meets its contract.
 -- Assumes nothing.
-use Rattle.number.proofs.Tools.{needs, arith}
+use Rattle.number.proofs.Tools.{rules, arith}
 use Rattle.reading.proofs.Steps.{at_end_as, is_lt, no_lt, next-end}
 use Rattle.rdb_text.specs.Text.{read_text}
 use Rattle.rdb_text.proofs.FieldLaws.{uint_in}

@@ -1,6 +1,6 @@
 -- `rdb_memory::learn_len` meets its contract.
 -- Assumes nothing.
-use Rattle.number.proofs.Tools.{needs, arith, sym, ◌∙◌}
+use Rattle.number.proofs.Tools.{rules, arith, sym, ◌∙◌}
 use Rattle.rdb_memory.proofs.JudgeLaws.{Learnt-both}
 use Rattle.rdb_memory.proofs.GoodLaws.{mark_range, Good-read, good_in, Learnt-text}
 use Rattle.rdb_memory.proofs.learn_len.Statement.{statement}

@@ -1,6 +1,6 @@
 -- `rdb_memory::learn_text` meets its contract.
 -- Assumes nothing.
-use Rattle.number.proofs.Tools.{needs, arith}
+use Rattle.number.proofs.Tools.{rules, arith}
 use Rattle.number.proofs.Choice.{yes_lt, not_lt}
 use Rattle.reading.proofs.Steps.{at_end_as}
 use Rattle.rdb_text.specs.Text.{read_text}

@@ -1,6 +1,6 @@
 -- `rdb_memory::read_len` meets its contract.
 -- Assumes nothing.
-use Rattle.number.proofs.Tools.{needs, arith}
+use Rattle.number.proofs.Tools.{rules, arith}
 use Rattle.reading.proofs.Steps.{at_bad, at_end_as, is_lt, no_lt, is_le, no_le, is_true, is_false}
 use Rattle.rdb_text.specs.Text.{read_len}
 use Rattle.rdb_text.proofs.FieldLaws.{named_in, named_out}

@@ -1,7 +1,7 @@
 -- `rdb_memory::read_run` meets its contract.
 -- Assumes nothing.
 use Rattle.std.specs.Prelude.{◌≡◌, ◌≤◌, ◌-◌}
-use Rattle.number.proofs.Tools.{needs, arith, refl, length}
+use Rattle.number.proofs.Tools.{rules, arith, refl, length}
 use Rattle.rdb_text.specs.Text.{read_text}
 use Rattle.rdb_text.proofs.TextLaws.{text_ends}
 use Rattle.rdb_memory.proofs.JudgeLaws.{Turning, Turning-start, Turning-next, turning_refused, turning_done}

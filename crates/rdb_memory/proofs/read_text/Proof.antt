@@ -1,6 +1,6 @@
 -- `rdb_memory::read_text` meets its contract.
 -- Assumes nothing.
-use Rattle.number.proofs.Tools.{needs, arith}
+use Rattle.number.proofs.Tools.{rules, arith}
 use Rattle.rdb_memory.proofs.JudgeLaws.{Judged-same}
 use Rattle.rdb_memory.proofs.read_text.Statement.{statement}
 use Rattle.rdb_memory.proofs.read_text.Tie as tie

@@ -1,6 +1,6 @@
 -- `rdb_memory::spend` meets its contract.
 -- Assumes nothing.
-use Rattle.number.proofs.Tools.{needs, arith}
+use Rattle.number.proofs.Tools.{rules, arith}
 use Rattle.rdb_memory.proofs.GoodLaws.{spent_few, spent_many}
 use Rattle.rdb_memory.proofs.spend.Statement.{statement}
 use Rattle.rdb_memory.proofs.spend.Tie as tie

@@ -1,6 +1,6 @@
 -- `rdb_memory::text_mark` meets its contract.
 -- Assumes nothing.
-use Rattle.number.proofs.Tools.{needs}
+use Rattle.number.proofs.Tools.{rules}
 use Rattle.rdb_memory.proofs.GoodLaws.{mark_ascii, mark_utf8}
 use Rattle.rdb_memory.proofs.text_mark.Statement.{statement}
 use Rattle.rdb_memory.proofs.text_mark.Tie as tie

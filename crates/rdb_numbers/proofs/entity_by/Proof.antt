@@ -1,6 +1,6 @@
 -- `rdb_numbers::entity_by` meets its contract.
 -- Assumes nothing.
-use Rattle.number.proofs.Tools.{needs, arith, refl}
+use Rattle.number.proofs.Tools.{rules, arith, refl}
 use Rattle.lookup.specs.Question.{refusal, malformed}
 use Rattle.rdb_numbers.specs.Numbers.{entity_by}
 use Rattle.rdb_numbers.proofs.NumberLaws.{first_reading, second_reading, no_reading}

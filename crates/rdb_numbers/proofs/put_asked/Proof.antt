@@ -1,6 +1,6 @@
 -- `rdb_numbers::put_asked` meets its contract.
 -- Assumes nothing.
-use Rattle.number.proofs.Tools.{needs, arith, refl}
+use Rattle.number.proofs.Tools.{rules, arith, refl}
 use Rattle.rdb.proofs.AnswerLaws.{Checked-file, constant_Accepted, constant_refused}
 use Rattle.rdb_numbers.specs.Numbers.{constant_numbers}
 use Rattle.rdb_numbers.proofs.NumberLaws.{then_numbers, refused_numbers}

@@ -1,6 +1,6 @@
 -- `rdb_numbers::put_entity` meets its contract.
 -- Assumes nothing.
-use Rattle.number.proofs.Tools.{needs}
+use Rattle.number.proofs.Tools.{rules}
 use Rattle.rdb_numbers.specs.Numbers.{entity_numbers}
 use Rattle.rdb_numbers.proofs.NumberLaws.{then_numbers}
 use Rattle.rdb_numbers.proofs.put_entity.Statement.{statement}

@@ -1,7 +1,7 @@
 -- `rdb_numbers::put_stored` meets its contract.
 -- Assumes nothing.
 use lib.ListN.{length-set}
-use Rattle.number.proofs.Tools.{needs, arith, refl}
+use Rattle.number.proofs.Tools.{rules, arith, refl}
 use Rattle.rdb.proofs.AnswerLaws.{stored_at}
 use Rattle.rdb_numbers.proofs.NumberLaws.{stored_numbers}
 use Rattle.rdb_numbers.proofs.put_stored.Statement.{statement}

@@ -1,7 +1,7 @@
 -- `rdb_numbers::put_told` meets its contract.
 -- Assumes nothing.
 use lib.ListN.{length-set}
-use Rattle.number.proofs.Tools.{needs, arith, refl}
+use Rattle.number.proofs.Tools.{rules, arith, refl}
 use Rattle.rdb_numbers.specs.Numbers.{entity_numbers}
 use Rattle.rdb_numbers.proofs.put_told.Statement.{statement}
 use Rattle.rdb_numbers.proofs.put_told.Tie as tie

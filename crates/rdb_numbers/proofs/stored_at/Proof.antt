@@ -1,6 +1,6 @@
 -- `rdb_numbers::stored_at` meets its contract.
 -- Assumes nothing.
-use Rattle.number.proofs.Tools.{needs, arith, refl, sym, ◌∙◌}
+use Rattle.number.proofs.Tools.{rules, arith, refl, sym, ◌∙◌}
 use Rattle.number.specs.Number.{little}
 use Rattle.number.proofs.Laws.{num-one}
 use Rattle.rdb_record.proofs.SizeLaws.{size_one, size_two, size_four, size_eight, size_float, size_double}

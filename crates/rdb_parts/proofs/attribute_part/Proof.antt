@@ -1,6 +1,6 @@
 -- `rdb_parts::attribute_part` meets its contract.
 -- Assumes nothing.
-use Rattle.number.proofs.Tools.{needs, arith}
+use Rattle.number.proofs.Tools.{rules, arith}
 use Rattle.rdb_places.proofs.PlaceLaws.{attribute_list}
 use Rattle.rdb_parts.specs.Parts.{attribute_said}
 use Rattle.rdb_parts.proofs.SaidLaws.{here, there, absent, attribute_said_lem, attribute_typed}

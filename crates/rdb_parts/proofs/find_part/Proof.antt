@@ -1,6 +1,6 @@
 -- `rdb_parts::find_part` meets its contract.
 -- Assumes nothing.
-use Rattle.number.proofs.Tools.{needs}
+use Rattle.number.proofs.Tools.{rules}
 use Rattle.rdb_parts.proofs.SaidLaws.{checked, part_Visited, found_part, no_part}
 use Rattle.rdb_parts.proofs.find_part.Statement.{statement}
 use Rattle.rdb_parts.proofs.find_part.Tie as tie

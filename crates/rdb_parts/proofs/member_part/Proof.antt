@@ -1,6 +1,6 @@
 -- `rdb_parts::member_part` meets its contract.
 -- Assumes nothing.
-use Rattle.number.proofs.Tools.{needs, arith}
+use Rattle.number.proofs.Tools.{rules, arith}
 use Rattle.rdb_ends.proofs.EndLaws.{member_text_lem, member_room}
 use Rattle.rdb_places.proofs.PlaceLaws.{member_list}
 use Rattle.rdb_parts.specs.Parts.{member_said}

@@ -1,6 +1,6 @@
 -- `rdb_parts::optional_part` meets its contract.
 -- Assumes nothing.
-use Rattle.number.proofs.Tools.{needs, arith}
+use Rattle.number.proofs.Tools.{rules, arith}
 use Rattle.rdb_ends.proofs.EndLaws.{base_text}
 use Rattle.rdb_places.proofs.PlaceLaws.{optional_list}
 use Rattle.rdb_parts.specs.Parts.{base_said}

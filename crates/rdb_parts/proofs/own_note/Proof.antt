@@ -1,6 +1,6 @@
 -- `rdb_parts::own_note` meets its contract.
 -- Assumes nothing.
-use Rattle.number.proofs.Tools.{needs, arith}
+use Rattle.number.proofs.Tools.{rules, arith}
 use Rattle.rdb_parts.proofs.SaidLaws.{notes_here, notes_there, notes_absent}
 use Rattle.rdb_parts.proofs.own_note.Statement.{statement}
 use Rattle.rdb_parts.proofs.own_note.Tie as tie

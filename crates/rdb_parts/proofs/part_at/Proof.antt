@@ -1,6 +1,6 @@
 -- `rdb_parts::part_at` meets its contract.
 -- Assumes nothing.
-use Rattle.number.proofs.Tools.{needs, arith}
+use Rattle.number.proofs.Tools.{rules, arith}
 use Rattle.rdb_parts.specs.Parts.{part_at}
 use Rattle.rdb_parts.proofs.part_at.Statement.{statement}
 use Rattle.rdb_parts.proofs.part_at.Tie as tie

@@ -1,6 +1,6 @@
 -- `rdb_parts::part_by_path` meets its contract.
 -- Assumes nothing.
-use Rattle.number.proofs.Tools.{needs}
+use Rattle.number.proofs.Tools.{rules}
 use Rattle.rdb.proofs.AnswerLaws.{accepted, Checked-file}
 use Rattle.rdb_parts.specs.Parts.{ask_part}
 use Rattle.rdb_parts.proofs.SaidLaws.{said_Accepted, said_refused}

@@ -1,7 +1,7 @@
 -- `rdb_path::constant_at` meets its contract.
 -- Assumes nothing.
 use lib.Seq.{length-take-le}
-use Rattle.number.proofs.Tools.{needs, arith, sym}
+use Rattle.number.proofs.Tools.{rules, arith, sym}
 use Rattle.rdb_path.proofs.Walks.{constant_alone, constant_nowhere, constant_there, group_Visited}
 use Rattle.rdb_path.proofs.constant_at.Statement.{statement}
 use Rattle.rdb_path.proofs.constant_at.Tie as tie

@@ -1,6 +1,6 @@
 -- `rdb_path::constant_in` meets its contract.
 -- Assumes nothing.
-use Rattle.number.proofs.Tools.{needs, arith, ◌∙◌}
+use Rattle.number.proofs.Tools.{rules, arith, ◌∙◌}
 use Rattle.rdb_path.proofs.Reaching.{visited_inside, group_reached}
 use Rattle.rdb_path.proofs.PathLaws.{constant_other, constant_group}
 use Rattle.rdb_path.proofs.Walks.{group_Keyed}

@@ -1,7 +1,7 @@
 -- `rdb_path::entity_at` meets its contract. The loop's invariant: the words before `from` lead to the map at `at`.
 -- Assumes nothing.
 use Rattle.std.specs.Prelude.{◌-◌}
-use Rattle.number.proofs.Tools.{needs, arith, ◌∙◌, length}
+use Rattle.number.proofs.Tools.{rules, arith, ◌∙◌, length}
 use Rattle.rdb_path.proofs.Reaching.{root_Reached, visited_inside, module_Reached}
 use Rattle.rdb_path.proofs.Walks.{Walk, walk_start, walk_word, walk_none, walk_Visited, walk_other, Walk-on, walk_last}
 use Rattle.rdb_path.proofs.entity_at.Statement.{statement}

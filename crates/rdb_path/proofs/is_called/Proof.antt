@@ -1,7 +1,7 @@
 -- `rdb_path::is_called` meets its contract.
 -- Assumes nothing.
 use Rattle.std.specs.Prelude.{◌≡◌, ◌+◌, ◌-◌}
-use Rattle.number.proofs.Tools.{ℕ, needs, arith, ap, ◌∙◌}
+use Rattle.number.proofs.Tools.{ℕ, rules, arith, ap, ◌∙◌}
 use Rattle.key.specs.Word.{word_at, same_word}
 use Rattle.rdb_path.proofs.PathLaws.{called_as, starts, key_Leads, called_short, called_other}
 use Rattle.rdb_path.proofs.is_called.Statement.{statement}

@@ -1,6 +1,6 @@
 -- `rdb_path::payload_of` meets its contract.
 -- Assumes nothing.
-use Rattle.number.proofs.Tools.{needs, arith, ◌∙◌}
+use Rattle.number.proofs.Tools.{rules, arith, ◌∙◌}
 use Rattle.rdb_path.proofs.PathLaws.{payload_in, payload_out}
 use Rattle.rdb_path.proofs.payload_of.Statement.{statement}
 use Rattle.rdb_path.proofs.payload_of.Tie as tie

@@ -1,6 +1,6 @@
 -- `rdb_places::base_place` meets its contract.
 -- Assumes nothing.
-use Rattle.number.proofs.Tools.{needs, arith, refl}
+use Rattle.number.proofs.Tools.{rules, arith, refl}
 use Rattle.rdb_path.proofs.Reaching.{visited_inside}
 use Rattle.rdb_places.specs.Places.{base_place}
 use Rattle.rdb_places.proofs.PlaceLaws.{own_here, own_none, bases_read, interface_here}

@@ -1,6 +1,6 @@
 -- `rdb_places::member_place` meets its contract.
 -- Assumes nothing.
-use Rattle.number.proofs.Tools.{needs, arith, refl}
+use Rattle.number.proofs.Tools.{rules, arith, refl}
 use Rattle.rdb_path.proofs.Reaching.{visited_inside}
 use Rattle.rdb_places.specs.Places.{member_place}
 use Rattle.rdb_places.proofs.PlaceLaws.{own_here, own_none, members_here}

@@ -1,6 +1,6 @@
 -- `rdb_places::notes_place` meets its contract.
 -- Assumes nothing.
-use Rattle.number.proofs.Tools.{needs, arith, sym, ◌∙◌}
+use Rattle.number.proofs.Tools.{rules, arith, sym, ◌∙◌}
 use Rattle.rdb_path.proofs.Reaching.{visited_inside}
 use Rattle.rdb_places.proofs.PlaceLaws.{unnoted}
 use Rattle.rdb_places.proofs.notes_place.Statement.{statement}

@@ -1,6 +1,6 @@
 -- `rdb_questions::ask_constant` meets its contract.
 -- Assumes nothing.
-use Rattle.number.proofs.Tools.{needs}
+use Rattle.number.proofs.Tools.{rules}
 use Rattle.words.proofs.SpanLaws.{word_bytes}
 use Rattle.rdb_questions.proofs.ask_constant.Statement.{statement}
 use Rattle.rdb_questions.proofs.ask_constant.Tie as tie

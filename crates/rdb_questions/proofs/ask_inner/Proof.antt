@@ -1,6 +1,6 @@
 -- `rdb_questions::ask_inner` meets its contract.
 -- Assumes nothing.
-use Rattle.number.proofs.Tools.{needs}
+use Rattle.number.proofs.Tools.{rules}
 use Rattle.words.proofs.SpanLaws.{word_bytes}
 use Rattle.rdb_questions.proofs.ask_inner.Statement.{statement}
 use Rattle.rdb_questions.proofs.ask_inner.Tie as tie

@@ -1,6 +1,6 @@
 -- `rdb_questions::ask_list` meets its contract.
 -- Assumes nothing.
-use Rattle.number.proofs.Tools.{needs}
+use Rattle.number.proofs.Tools.{rules}
 use Rattle.rdb_questions.proofs.ListLaws.{list_accepted, list-refused}
 use Rattle.rdb_questions.proofs.ask_list.Statement.{statement}
 use Rattle.rdb_questions.proofs.ask_list.Tie as tie

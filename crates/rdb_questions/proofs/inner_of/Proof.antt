@@ -1,6 +1,6 @@
 -- `rdb_questions::inner_of` meets its contract.
 -- Assumes nothing.
-use Rattle.number.proofs.Tools.{sym, ◌∙◌, needs}
+use Rattle.number.proofs.Tools.{sym, ◌∙◌, rules}
 use Rattle.rdb_questions.specs.Lines.{the_position, inner_saying}
 use Rattle.rdb_questions.proofs.PositionLaws.{position_is, position_not_decimal, position_too_large}
 use Rattle.rdb_questions.proofs.inner_of.Statement.{statement}

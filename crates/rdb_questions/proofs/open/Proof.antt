@@ -1,6 +1,6 @@
 -- `rdb_questions::open` meets its contract.
 -- Assumes nothing.
-use Rattle.number.proofs.Tools.{needs}
+use Rattle.number.proofs.Tools.{rules}
 use Rattle.streamed.proofs.StreamLaws.{said_Opens}
 use Rattle.rdb_questions.specs.Lines.{types_saying}
 use Rattle.rdb_questions.proofs.open.Statement.{statement}

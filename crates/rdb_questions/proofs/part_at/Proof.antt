@@ -1,6 +1,6 @@
 -- `rdb_questions::part_at` meets its contract.
 -- Assumes nothing.
-use Rattle.number.proofs.Tools.{sym, ◌∙◌, needs}
+use Rattle.number.proofs.Tools.{sym, ◌∙◌, rules}
 use Rattle.rdb_parts.specs.Parts.{ask_part}
 use Rattle.rdb_questions.specs.Lines.{the_position, part_saying}
 use Rattle.rdb_questions.proofs.PositionLaws.{told_Opens, position_is, position_not_decimal, position_too_large}

@@ -1,6 +1,6 @@
 -- `rdb_record::read_enum` meets its contract.
 -- Assumes nothing.
-use Rattle.number.proofs.Tools.{needs}
+use Rattle.number.proofs.Tools.{rules}
 use Rattle.rdb_memory.proofs.JudgeLaws.{Judged-end, Judged-refused, Judged-last}
 use Rattle.rdb_record.specs.Enum.{read_enum}
 use Rattle.rdb_record.proofs.EndLaws.{Inside-end, members_Inside}

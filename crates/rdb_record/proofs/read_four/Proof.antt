@@ -1,6 +1,6 @@
 -- `rdb_record::read_four` meets its contract.
 -- Assumes nothing.
-use Rattle.number.proofs.Tools.{needs, arith}
+use Rattle.number.proofs.Tools.{rules, arith}
 use Rattle.rdb_text.specs.Field.{uint_of, uint}
 use Rattle.reading.proofs.Steps.{at_bad, at_end_as, is_lt, no_lt}
 use Rattle.rdb_record.proofs.read_four.Statement.{statement}

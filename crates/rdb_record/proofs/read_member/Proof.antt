@@ -1,6 +1,6 @@
 -- `rdb_record::read_member` meets its contract.
 -- Assumes nothing.
-use Rattle.number.proofs.Tools.{needs}
+use Rattle.number.proofs.Tools.{rules}
 use Rattle.rdb_memory.proofs.JudgeLaws.{Judged-same, Judged-end, Judged-refused, Judged-last}
 use Rattle.rdb_record.specs.Enum.{read_member}
 use Rattle.rdb_record.proofs.EndLaws.{Inside-end, four-Inside, text_Inside}

@@ -1,6 +1,6 @@
 -- `rdb_record::read_notes` meets its contract.
 -- Assumes nothing.
-use Rattle.number.proofs.Tools.{needs}
+use Rattle.number.proofs.Tools.{rules}
 use Rattle.reading.proofs.Steps.{at_end}
 use Rattle.rdb_memory.proofs.JudgeLaws.{Judged-same, Judged-true, Judged-false}
 use Rattle.rdb_record.specs.Notes.{read_notes}

@@ -1,7 +1,7 @@
 -- `rdb_record::read_stored` meets its contract.
 -- Assumes nothing.
 use Rattle.std.specs.Prelude.{◌%◌}
-use Rattle.number.proofs.Tools.{needs, arith, sym, ◌∙◌, ◌≤?◌}
+use Rattle.number.proofs.Tools.{rules, arith, sym, ◌∙◌, ◌≤?◌}
 use Rattle.reading.proofs.Steps.{at_bad, is_true}
 use Rattle.rdb_text.proofs.FieldLaws.{uint_in, uint_out}
 use Rattle.rdb_memory.proofs.JudgeLaws.{Judged-same, Judged-false, Judged-uint, Judged-last}

@@ -1,7 +1,7 @@
 -- `rdb_runs::fill` meets its contract.
 -- Assumes nothing.
 use Rattle.std.specs.Prelude.{◌≡◌, ◌≤◌, ◌+◌, ◌*◌}
-use Rattle.number.proofs.Tools.{needs, arith, refl, ◌∙◌, length}
+use Rattle.number.proofs.Tools.{rules, arith, refl, ◌∙◌, length}
 use lib.ListN.{length-set}
 use Rattle.rdb_stops.specs.Stops.{block}
 use Rattle.rdb_stops.proofs.StopLaws.{first_range, Stops-from}

@@ -1,6 +1,6 @@
 -- `rdb_runs::good_bytes` meets its contract.
 -- Assumes nothing.
-use Rattle.number.proofs.Tools.{needs, arith, refl, is_lt, no_lt, is_true, is_false}
+use Rattle.number.proofs.Tools.{rules, arith, refl, is_lt, no_lt, is_true, is_false}
 use Rattle.rdb_runs.specs.Runs.{good_bytes}
 use Rattle.rdb_runs.proofs.good_bytes.Statement.{statement}
 use Rattle.rdb_runs.proofs.good_bytes.Tie as tie

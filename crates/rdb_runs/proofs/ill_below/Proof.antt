@@ -1,7 +1,7 @@
 -- `rdb_runs::ill_below` meets its contract. The loop's invariant: none of the bytes passed is ill.
 -- Assumes nothing.
 use Rattle.std.specs.Prelude.{◌≤◌, ◌-◌}
-use Rattle.number.proofs.Tools.{needs, arith, length}
+use Rattle.number.proofs.Tools.{rules, arith, length}
 use Rattle.rdb_stops.proofs.StopLaws.{Clear, clear_none, Clear-more, first_here, first_none}
 use Rattle.rdb_runs.specs.Runs.{is_ill}
 use Rattle.rdb_runs.proofs.RunLaws.{good_some, good_none}

@@ -3,7 +3,7 @@
 use Rattle.std.specs.Prelude.{◌≡◌, ◌≤◌, ◌-◌}
 use Rattle.number.proofs.Choice.{yes_lt, not_lt}
 use Rattle.number.proofs.Scans.{Misses, Misses-more, Misses-some, hits_some}
-use Rattle.number.proofs.Tools.{needs, arith}
+use Rattle.number.proofs.Tools.{rules, arith}
 use Rattle.rdb_runs.specs.Runs.{reaches, is_inside}
 use Rattle.rdb_runs.proofs.RunLaws.{far}
 use Rattle.rdb_runs.proofs.inside.Statement.{statement}

@@ -1,6 +1,6 @@
 -- `rdb_runs::is_utf8` meets its contract.
 -- Assumes nothing.
-use Rattle.number.proofs.Tools.{needs, arith, ◌≤?◌}
+use Rattle.number.proofs.Tools.{rules, arith, ◌≤?◌}
 use Rattle.rdb_stops.proofs.StopLaws.{Stops-from}
 use Rattle.rdb_runs.proofs.RunLaws.{utf8_none, utf8_across_start, utf8_across_end, utf8_part}
 use Rattle.rdb_runs.proofs.is_utf8.Statement.{statement}

@@ -1,6 +1,6 @@
 -- `rdb_runs::size_at` meets its contract.
 -- Assumes nothing.
-use Rattle.number.proofs.Tools.{needs}
+use Rattle.number.proofs.Tools.{rules}
 use lib.Seq.{take-length}
 use Rattle.rdb_runs.proofs.size_at.Statement.{statement}
 use Rattle.rdb_runs.proofs.size_at.Tie as tie

@@ -3,7 +3,7 @@
 use Rattle.std.specs.Prelude.{◌≡◌, ◌≤◌, ◌-◌}
 use Rattle.number.proofs.Choice.{yes_le, not_le}
 use Rattle.number.proofs.Laws.{scan_done, scan_hit, scan_miss}
-use Rattle.number.proofs.Tools.{needs, arith, refl, sym, ◌∙◌}
+use Rattle.number.proofs.Tools.{rules, arith, refl, sym, ◌∙◌}
 use Rattle.rdb_stops.specs.Stops.{first_from}
 use Rattle.rdb_runs.specs.Runs.{is_wide}
 use Rattle.rdb_runs.proofs.wide_below.Statement.{statement}

@@ -1,6 +1,6 @@
 -- `rdb_runs::wide_from` meets its contract.
 -- Assumes nothing.
-use Rattle.number.proofs.Tools.{needs, arith, ◌∙◌}
+use Rattle.number.proofs.Tools.{rules, arith, ◌∙◌}
 use Rattle.rdb_stops.proofs.StopLaws.{first_range, stop_here_lem, stop_later}
 use Rattle.rdb_runs.proofs.wide_from.Statement.{statement}
 use Rattle.rdb_runs.proofs.wide_from.Tie as tie

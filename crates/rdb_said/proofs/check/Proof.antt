@@ -1,6 +1,6 @@
 -- `rdb_said::check` meets its contract.
 -- Assumes nothing.
-use Rattle.number.proofs.Tools.{needs}
+use Rattle.number.proofs.Tools.{rules}
 use Rattle.text.specs.Line.{line_of}
 use Rattle.said.specs.Saying.{say_verdict, verdict_why}
 use Rattle.rdb_said.specs.Sayings.{check_saying}

@@ -1,6 +1,6 @@
 -- `rdb_said::constant` meets its contract.
 -- Assumes nothing.
-use Rattle.number.proofs.Tools.{ap, refl, needs}
+use Rattle.number.proofs.Tools.{ap, refl, rules}
 use Rattle.said.proofs.SayingLaws.{Says-as}
 use Rattle.rdb.specs.declared.ConstantAnswer.{ConstantAnswer}
 use Rattle.rdb.proofs.AnswerLaws.{Checked-file, constant_Accepted, constant_refused}

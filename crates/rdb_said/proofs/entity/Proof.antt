@@ -1,6 +1,6 @@
 -- `rdb_said::entity` meets its contract.
 -- Assumes nothing.
-use Rattle.number.proofs.Tools.{sym, ap, ◌∙◌, needs}
+use Rattle.number.proofs.Tools.{sym, ap, ◌∙◌, rules}
 use Rattle.sayings.specs.Texts.{interface_text}
 use Rattle.sayings.specs.Sayings.{say_interface, interface_why}
 use Rattle.said.proofs.SayingLaws.{Says-as}

@@ -1,6 +1,6 @@
 -- `rdb_said::found_constant` meets its contract.
 -- Assumes nothing.
-use Rattle.number.proofs.Tools.{ap, refl, needs}
+use Rattle.number.proofs.Tools.{ap, refl, rules}
 use Rattle.sayings.specs.Texts.{interface_text}
 use Rattle.sayings.specs.Sayings.{say_interface, interface_why}
 use Rattle.said.proofs.SayingLaws.{Says-as}

@@ -1,7 +1,7 @@
 -- `rdb_said::value` meets its contract.
 -- Assumes nothing.
 use mathlib.Core.List.{◌++◌}
-use Rattle.number.proofs.Tools.{refl, arith, needs}
+use Rattle.number.proofs.Tools.{refl, arith, rules}
 use Rattle.text.specs.Line.{newline}
 use Rattle.text.proofs.WritingLaws.{wrote, Wrote-then}
 use Rattle.said.specs.Texts.{found}

@@ -1,6 +1,6 @@
 -- `rdb_seen::is_marked` meets its contract.
 -- Assumes nothing.
-use Rattle.number.proofs.Tools.{needs, refl, ◌=?◌}
+use Rattle.number.proofs.Tools.{rules, refl, ◌=?◌}
 use Rattle.rdb_seen.specs.Marks.{is_set, marked}
 use Rattle.rdb_seen.proofs.is_marked.Statement.{statement}
 use Rattle.rdb_seen.proofs.is_marked.Tie as tie

@@ -1,6 +1,6 @@
 -- `rdb_seen::mark` meets its contract.
 -- Assumes nothing.
-use Rattle.number.proofs.Tools.{needs, arith}
+use Rattle.number.proofs.Tools.{rules, arith}
 use Rattle.rdb_seen.proofs.MarkLaws.{put_marks, shifted}
 use Rattle.rdb_seen.proofs.mark.Statement.{statement}
 use Rattle.rdb_seen.proofs.mark.Tie as tie

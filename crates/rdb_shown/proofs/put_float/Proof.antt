@@ -1,6 +1,6 @@
 -- `rdb_shown::put_float` meets its contract.
 -- Assumes nothing.
-use Rattle.number.proofs.Tools.{arith, needs}
+use Rattle.number.proofs.Tools.{arith, rules}
 use Rattle.number.specs.Number.{le}
 use Rattle.ascii.specs.Ascii.{ascii}
 use Rattle.text.specs.Hex.{hex_of}

@@ -1,6 +1,6 @@
 -- `rdb_shown::put_four` meets its contract.
 -- Assumes nothing.
-use Rattle.number.proofs.Tools.{refl, arith, needs}
+use Rattle.number.proofs.Tools.{refl, arith, rules}
 use Rattle.ascii.specs.Ascii.{ascii}
 use Rattle.decimal.specs.Digits.{digits_of}
 use Rattle.decimal.proofs.Laws.{length_u64}

@@ -1,6 +1,6 @@
 -- `rdb_shown::put_one` meets its contract.
 -- Assumes nothing.
-use Rattle.number.proofs.Tools.{refl, arith, needs}
+use Rattle.number.proofs.Tools.{refl, arith, rules}
 use mathlib.Core.Bool.{true, false}
 use Rattle.rdb_value.specs.declared.Value.TheVariants.{Boolean}
 use Rattle.text.proofs.WritingLaws.{wrote, Wrote-as}

@@ -2,7 +2,7 @@
 -- Assumes nothing.
 use mathlib.Core.List.{List, ◌++◌}
 use Rattle.std.specs.Prelude.{◌≡◌, ◌+◌, ◌-◌}
-use Rattle.number.proofs.Tools.{sym, ap, ◌∙◌, ℕ, arith, needs}
+use Rattle.number.proofs.Tools.{sym, ap, ◌∙◌, ℕ, arith, rules}
 use Rattle.decimal.specs.Digits.{digits_of}
 use Rattle.decimal.proofs.Laws.{length_u64}
 use Rattle.text.specs.Line.{hyphen}

@@ -2,7 +2,7 @@
 -- Assumes nothing.
 use Rattle.number.specs.Number.{little, le}
 use Rattle.number.proofs.Laws.{num-one}
-use Rattle.number.proofs.Tools.{◌∙◌, sym, refl, arith, needs}
+use Rattle.number.proofs.Tools.{◌∙◌, sym, refl, arith, rules}
 use Rattle.text.proofs.WritingLaws.{Wrote-as}
 use Rattle.rdb_record.proofs.SizeLaws.{size_one, size_two, size_four, size_eight, size_float, size_double}
 use Rattle.rdb_shown.proofs.ShownLaws.{le_below, text_float, text_double, text_stored}

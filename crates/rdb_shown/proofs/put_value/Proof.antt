@@ -1,6 +1,6 @@
 -- `rdb_shown::put_value` meets its contract.
 -- Assumes nothing.
-use Rattle.number.proofs.Tools.{needs}
+use Rattle.number.proofs.Tools.{rules}
 use Rattle.rdb_list.specs.Listed.{value_in}
 use Rattle.rdb_shown.proofs.put_value.Statement.{statement}
 use Rattle.rdb_shown.proofs.put_value.Tie as tie

@@ -1,7 +1,7 @@
 -- `rdb_stops::fill_stops` meets its contract.
 -- Assumes nothing.
 use Rattle.std.specs.Prelude.{◌≡◌, ◌≤◌, ◌+◌, ◌-◌, ◌*◌}
-use Rattle.number.proofs.Tools.{needs, arith, refl, length}
+use Rattle.number.proofs.Tools.{rules, arith, refl, length}
 use Rattle.rdb_stops.specs.Stops.{block, name_end, Stopped}
 use Rattle.rdb_stops.proofs.StopLaws.{end_range, Stops-none, Stops-from, Stops-more}
 use lib.ListN.{length-set}

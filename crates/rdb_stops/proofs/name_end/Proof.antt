@@ -1,6 +1,6 @@
 -- `rdb_stops::name_end` meets its contract.
 -- Assumes nothing.
-use Rattle.number.proofs.Tools.{needs, arith, ◌∙◌}
+use Rattle.number.proofs.Tools.{rules, arith, ◌∙◌}
 use Rattle.rdb_stops.specs.Stops.{name_end}
 use Rattle.rdb_stops.proofs.StopLaws.{stop_here_lem, stop_later}
 use Rattle.rdb_stops.proofs.name_end.Statement.{statement}

@@ -3,7 +3,7 @@
 use Rattle.std.specs.Prelude.{◌≡◌, ◌≤◌, ◌-◌}
 use Rattle.number.specs.Scan.{scan}
 use Rattle.number.proofs.Laws.{scan_done, scan_hit, scan_miss}
-use Rattle.number.proofs.Tools.{needs, arith, refl, sym, ◌∙◌}
+use Rattle.number.proofs.Tools.{rules, arith, refl, sym, ◌∙◌}
 use Rattle.rdb_stops.specs.Stops.{ends_name}
 use Rattle.rdb_stops.proofs.stop_below.Statement.{statement}
 use Rattle.rdb_stops.proofs.stop_below.Tie as tie

@@ -1,6 +1,6 @@
 -- `rdb_tasks::has_words` meets its contract.
 -- Assumes nothing.
-use Rattle.number.proofs.Tools.{refl, needs, ◌=?◌}
+use Rattle.number.proofs.Tools.{refl, rules, ◌=?◌}
 use Rattle.rdb_tasks.specs.Asked.{has_words}
 use Rattle.rdb_tasks.proofs.has_words.Statement.{statement}
 use Rattle.rdb_tasks.proofs.has_words.Tie as tie

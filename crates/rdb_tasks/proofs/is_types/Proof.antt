@@ -1,6 +1,6 @@
 -- `rdb_tasks::is_types` meets its contract.
 -- Assumes nothing.
-use Rattle.number.proofs.Tools.{refl, sym, ◌∙◌, is_true, is_false, needs}
+use Rattle.number.proofs.Tools.{refl, sym, ◌∙◌, is_true, is_false, rules}
 use Rattle.rdb_tasks.specs.Asked.{is_types}
 use Rattle.rdb_tasks.proofs.is_types.Statement.{statement}
 use Rattle.rdb_tasks.proofs.is_types.Tie as tie

@@ -1,6 +1,6 @@
 -- `rdb_tasks::list_of` meets its contract.
 -- Assumes nothing.
-use Rattle.number.proofs.Tools.{refl, sym, ◌∙◌, is_true, is_false, needs}
+use Rattle.number.proofs.Tools.{refl, sym, ◌∙◌, is_true, is_false, rules}
 use Rattle.rdb_tasks.specs.Asked.{list_of}
 use Rattle.rdb_tasks.proofs.list_of.Statement.{statement}
 use Rattle.rdb_tasks.proofs.list_of.Tie as tie

@@ -1,6 +1,6 @@
 -- `rdb_tasks::note_of` meets its contract.
 -- Assumes nothing.
-use Rattle.number.proofs.Tools.{refl, sym, ◌∙◌, is_true, is_false, needs}
+use Rattle.number.proofs.Tools.{refl, sym, ◌∙◌, is_true, is_false, rules}
 use Rattle.rdb_tasks.specs.Asked.{note_of}
 use Rattle.rdb_tasks.proofs.note_of.Statement.{statement}
 use Rattle.rdb_tasks.proofs.note_of.Tie as tie

@@ -1,6 +1,6 @@
 -- `rdb_tasks::put_name` meets its contract.
 -- Assumes nothing.
-use Rattle.number.proofs.Tools.{arith, needs}
+use Rattle.number.proofs.Tools.{arith, rules}
 use Rattle.text.proofs.WritingLaws.{wrote}
 use Rattle.rdb_tasks.specs.Asked.{command_name}
 use Rattle.rdb_tasks.proofs.put_name.Statement.{statement}

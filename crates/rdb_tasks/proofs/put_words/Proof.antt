@@ -1,6 +1,6 @@
 -- `rdb_tasks::put_words` meets its contract.
 -- Assumes nothing.
-use Rattle.number.proofs.Tools.{arith, needs}
+use Rattle.number.proofs.Tools.{arith, rules}
 use Rattle.text.proofs.WritingLaws.{wrote}
 use Rattle.rdb_tasks.specs.Asked.{asked_words}
 use Rattle.rdb_tasks.proofs.put_words.Statement.{statement}

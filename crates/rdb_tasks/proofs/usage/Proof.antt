@@ -1,7 +1,7 @@
 -- `rdb_tasks::usage` meets its contract.
 -- Assumes nothing.
 use mathlib.Core.List.{◌++◌}
-use Rattle.number.proofs.Tools.{refl, arith, needs}
+use Rattle.number.proofs.Tools.{refl, arith, rules}
 use Rattle.ascii.specs.Ascii.{ascii}
 use Rattle.text.specs.Line.{newline}
 use Rattle.text.proofs.WritingLaws.{wrote, Wrote-then}

@@ -2,7 +2,7 @@
 -- Assumes nothing.
 use Rattle.std.specs.Prelude.{◌≡◌, ◌≤◌, ◌-◌}
 use Rattle.number.specs.Part.{part}
-use Rattle.number.proofs.Tools.{needs, arith, refl, sym, ◌∙◌}
+use Rattle.number.proofs.Tools.{rules, arith, refl, sym, ◌∙◌}
 use Rattle.rdb_runs.specs.Bytes.{is_ascii}
 use Rattle.rdb_runs.proofs.ByteLaws.{ascii_done, ascii_more, ascii_off}
 use Rattle.rdb_text.proofs.ascii_only.Statement.{statement}

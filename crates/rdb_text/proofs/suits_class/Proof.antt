@@ -1,6 +1,6 @@
 -- `rdb_text::suits_class` meets its contract.
 -- Assumes nothing.
-use Rattle.number.proofs.Tools.{needs}
+use Rattle.number.proofs.Tools.{rules}
 use Rattle.rdb_text.specs.Bytes.{suits}
 use Rattle.rdb_text.proofs.suits_class.Statement.{statement}
 use Rattle.rdb_text.proofs.suits_class.Tie as tie

@@ -1,7 +1,7 @@
 -- `rdb_text::utf8_only` meets its contract. The loop's invariant: characters stand from `from` up to `i`.
 -- Assumes nothing.
 use Rattle.std.specs.Prelude.{◌≡◌, ◌-◌, ◌≤◌}
-use Rattle.number.proofs.Tools.{ℕ, arith, needs, refl, sym, ◌∙◌, take}
+use Rattle.number.proofs.Tools.{ℕ, arith, rules, refl, sym, ◌∙◌, take}
 use Rattle.utf8.specs.Utf8.{Chars}
 use Rattle.rdb_text.proofs.CharLaws.{runs_in, runs_stop, runs_more}
 use Rattle.rdb_text.proofs.utf8_only.Statement.{statement}

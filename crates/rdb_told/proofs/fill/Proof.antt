@@ -1,6 +1,6 @@
 -- `rdb_told::fill` meets its contract.
 -- Assumes nothing.
-use Rattle.number.proofs.Tools.{arith, needs}
+use Rattle.number.proofs.Tools.{arith, rules}
 use Rattle.rdb_told.proofs.ToldLaws.{Fills-past, Fills-last, Fills-more}
 use Rattle.rdb_told.proofs.fill.Statement.{statement}
 use Rattle.rdb_told.proofs.fill.Tie as tie

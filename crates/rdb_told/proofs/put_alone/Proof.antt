@@ -1,6 +1,6 @@
 -- `rdb_told::put_alone` meets its contract.
 -- Assumes nothing.
-use Rattle.number.proofs.Tools.{arith, needs}
+use Rattle.number.proofs.Tools.{arith, rules}
 use Rattle.window.proofs.WindowLaws.{Passed-then}
 use Rattle.rdb_told.specs.Told.{part_text}
 use Rattle.rdb_told.proofs.put_alone.Statement.{statement}

@@ -1,6 +1,6 @@
 -- `rdb_told::put_number` meets its contract.
 -- Assumes nothing.
-use Rattle.number.proofs.Tools.{arith, needs}
+use Rattle.number.proofs.Tools.{arith, rules}
 use Rattle.rdb_told.proofs.ToldLaws.{label_long}
 use Rattle.rdb_told.proofs.put_number.Statement.{statement}
 use Rattle.rdb_told.proofs.put_number.Tie as tie

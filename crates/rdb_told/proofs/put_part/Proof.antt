@@ -1,6 +1,6 @@
 -- `rdb_told::put_part` meets its contract.
 -- Assumes nothing.
-use Rattle.number.proofs.Tools.{subst, needs}
+use Rattle.number.proofs.Tools.{subst, rules}
 use Rattle.rdb_parts.specs.declared.PartAnswer.{PartAnswer}
 use Rattle.rdb_told.specs.Told.{part_text, Small}
 use Rattle.rdb_told.proofs.put_part.Statement.{statement}

@@ -1,6 +1,6 @@
 -- `rdb_told::put_refused` meets its contract.
 -- Assumes nothing.
-use Rattle.number.proofs.Tools.{arith, needs}
+use Rattle.number.proofs.Tools.{arith, rules}
 use Rattle.text.specs.Line.{line_of}
 use Rattle.window.proofs.WindowLaws.{Passed-then}
 use Rattle.rdb_told.proofs.put_refused.Statement.{statement}

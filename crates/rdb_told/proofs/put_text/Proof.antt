@@ -1,7 +1,7 @@
 -- `rdb_told::put_text` meets its contract.
 -- Assumes nothing.
 use Rattle.std.specs.Prelude.{◌+◌, ◌-◌}
-use Rattle.number.proofs.Tools.{arith, needs, take, drop}
+use Rattle.number.proofs.Tools.{arith, rules, take, drop}
 use Rattle.rdb_told.proofs.ToldLaws.{least_high, clip_fits, lent_few, clipped, text_Passed, word_far}
 use Rattle.rdb_told.proofs.put_text.Statement.{statement}
 use Rattle.rdb_told.proofs.put_text.Tie as tie

@@ -1,6 +1,6 @@
 -- `rdb_told::put_word` meets its contract.
 -- Assumes nothing.
-use Rattle.number.proofs.Tools.{arith, needs}
+use Rattle.number.proofs.Tools.{arith, rules}
 use Rattle.window.proofs.WindowLaws.{shown_long}
 use Rattle.rdb_told.proofs.ToldLaws.{word_none, word_some}
 use Rattle.rdb_told.proofs.put_word.Statement.{statement}

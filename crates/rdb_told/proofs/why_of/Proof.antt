@@ -1,6 +1,6 @@
 -- `rdb_told::why_of` meets its contract.
 -- Assumes nothing.
-use Rattle.number.proofs.Tools.{refl, needs}
+use Rattle.number.proofs.Tools.{refl, rules}
 use Rattle.rdb_told.specs.Told.{part_why}
 use Rattle.rdb_told.proofs.why_of.Statement.{statement}
 use Rattle.rdb_told.proofs.why_of.Tie as tie

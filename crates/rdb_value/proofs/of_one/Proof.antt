@@ -1,6 +1,6 @@
 -- `rdb_value::of_one` meets its contract.
 -- Assumes nothing.
-use Rattle.number.proofs.Tools.{needs, arith, refl, ap, ◌∙◌, is_eq, no_eq, ◌=?◌}
+use Rattle.number.proofs.Tools.{rules, arith, refl, ap, ◌∙◌, is_eq, no_eq, ◌=?◌}
 use lib.IntN.{ℤ}
 use mir.Syntax.{w8}
 use mir.Facts.{to_z-of_z}

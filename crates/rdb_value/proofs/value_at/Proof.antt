@@ -2,7 +2,7 @@
 -- Assumes nothing.
 use Rattle.number.specs.Number.{little}
 use Rattle.number.proofs.Laws.{num-one}
-use Rattle.number.proofs.Tools.{needs, arith, sym}
+use Rattle.number.proofs.Tools.{rules, arith, sym}
 use Rattle.rdb_record.proofs.SizeLaws.{size_one, size_two, size_four, size_eight, size_float, size_double}
 use Rattle.rdb_value.proofs.ValueLaws.{sized, value_float, value_double}
 use Rattle.rdb_value.proofs.value_at.Statement.{statement}

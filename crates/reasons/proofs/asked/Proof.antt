@@ -1,6 +1,6 @@
 -- `reasons::asked` meets its contract.
 -- Assumes nothing.
-use Rattle.number.proofs.Tools.{needs}
+use Rattle.number.proofs.Tools.{rules}
 use Rattle.reasons.specs.Refusals.{asked_text}
 use Rattle.reasons.proofs.asked.Statement.{statement}
 use Rattle.reasons.proofs.asked.Tie as tie

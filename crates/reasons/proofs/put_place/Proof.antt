@@ -1,6 +1,6 @@
 -- `reasons::put_place` meets its contract.
 -- Assumes nothing.
-use Rattle.number.proofs.Tools.{refl, arith, needs, is_lt, no_lt, is_eq, no_eq}
+use Rattle.number.proofs.Tools.{refl, arith, rules, is_lt, no_lt, is_eq, no_eq}
 use Rattle.ascii.specs.Ascii.{ascii}
 use Rattle.decimal.specs.Digits.{digits_of}
 use Rattle.decimal.proofs.Laws.{length_u64}

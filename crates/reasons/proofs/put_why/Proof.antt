@@ -1,7 +1,7 @@
 -- `reasons::put_why` meets its contract.
 -- Assumes nothing.
 use mathlib.Core.List.{◌++◌}
-use Rattle.number.proofs.Tools.{arith, needs}
+use Rattle.number.proofs.Tools.{arith, rules}
 use Rattle.ascii.specs.Ascii.{ascii}
 use Rattle.text.specs.Line.{newline}
 use Rattle.text.proofs.WritingLaws.{wrote, Wrote-then}

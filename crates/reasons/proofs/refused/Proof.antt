@@ -1,7 +1,7 @@
 -- `reasons::refused` meets its contract.
 -- Assumes nothing.
 use mathlib.Core.List.{◌++◌}
-use Rattle.number.proofs.Tools.{arith, needs}
+use Rattle.number.proofs.Tools.{arith, rules}
 use Rattle.ascii.specs.Ascii.{ascii}
 use Rattle.text.proofs.WritingLaws.{Wrote-then}
 use Rattle.failures.specs.Shown.{shown_word}

@@ -1,7 +1,7 @@
 -- `reasons::wrong_length` meets its contract.
 -- Assumes nothing.
 use mathlib.Core.List.{[], ◌++◌}
-use Rattle.number.proofs.Tools.{needs}
+use Rattle.number.proofs.Tools.{rules}
 use Rattle.ascii.specs.Ascii.{ascii}
 use Rattle.text.specs.Line.{newline}
 use Rattle.text.proofs.WritingLaws.{Wrote-then}

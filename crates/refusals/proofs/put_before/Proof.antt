@@ -1,7 +1,7 @@
 -- `refusals::put_before` meets its contract: the words have room for three digits.
 -- Assumes nothing.
 use Rattle.std.specs.Prelude.{◌-◌}
-use Rattle.number.proofs.Tools.{arith, needs}
+use Rattle.number.proofs.Tools.{arith, rules}
 use Rattle.decimal.proofs.Laws.{length_byte}
 use Rattle.refusals.proofs.put_before.Statement.{statement}
 use Rattle.refusals.proofs.put_before.Tie as tie

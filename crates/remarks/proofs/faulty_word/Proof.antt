@@ -1,6 +1,6 @@
 -- `remarks::faulty_word` meets its contract.
 -- Assumes nothing.
-use Rattle.number.proofs.Tools.{refl, needs}
+use Rattle.number.proofs.Tools.{refl, rules}
 use Rattle.remarks.specs.Words.{faulty_word}
 use Rattle.remarks.proofs.faulty_word.Statement.{statement}
 use Rattle.remarks.proofs.faulty_word.Tie as tie

@@ -1,6 +1,6 @@
 -- `remarks::name_or` meets its contract.
 -- Assumes nothing.
-use Rattle.number.proofs.Tools.{refl, sym, ◌∙◌, needs, is_true, is_false}
+use Rattle.number.proofs.Tools.{refl, sym, ◌∙◌, rules, is_true, is_false}
 use Rattle.remarks.proofs.name_or.Statement.{statement}
 use Rattle.remarks.proofs.name_or.Tie as tie
 

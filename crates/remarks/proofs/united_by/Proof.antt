@@ -1,7 +1,7 @@
 -- `remarks::united_by` meets its contract: the key lies within its room.
 -- Assumes nothing.
 use lib.Seq.{length-take-le}
-use Rattle.number.proofs.Tools.{sym, arith, needs}
+use Rattle.number.proofs.Tools.{sym, arith, rules}
 use Rattle.remarks.proofs.united_by.Statement.{statement}
 use Rattle.remarks.proofs.united_by.Tie as tie
 

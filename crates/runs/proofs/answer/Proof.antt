@@ -1,6 +1,6 @@
 -- `runs::answer` meets its contract: nothing is wanting, or a line says what is.
 -- Assumes nothing.
-use Rattle.number.proofs.Tools.{subst, needs}
+use Rattle.number.proofs.Tools.{subst, rules}
 use Rattle.held.specs.Held.{WhereHad}
 use Rattle.runs.proofs.answer.Statement.{statement}
 use Rattle.runs.proofs.answer.Tie as tie

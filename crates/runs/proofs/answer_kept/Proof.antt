@@ -1,6 +1,6 @@
 -- `runs::answer_kept` meets its contract.
 -- Assumes nothing.
-use Rattle.number.proofs.Tools.{◌∙◌, arith, needs}
+use Rattle.number.proofs.Tools.{◌∙◌, arith, rules}
 use Rattle.number.specs.Limits.{file_limit}
 use Rattle.kept.proofs.NameLaws.{lent}
 use Rattle.commands.proofs.SaveLaws.{answer_saves}

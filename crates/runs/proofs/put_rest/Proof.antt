@@ -1,6 +1,6 @@
 -- `runs::put_rest` meets its contract: the rest is of the first file.
 -- Assumes nothing.
-use Rattle.number.proofs.Tools.{◌∙◌, arith, needs}
+use Rattle.number.proofs.Tools.{◌∙◌, arith, rules}
 use Rattle.kept.proofs.NameLaws.{lent}
 use Rattle.runs.proofs.put_rest.Statement.{statement}
 use Rattle.runs.proofs.put_rest.Tie as tie

@@ -1,6 +1,6 @@
 -- `runs::reply_with` meets its contract: an answer, or an output that is saved.
 -- Assumes nothing.
-use Rattle.number.proofs.Tools.{subst, needs}
+use Rattle.number.proofs.Tools.{subst, rules}
 use Rattle.number.specs.Limits.{file_limit}
 use Rattle.made.specs.Made.{SavedIn}
 use Rattle.runs.proofs.reply_with.Statement.{statement}

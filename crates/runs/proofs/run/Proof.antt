@@ -2,7 +2,7 @@
 -- Assumes nothing.
 use Rattle.std.specs.Prelude.{◌≤◌}
 use Rattle.number.specs.Limits.{pile_limit}
-use Rattle.number.proofs.Tools.{sym, subst, ◌∙◌, needs}
+use Rattle.number.proofs.Tools.{sym, subst, ◌∙◌, rules}
 use Rattle.tasks.specs.declared.Task.{Task}
 use Rattle.tasks.specs.Tasks.{files_of}
 use Rattle.tasks.proofs.CountLaws.{files_few}

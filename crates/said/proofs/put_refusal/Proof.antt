@@ -1,7 +1,7 @@
 -- `said::put_refusal` meets its contract. A byte has at most 3 digits and a number of 64 bits 20, so the line fits.
 -- Assumes nothing.
 use mathlib.Core.List.{◌++◌}
-use Rattle.number.proofs.Tools.{arith, needs}
+use Rattle.number.proofs.Tools.{arith, rules}
 use Rattle.decimal.specs.Digits.{digits_of}
 use Rattle.text.specs.Line.{space, newline}
 use Rattle.text.proofs.Laws.{numbers_most}

@@ -1,6 +1,6 @@
 -- `said::refused` meets its contract.
 -- Assumes nothing.
-use Rattle.number.proofs.Tools.{refl, needs}
+use Rattle.number.proofs.Tools.{refl, rules}
 use Rattle.text.specs.Line.{line_of}
 use Rattle.said.proofs.SayingLaws.{says}
 use Rattle.said.proofs.refused.Statement.{statement}

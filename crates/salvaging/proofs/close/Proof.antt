@@ -1,6 +1,6 @@
 -- `salvaging::close` meets its contract.
 -- Assumes nothing.
-use Rattle.number.proofs.Tools.{needs}
+use Rattle.number.proofs.Tools.{rules}
 use Rattle.salvaging.proofs.Lines.{closed_one, closed_plain}
 use Rattle.salvaging.proofs.close.Statement.{statement}
 use Rattle.salvaging.proofs.close.Tie as tie

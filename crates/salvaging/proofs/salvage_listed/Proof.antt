@@ -1,6 +1,6 @@
 -- `salvaging::salvage_listed` meets its contract.
 -- Assumes nothing.
-use Rattle.number.proofs.Tools.{arith, needs}
+use Rattle.number.proofs.Tools.{arith, rules}
 use Rattle.salvaging.proofs.Outcomes.{changed_few, Tells-written, Tells-refused}
 use Rattle.salvaging.proofs.salvage_listed.Statement.{statement}
 use Rattle.salvaging.proofs.salvage_listed.Tie as tie

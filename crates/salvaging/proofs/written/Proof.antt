@@ -1,7 +1,7 @@
 -- `salvaging::written` meets its contract: 64 bytes for the first line and 63 for each other leave room for the newline of a batch.
 -- Assumes nothing.
 use mathlib.Core.List.{◌++◌}
-use Rattle.number.proofs.Tools.{refl, arith, needs}
+use Rattle.number.proofs.Tools.{refl, arith, rules}
 use Rattle.text.proofs.WritingLaws.{Wrote-then}
 use Rattle.said.proofs.SayingLaws.{says}
 use Rattle.salvaging.specs.Text.{changed_line}

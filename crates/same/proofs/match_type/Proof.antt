@@ -1,7 +1,7 @@
 -- `same::match_type` meets its contract.
 -- Assumes nothing.
 use Rattle.std.specs.Prelude.{◌-◌}
-use Rattle.number.proofs.Tools.{needs, arith, length, sym, ◌∙◌}
+use Rattle.number.proofs.Tools.{rules, arith, length, sym, ◌∙◌}
 use Rattle.same.specs.Match.{row_of}
 use Rattle.same.proofs.Types as laws
 use Rattle.same.proofs.Decisions as decisions

@@ -1,6 +1,6 @@
 -- `saving::carry_out` meets its contract, decision by decision.
 -- Assumes nothing.
-use Rattle.number.proofs.Tools.{refl, sym, subst, needs}
+use Rattle.number.proofs.Tools.{refl, sym, subst, rules}
 use Rattle.standing.specs.declared.Decision.{Decision}
 use Rattle.saving.specs.declared.Saved.TheVariants as saved
 use Rattle.saving.specs.Saving.{Carried}

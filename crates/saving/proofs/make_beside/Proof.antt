@@ -2,7 +2,7 @@
 -- Assumes nothing.
 use lib.Seq.{length-take-le}
 use Rattle.std.specs.Prelude.{◌-◌, ◌≤◌}
-use Rattle.number.proofs.Tools.{sym, arith, needs}
+use Rattle.number.proofs.Tools.{sym, arith, rules}
 use Rattle.saving.proofs.make_beside.Statement.{statement}
 use Rattle.saving.proofs.make_beside.Tie as tie
 

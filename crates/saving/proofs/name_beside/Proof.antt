@@ -1,7 +1,7 @@
 -- `saving::name_beside` meets its contract: a folder of 4,000 bytes and two numbers of 20 digits leave room for the rest of the name.
 -- Assumes nothing.
 use lib.Seq.{length-take-le}
-use Rattle.number.proofs.Tools.{sym, arith, needs}
+use Rattle.number.proofs.Tools.{sym, arith, rules}
 use Rattle.decimal.proofs.Laws.{length_u64}
 use Rattle.saving.proofs.name_beside.Statement.{statement}
 use Rattle.saving.proofs.name_beside.Tie as tie

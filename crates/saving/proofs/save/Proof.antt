@@ -4,7 +4,7 @@ use mir.Syntax.{w32}
 use mir.Val.{of_z, to_z}
 use mir.Facts.{to_z-of_z}
 use lib.IntN.{ℤ}
-use Rattle.number.proofs.Tools.{sym, ap, subst, ◌∙◌, needs}
+use Rattle.number.proofs.Tools.{sym, ap, subst, ◌∙◌, rules}
 use Rattle.paths.specs.declared.Judged.{Judged}
 use Rattle.saving.specs.declared.Saved.TheVariants.{Failed}
 use Rattle.saving.specs.Saving.{Told}

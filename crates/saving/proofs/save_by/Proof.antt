@@ -1,7 +1,7 @@
 -- `saving::save_by` meets its contract: the name lies within its 4,096 bytes.
 -- Assumes nothing.
 use lib.Seq.{length-take-le}
-use Rattle.number.proofs.Tools.{sym, arith, needs}
+use Rattle.number.proofs.Tools.{sym, arith, rules}
 use Rattle.saving.proofs.save_by.Statement.{statement}
 use Rattle.saving.proofs.save_by.Tie as tie
 

@@ -1,7 +1,7 @@
 -- `sayings::complement` meets its contract.
 -- Assumes nothing.
 use mathlib.Core.List.{◌++◌}
-use Rattle.number.proofs.Tools.{refl, arith, needs}
+use Rattle.number.proofs.Tools.{refl, arith, rules}
 use Rattle.text.specs.Line.{newline}
 use Rattle.lookup.specs.Constant.{signed}
 use Rattle.text.specs.Signed.{signed_text}

@@ -1,6 +1,6 @@
 -- `sayings::constant` meets its contract.
 -- Assumes nothing.
-use Rattle.number.proofs.Tools.{needs}
+use Rattle.number.proofs.Tools.{rules}
 use Rattle.sayings.specs.Sayings.{say_constant, constant_why}
 use Rattle.sayings.specs.Texts.{constant_text}
 use Rattle.sayings.proofs.constant.Statement.{statement}

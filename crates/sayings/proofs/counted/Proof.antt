@@ -1,6 +1,6 @@
 -- `sayings::counted` meets its contract.
 -- Assumes nothing.
-use Rattle.number.proofs.Tools.{needs}
+use Rattle.number.proofs.Tools.{rules}
 use Rattle.sayings.specs.Sayings.{say_counted, counted_why}
 use Rattle.sayings.specs.Texts.{counted_text}
 use Rattle.sayings.proofs.counted.Statement.{statement}

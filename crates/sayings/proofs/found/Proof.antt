@@ -1,7 +1,7 @@
 -- `sayings::found` meets its contract. Five numbers of 64 bits have at most 100 digits, so the line fits.
 -- Assumes nothing.
 use mathlib.Core.List.{◌++◌}
-use Rattle.number.proofs.Tools.{refl, arith, needs}
+use Rattle.number.proofs.Tools.{refl, arith, rules}
 use Rattle.decimal.specs.Digits.{digits_of}
 use Rattle.decimal.proofs.Laws.{length_u64}
 use Rattle.text.specs.Line.{space, newline}

@@ -1,6 +1,6 @@
 -- `sayings::interface` meets its contract.
 -- Assumes nothing.
-use Rattle.number.proofs.Tools.{needs}
+use Rattle.number.proofs.Tools.{rules}
 use Rattle.sayings.specs.Sayings.{say_interface, interface_why}
 use Rattle.sayings.specs.Texts.{interface_text}
 use Rattle.sayings.proofs.interface.Statement.{statement}

@@ -1,7 +1,7 @@
 -- `sayings::looked` meets its contract. Two numbers of 64 bits have at most 40 digits, so the line fits.
 -- Assumes nothing.
 use mathlib.Core.List.{◌++◌}
-use Rattle.number.proofs.Tools.{refl, arith, needs}
+use Rattle.number.proofs.Tools.{refl, arith, rules}
 use Rattle.decimal.specs.Digits.{digits_of}
 use Rattle.decimal.proofs.Laws.{length_u64}
 use Rattle.text.specs.Line.{newline}

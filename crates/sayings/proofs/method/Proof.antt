@@ -1,6 +1,6 @@
 -- `sayings::method` meets its contract.
 -- Assumes nothing.
-use Rattle.number.proofs.Tools.{needs}
+use Rattle.number.proofs.Tools.{rules}
 use Rattle.sayings.specs.Sayings.{say_method, method_why}
 use Rattle.sayings.specs.Texts.{method_text}
 use Rattle.sayings.proofs.method.Statement.{statement}

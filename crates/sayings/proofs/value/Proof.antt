@@ -1,7 +1,7 @@
 -- `sayings::value` meets its contract.
 -- Assumes nothing.
 use mir.Syntax.{w16, w32}
-use Rattle.number.proofs.Tools.{refl, arith, needs}
+use Rattle.number.proofs.Tools.{refl, arith, rules}
 use Rattle.printed.specs.Listing.{value_text}
 use Rattle.sayings.specs.Texts.{constant_text, kind_text}
 use Rattle.sayings.specs.Sayings.{say_constant, constant_why}

@@ -1,6 +1,6 @@
 -- `sentences::put_link` meets its contract.
 -- Assumes nothing.
-use Rattle.number.proofs.Tools.{refl, arith, needs, when◌then◌else◌, ◌=?◌, no_eq}
+use Rattle.number.proofs.Tools.{refl, arith, rules, when◌then◌else◌, ◌=?◌, no_eq}
 use Rattle.text.proofs.WritingLaws.{wrote, Wrote-as}
 use Rattle.sentences.specs.Sentences.{link_text}
 use Rattle.sentences.proofs.put_link.Statement.{statement}

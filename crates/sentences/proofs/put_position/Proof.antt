@@ -1,6 +1,6 @@
 -- `sentences::put_position` meets its contract.
 -- Assumes nothing.
-use Rattle.number.proofs.Tools.{refl, arith, needs, when◌then◌else◌, ◌=?◌, no_eq}
+use Rattle.number.proofs.Tools.{refl, arith, rules, when◌then◌else◌, ◌=?◌, no_eq}
 use Rattle.text.proofs.WritingLaws.{wrote, Wrote-as}
 use Rattle.sentences.specs.Sentences.{position_text}
 use Rattle.sentences.proofs.put_position.Statement.{statement}

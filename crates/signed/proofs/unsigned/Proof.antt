@@ -3,7 +3,7 @@
 use mathlib.Core.Path.{◌≡◌}
 use mir.Facts.{to_z-of_z}
 use mir.Syntax.{w32}
-use Rattle.number.proofs.Tools.{ap, ◌∙◌, arith, needs}
+use Rattle.number.proofs.Tools.{ap, ◌∙◌, arith, rules}
 use Rattle.signed.specs.Bits.{bits_of}
 use Rattle.signed.proofs.BitLaws.{bits_zero, bits_same}
 use Rattle.signed.proofs.unsigned.Statement.{statement}

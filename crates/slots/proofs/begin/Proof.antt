@@ -1,6 +1,6 @@
 -- `slots::begin` meets its contract: the pool runs to the file's end.
 -- Assumes nothing.
-use Rattle.number.proofs.Tools.{needs}
+use Rattle.number.proofs.Tools.{rules}
 use Rattle.number.proofs.Parts.{part_rest}
 use Rattle.slots.proofs.begin.Statement.{statement}
 use Rattle.slots.proofs.begin.Tie as tie

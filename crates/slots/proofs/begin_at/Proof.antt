@@ -1,6 +1,6 @@
 -- `slots::begin_at` meets its contract.
 -- Assumes nothing.
-use Rattle.number.proofs.Tools.{needs}
+use Rattle.number.proofs.Tools.{rules}
 use Rattle.slots.proofs.CursorLaws.{begins}
 use Rattle.slots.proofs.begin_at.Statement.{statement}
 use Rattle.slots.proofs.begin_at.Tie as tie

@@ -1,7 +1,7 @@
 -- `slots::next_level` meets its contract: the interface one step below, and the slot of its first method.
 -- Assumes nothing.
 use Rattle.std.specs.Prelude.{◌-◌}
-use Rattle.number.proofs.Tools.{arith, needs}
+use Rattle.number.proofs.Tools.{arith, rules}
 use Rattle.reader.proofs.Shown.{descriptor_in_lem}
 use Rattle.lookup.proofs.Entries.{pool_small}
 use Rattle.lookup.proofs.Walks.{descriptor_Stands}

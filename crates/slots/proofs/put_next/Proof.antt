@@ -1,6 +1,6 @@
 -- `slots::put_next` meets its contract: one line, and the next slot.
 -- Assumes nothing.
-use Rattle.number.proofs.Tools.{arith, needs}
+use Rattle.number.proofs.Tools.{arith, rules}
 use Rattle.lookup.proofs.Entries.{pool_small}
 use Rattle.lookup.proofs.Walks.{method_Stands}
 use Rattle.slots.specs.Cursor.{row_turns}

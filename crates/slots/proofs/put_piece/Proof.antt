@@ -1,6 +1,6 @@
 -- `slots::put_piece` meets its contract: the next interface, or the next line.
 -- Assumes nothing.
-use Rattle.number.proofs.Tools.{refl, arith, needs}
+use Rattle.number.proofs.Tools.{refl, arith, rules}
 use Rattle.text.proofs.WritingLaws.{wrote}
 use Rattle.slots.proofs.CursorLaws.{Wrote-none, some_left}
 use Rattle.slots.proofs.put_piece.Statement.{statement}

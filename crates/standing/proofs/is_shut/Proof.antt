@@ -1,6 +1,6 @@
 -- `standing::is_shut` meets its contract: the same test.
 -- Assumes nothing.
-use Rattle.number.proofs.Tools.{refl, ◌=?◌, needs}
+use Rattle.number.proofs.Tools.{refl, ◌=?◌, rules}
 use Rattle.standing.specs.Standing.{is_shut}
 use Rattle.standing.proofs.is_shut.Statement.{statement}
 use Rattle.standing.proofs.is_shut.Tie as tie

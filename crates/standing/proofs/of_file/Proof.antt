@@ -1,6 +1,6 @@
 -- `standing::of_file` meets its contract, way by way.
 -- Assumes nothing.
-use Rattle.number.proofs.Tools.{refl, sym, ◌∙◌, needs, is_true, is_false}
+use Rattle.number.proofs.Tools.{refl, sym, ◌∙◌, rules, is_true, is_false}
 use Rattle.standing.specs.Standing.{of_file}
 use Rattle.standing.proofs.of_file.Statement.{statement}
 use Rattle.standing.proofs.of_file.Tie as tie

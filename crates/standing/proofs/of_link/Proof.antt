@@ -1,6 +1,6 @@
 -- `standing::of_link` meets its contract, way by way.
 -- Assumes nothing.
-use Rattle.number.proofs.Tools.{refl, sym, ◌∙◌, needs, is_true, is_false}
+use Rattle.number.proofs.Tools.{refl, sym, ◌∙◌, rules, is_true, is_false}
 use Rattle.standing.specs.Standing.{of_link}
 use Rattle.standing.proofs.of_link.Statement.{statement}
 use Rattle.standing.proofs.of_link.Tie as tie

@@ -1,6 +1,6 @@
 -- `standing::standing_of` meets its contract, way by way.
 -- Assumes nothing.
-use Rattle.number.proofs.Tools.{refl, sym, ◌∙◌, needs, is_true, is_false}
+use Rattle.number.proofs.Tools.{refl, sym, ◌∙◌, rules, is_true, is_false}
 use Rattle.standing.specs.Standing.{standing}
 use Rattle.standing.proofs.standing_of.Statement.{statement}
 use Rattle.standing.proofs.standing_of.Tie as tie

@@ -1,6 +1,6 @@
 -- `store::is_barred` meets its contract.
 -- Assumes nothing.
-use Rattle.number.proofs.Tools.{refl, needs, is_true, is_false}
+use Rattle.number.proofs.Tools.{refl, rules, is_true, is_false}
 use Rattle.store.specs.Loading.{is_barred}
 use Rattle.store.proofs.is_barred.Statement.{statement}
 use Rattle.store.proofs.is_barred.Tie as tie

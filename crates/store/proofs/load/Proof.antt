@@ -1,6 +1,6 @@
 -- `store::load` meets its contract.
 -- Assumes nothing.
-use Rattle.number.proofs.Tools.{refl, sym, ◌∙◌, arith, needs}
+use Rattle.number.proofs.Tools.{refl, sym, ◌∙◌, arith, rules}
 use Rattle.store.proofs.LoadLaws.{same_kept, is_there, not_there, Loads-as}
 use Rattle.store.proofs.load.Statement.{statement}
 use Rattle.store.proofs.load.Tie as tie

@@ -2,7 +2,7 @@
 -- Assumes nothing.
 use borrow.Rule.Slice.PartMut.{mid_len}
 use Rattle.std.specs.Prelude.{◌≡◌, ◌+◌}
-use Rattle.number.proofs.Tools.{subst, arith, needs, length}
+use Rattle.number.proofs.Tools.{subst, arith, rules, length}
 use Rattle.number.specs.Limits.{file_most}
 use Rattle.input.specs.File.{Begins}
 use Rattle.store.proofs.LoadLaws.{read_none, read_full, read_whole}

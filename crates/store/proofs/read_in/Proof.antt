@@ -1,7 +1,7 @@
 -- `store::read_in` meets its contract: the longest name and the longest file fit behind what is kept.
 -- Assumes nothing.
 use Rattle.std.specs.Prelude.{◌+◌}
-use Rattle.number.proofs.Tools.{subst, arith, needs}
+use Rattle.number.proofs.Tools.{subst, arith, rules}
 use Rattle.input.specs.Came.{CameIn}
 use Rattle.number.specs.Limits.{file_most}
 use Rattle.store.specs.Loading.{StandsFrom}

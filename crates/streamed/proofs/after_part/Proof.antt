@@ -1,6 +1,6 @@
 -- `streamed::after_part` meets its contract.
 -- Assumes nothing.
-use Rattle.number.proofs.Tools.{refl, needs}
+use Rattle.number.proofs.Tools.{refl, rules}
 use Rattle.streamed.specs.Stream.{after_part}
 use Rattle.streamed.proofs.after_part.Statement.{statement}
 use Rattle.streamed.proofs.after_part.Tie as tie

@@ -1,6 +1,6 @@
 -- `streamed::after_paths` meets its contract.
 -- Assumes nothing.
-use Rattle.number.proofs.Tools.{refl, needs}
+use Rattle.number.proofs.Tools.{refl, rules}
 use Rattle.streamed.specs.Stream.{after_paths}
 use Rattle.streamed.proofs.after_paths.Statement.{statement}
 use Rattle.streamed.proofs.after_paths.Tie as tie

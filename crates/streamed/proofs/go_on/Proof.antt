@@ -1,6 +1,6 @@
 -- `streamed::go_on` meets its contract.
 -- Assumes nothing.
-use Rattle.number.proofs.Tools.{subst, needs}
+use Rattle.number.proofs.Tools.{subst, rules}
 use Rattle.streamed.specs.declared.Stream.{Stream}
 use Rattle.streamed.specs.Stream.{LeftOf}
 use Rattle.streamed.proofs.go_on.Statement.{statement}

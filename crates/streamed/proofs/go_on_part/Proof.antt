@@ -1,6 +1,6 @@
 -- `streamed::go_on_part` meets its contract.
 -- Assumes nothing.
-use Rattle.number.proofs.Tools.{needs}
+use Rattle.number.proofs.Tools.{rules}
 use Rattle.streamed.proofs.StreamLaws.{part-Turned}
 use Rattle.streamed.proofs.go_on_part.Statement.{statement}
 use Rattle.streamed.proofs.go_on_part.Tie as tie

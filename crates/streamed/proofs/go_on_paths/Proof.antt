@@ -1,6 +1,6 @@
 -- `streamed::go_on_paths` meets its contract.
 -- Assumes nothing.
-use Rattle.number.proofs.Tools.{needs}
+use Rattle.number.proofs.Tools.{rules}
 use Rattle.streamed.proofs.StreamLaws.{paths-Turned}
 use Rattle.streamed.proofs.go_on_paths.Statement.{statement}
 use Rattle.streamed.proofs.go_on_paths.Tie as tie

@@ -1,6 +1,6 @@
 -- `streamed::is_over` meets its contract.
 -- Assumes nothing.
-use Rattle.number.proofs.Tools.{refl, needs}
+use Rattle.number.proofs.Tools.{refl, rules}
 use Rattle.streamed.specs.Stream.{is_over}
 use Rattle.streamed.proofs.is_over.Statement.{statement}
 use Rattle.streamed.proofs.is_over.Tie as tie

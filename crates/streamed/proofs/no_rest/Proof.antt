@@ -1,6 +1,6 @@
 -- `streamed::no_rest` meets its contract.
 -- Assumes nothing.
-use Rattle.number.proofs.Tools.{refl, needs}
+use Rattle.number.proofs.Tools.{refl, rules}
 use Rattle.streamed.proofs.no_rest.Statement.{statement}
 use Rattle.streamed.proofs.no_rest.Tie as tie
 

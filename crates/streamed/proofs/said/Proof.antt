@@ -1,6 +1,6 @@
 -- `streamed::said` meets its contract.
 -- Assumes nothing.
-use Rattle.number.proofs.Tools.{refl, needs}
+use Rattle.number.proofs.Tools.{refl, rules}
 use Rattle.streamed.proofs.said.Statement.{statement}
 use Rattle.streamed.proofs.said.Tie as tie
 

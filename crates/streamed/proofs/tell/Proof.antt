@@ -1,6 +1,6 @@
 -- `streamed::tell` meets its contract.
 -- Assumes nothing.
-use Rattle.number.proofs.Tools.{refl, needs}
+use Rattle.number.proofs.Tools.{refl, rules}
 use Rattle.streamed.proofs.tell.Statement.{statement}
 use Rattle.streamed.proofs.tell.Tie as tie
 

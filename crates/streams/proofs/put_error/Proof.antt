@@ -1,7 +1,7 @@
 -- `streams::put_error` meets its contract: the bytes lie within the text.
 -- Assumes nothing.
 use lib.Seq.{length-take-le}
-use Rattle.number.proofs.Tools.{sym, arith, needs}
+use Rattle.number.proofs.Tools.{sym, arith, rules}
 use Rattle.streams.proofs.PrintLaws.{Prints-line}
 use Rattle.streams.proofs.put_error.Statement.{statement}
 use Rattle.streams.proofs.put_error.Tie as tie

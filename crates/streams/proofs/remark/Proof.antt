@@ -1,7 +1,7 @@
 -- `streams::remark` meets its contract: the bytes lie within the text.
 -- Assumes nothing.
 use lib.Seq.{length-take-le}
-use Rattle.number.proofs.Tools.{sym, arith, needs}
+use Rattle.number.proofs.Tools.{sym, arith, rules}
 use Rattle.streams.proofs.remark.Statement.{statement}
 use Rattle.streams.proofs.remark.Tie as tie
 

@@ -1,6 +1,6 @@
 -- `streams::write` meets its contract: the calls tell whether the bytes were written.
 -- Assumes nothing.
-use Rattle.number.proofs.Tools.{needs}
+use Rattle.number.proofs.Tools.{rules}
 use Rattle.streams.specs.Printed.SystemCalls.{wrote}
 use Rattle.streams.proofs.write.Statement.{statement}
 use Rattle.streams.proofs.write.Tie as tie

@@ -1,6 +1,6 @@
 -- `tabled::of_file` meets its contract: accepted or refused.
 -- Assumes nothing.
-use Rattle.number.proofs.Tools.{sym, ◌∙◌, needs}
+use Rattle.number.proofs.Tools.{sym, ◌∙◌, rules}
 use Rattle.reader.specs.Values.{entries_in}
 use Rattle.reader.specs.Reader.Laws.{accepted_decodes}
 use Rattle.tabled.proofs.OpenLaws.{Opens-refused, Opens-accepted}

@@ -1,6 +1,6 @@
 -- `tabled::of_index` meets its contract: a complete chain, or not.
 -- Assumes nothing.
-use Rattle.number.proofs.Tools.{arith, needs}
+use Rattle.number.proofs.Tools.{arith, rules}
 use Rattle.tabled.proofs.OpenLaws.{Opens-known, Opens-unknown}
 use Rattle.tabled.proofs.of_index.Statement.{statement}
 use Rattle.tabled.proofs.of_index.Tie as tie

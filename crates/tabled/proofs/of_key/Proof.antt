@@ -1,6 +1,6 @@
 -- `tabled::of_key` meets its contract, by each answer to the key.
 -- Assumes nothing.
-use Rattle.number.proofs.Tools.{sym, ◌∙◌, arith, needs}
+use Rattle.number.proofs.Tools.{sym, ◌∙◌, arith, rules}
 use Rattle.tabled.proofs.OpenLaws.{key_in_lem, Opens-none, Opens-malformed}
 use Rattle.tabled.proofs.of_key.Statement.{statement}
 use Rattle.tabled.proofs.of_key.Tie as tie

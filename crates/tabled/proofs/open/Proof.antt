@@ -1,6 +1,6 @@
 -- `tabled::open` meets its contract: the default namespace, or the one given.
 -- Assumes nothing.
-use Rattle.number.proofs.Tools.{sym, ◌∙◌, needs}
+use Rattle.number.proofs.Tools.{sym, ◌∙◌, rules}
 use Rattle.answers.proofs.CommandLaws.{space_default, space_given}
 use Rattle.tabled.specs.Text.{table_saying}
 use Rattle.tabled.proofs.open.Statement.{statement}

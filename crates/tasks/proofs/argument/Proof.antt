@@ -1,6 +1,6 @@
 -- `tasks::argument` meets its contract.
 -- Assumes nothing.
-use Rattle.number.proofs.Tools.{needs}
+use Rattle.number.proofs.Tools.{rules}
 use Rattle.tasks.proofs.argument.Statement.{statement}
 use Rattle.tasks.proofs.argument.Tie as tie
 

@@ -1,6 +1,6 @@
 -- `tasks::asked_in` meets its contract.
 -- Assumes nothing.
-use Rattle.number.proofs.Tools.{needs}
+use Rattle.number.proofs.Tools.{rules}
 use Rattle.tasks.specs.Tasks.{asked_in}
 use Rattle.words.proofs.SpanLaws.{word_bytes}
 use Rattle.tasks.proofs.asked_in.Statement.{statement}

@@ -1,6 +1,6 @@
 -- `tasks::asks_types` meets its contract.
 -- Assumes nothing.
-use Rattle.number.proofs.Tools.{needs}
+use Rattle.number.proofs.Tools.{rules}
 use Rattle.words.proofs.SpanLaws.{word_bytes}
 use Rattle.tasks.proofs.asks_types.Statement.{statement}
 use Rattle.tasks.proofs.asks_types.Tie as tie

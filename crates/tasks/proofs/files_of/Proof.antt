@@ -1,6 +1,6 @@
 -- `tasks::files_of` meets its contract.
 -- Assumes nothing.
-use Rattle.number.proofs.Tools.{refl, needs}
+use Rattle.number.proofs.Tools.{refl, rules}
 use Rattle.tasks.specs.Tasks.{files_of}
 use Rattle.tasks.proofs.files_of.Statement.{statement}
 use Rattle.tasks.proofs.files_of.Tie as tie

@@ -1,6 +1,6 @@
 -- `tasks::files_read` meets its contract.
 -- Assumes nothing.
-use Rattle.number.proofs.Tools.{refl, needs}
+use Rattle.number.proofs.Tools.{refl, rules}
 use Rattle.tasks.specs.Tasks.{files_read}
 use Rattle.tasks.proofs.files_read.Statement.{statement}
 use Rattle.tasks.proofs.files_read.Tie as tie

@@ -1,6 +1,6 @@
 -- `tasks::is_forced` meets its contract.
 -- Assumes nothing.
-use Rattle.number.proofs.Tools.{refl, sym, ap, ◌∙◌, needs, is_true, is_false}
+use Rattle.number.proofs.Tools.{refl, sym, ap, ◌∙◌, rules, is_true, is_false}
 use Rattle.tasks.specs.Tasks.{writes_file, is_forced}
 use Rattle.words.proofs.SpanLaws.{word_bytes}
 use Rattle.tasks.proofs.is_forced.Statement.{statement}

@@ -1,6 +1,6 @@
 -- `tasks::is_writing` meets its contract.
 -- Assumes nothing.
-use Rattle.number.proofs.Tools.{refl, needs}
+use Rattle.number.proofs.Tools.{refl, rules}
 use Rattle.tasks.specs.Tasks.{is_writing}
 use Rattle.tasks.proofs.is_writing.Statement.{statement}
 use Rattle.tasks.proofs.is_writing.Tie as tie

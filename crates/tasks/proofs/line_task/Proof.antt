@@ -1,6 +1,6 @@
 -- `tasks::line_task` meets its contract.
 -- Assumes nothing.
-use Rattle.number.proofs.Tools.{refl, sym, ◌∙◌, arith, needs, is_eq, no_eq, is_true, is_false}
+use Rattle.number.proofs.Tools.{refl, sym, ◌∙◌, arith, rules, is_eq, no_eq, is_true, is_false}
 use Rattle.tasks.specs.Tasks.{line_task}
 use Rattle.tasks.proofs.line_task.Statement.{statement}
 use Rattle.tasks.proofs.line_task.Tie as tie

@@ -1,6 +1,6 @@
 -- `tasks::other_task` meets its contract.
 -- Assumes nothing.
-use Rattle.number.proofs.Tools.{refl, needs}
+use Rattle.number.proofs.Tools.{refl, rules}
 use Rattle.tasks.specs.Tasks.{other_task}
 use Rattle.tasks.proofs.other_task.Statement.{statement}
 use Rattle.tasks.proofs.other_task.Tie as tie

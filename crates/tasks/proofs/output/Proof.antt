@@ -1,6 +1,6 @@
 -- `tasks::output` meets its contract.
 -- Assumes nothing.
-use Rattle.number.proofs.Tools.{ap, arith, needs}
+use Rattle.number.proofs.Tools.{ap, arith, rules}
 use Rattle.tasks.specs.Tasks.{files_of}
 use Rattle.tasks.proofs.CountLaws.{files_few}
 use Rattle.tasks.proofs.output.Statement.{statement}

@@ -1,6 +1,6 @@
 -- `tasks::pile_task` meets its contract.
 -- Assumes nothing.
-use Rattle.number.proofs.Tools.{refl, arith, needs, is_lt, no_lt}
+use Rattle.number.proofs.Tools.{refl, arith, rules, is_lt, no_lt}
 use Rattle.tasks.specs.Tasks.{pile_task}
 use Rattle.tasks.proofs.pile_task.Statement.{statement}
 use Rattle.tasks.proofs.pile_task.Tie as tie

@@ -1,6 +1,6 @@
 -- `tasks::question_usage` meets its contract.
 -- Assumes nothing.
-use Rattle.number.proofs.Tools.{needs}
+use Rattle.number.proofs.Tools.{rules}
 use Rattle.failures.specs.Lines.{question_words, verb_words}
 use Rattle.tasks.specs.Mistakes.{usage_text}
 use Rattle.tasks.proofs.question_usage.Statement.{statement}

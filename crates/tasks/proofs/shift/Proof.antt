@@ -1,6 +1,6 @@
 -- `tasks::shift` meets its contract.
 -- Assumes nothing.
-use Rattle.number.proofs.Tools.{refl, sym, ◌∙◌, arith, needs, is_true, is_false}
+use Rattle.number.proofs.Tools.{refl, sym, ◌∙◌, arith, rules, is_true, is_false}
 use Rattle.tasks.specs.Tasks.{shift}
 use Rattle.tasks.proofs.shift.Statement.{statement}
 use Rattle.tasks.proofs.shift.Tie as tie

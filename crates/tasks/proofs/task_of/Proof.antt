@@ -1,6 +1,6 @@
 -- `tasks::task_of` meets its contract.
 -- Assumes nothing.
-use Rattle.number.proofs.Tools.{sym, ◌∙◌, needs, is_true, is_false}
+use Rattle.number.proofs.Tools.{sym, ◌∙◌, rules, is_true, is_false}
 use Rattle.tasks.specs.Tasks.{task_of}
 use Rattle.tasks.proofs.task_of.Statement.{statement}
 use Rattle.tasks.proofs.task_of.Tie as tie

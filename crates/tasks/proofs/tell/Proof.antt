@@ -1,6 +1,6 @@
 -- `tasks::tell` meets its contract.
 -- Assumes nothing.
-use Rattle.number.proofs.Tools.{needs}
+use Rattle.number.proofs.Tools.{rules}
 use Rattle.tasks.specs.Mistakes.{mistake_text}
 use Rattle.tasks.proofs.tell.Statement.{statement}
 use Rattle.tasks.proofs.tell.Tie as tie

@@ -1,7 +1,7 @@
 -- `tasks::types_task` meets its contract.
 -- Assumes nothing.
 use mathlib.Core.List.{List}
-use Rattle.number.proofs.Tools.{refl, sym, ap, ◌∙◌, ℕ, needs, is_true, is_false}
+use Rattle.number.proofs.Tools.{refl, sym, ap, ◌∙◌, ℕ, rules, is_true, is_false}
 use Rattle.rdb_tasks.specs.Asked.{reading_of}
 use Rattle.tasks.specs.Tasks.{types_task}
 use Rattle.words.proofs.SpanLaws.{word_bytes}

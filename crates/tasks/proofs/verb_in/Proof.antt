@@ -1,6 +1,6 @@
 -- `tasks::verb_in` meets its contract.
 -- Assumes nothing.
-use Rattle.number.proofs.Tools.{needs}
+use Rattle.number.proofs.Tools.{rules}
 use Rattle.words.proofs.SpanLaws.{word_bytes}
 use Rattle.tasks.proofs.verb_in.Statement.{statement}
 use Rattle.tasks.proofs.verb_in.Tie as tie

@@ -1,6 +1,6 @@
 -- `tasks::verb_task` meets its contract.
 -- Assumes nothing.
-use Rattle.number.proofs.Tools.{refl, arith, needs, is_eq, no_eq}
+use Rattle.number.proofs.Tools.{refl, arith, rules, is_eq, no_eq}
 use Rattle.tasks.specs.Tasks.{verb_task}
 use Rattle.tasks.proofs.CountLaws.{words_few}
 use Rattle.tasks.proofs.verb_task.Statement.{statement}

@@ -1,6 +1,6 @@
 -- `tasks::words_task` meets its contract.
 -- Assumes nothing.
-use Rattle.number.proofs.Tools.{sym, ◌∙◌, is_true, is_false, needs}
+use Rattle.number.proofs.Tools.{sym, ◌∙◌, is_true, is_false, rules}
 use Rattle.tasks.specs.Tasks.{words_task}
 use Rattle.tasks.proofs.words_task.Statement.{statement}
 use Rattle.tasks.proofs.words_task.Tie as tie

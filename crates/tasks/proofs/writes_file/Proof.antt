@@ -1,6 +1,6 @@
 -- `tasks::writes_file` meets its contract.
 -- Assumes nothing.
-use Rattle.number.proofs.Tools.{refl, needs}
+use Rattle.number.proofs.Tools.{refl, rules}
 use Rattle.tasks.specs.Tasks.{writes_file}
 use Rattle.tasks.proofs.writes_file.Statement.{statement}
 use Rattle.tasks.proofs.writes_file.Tie as tie

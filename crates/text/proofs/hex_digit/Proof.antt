@@ -1,6 +1,6 @@
 -- `text::hex_digit` meets its contract.
 -- Assumes nothing.
-use Rattle.number.proofs.Tools.{refl, needs, arith, is_lt, no_lt}
+use Rattle.number.proofs.Tools.{refl, rules, arith, is_lt, no_lt}
 use Rattle.text.specs.Hex.{hex_digit}
 use Rattle.text.proofs.hex_digit.Statement.{statement}
 use Rattle.text.proofs.hex_digit.Tie as tie

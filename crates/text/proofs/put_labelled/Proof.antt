@@ -1,6 +1,6 @@
 -- `text::put_labelled` meets its contract: one writer after another.
 -- Assumes nothing.
-use Rattle.number.proofs.Tools.{arith, needs}
+use Rattle.number.proofs.Tools.{arith, rules}
 use Rattle.decimal.specs.Digits.{digits_of}
 use Rattle.decimal.proofs.Stores.{chain}
 use Rattle.text.proofs.put_labelled.Statement.{statement}

@@ -1,6 +1,6 @@
 -- `text::put_verdict` meets its contract, by the line of each of the two verdicts.
 -- Assumes nothing.
-use Rattle.number.proofs.Tools.{arith, needs}
+use Rattle.number.proofs.Tools.{arith, rules}
 use Rattle.decimal.proofs.Laws.{length_u64}
 use Rattle.text.proofs.Laws.{length-accepted, length-refused, numbers_most}
 use Rattle.text.proofs.put_verdict.Statement.{statement}

@@ -1,7 +1,7 @@
 -- `told::save_output` meets its contract: the bytes lie within the output.
 -- Assumes nothing.
 use lib.Seq.{length-take-le}
-use Rattle.number.proofs.Tools.{sym, arith, needs}
+use Rattle.number.proofs.Tools.{sym, arith, rules}
 use Rattle.told.proofs.save_output.Statement.{statement}
 use Rattle.told.proofs.save_output.Tie as tie
 

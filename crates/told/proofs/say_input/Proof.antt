@@ -1,6 +1,6 @@
 -- `told::say_input` meets its contract.
 -- Assumes nothing.
-use Rattle.number.proofs.Tools.{needs}
+use Rattle.number.proofs.Tools.{rules}
 use Rattle.failures.specs.Lines.{input_in_batch_text}
 use Rattle.streams.proofs.PrintLaws.{Made-Front}
 use Rattle.told.proofs.say_input.Statement.{statement}

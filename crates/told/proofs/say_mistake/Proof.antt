@@ -1,7 +1,7 @@
 -- `told::say_mistake` meets its contract: the line lies within its room.
 -- Assumes nothing.
 use lib.Seq.{length-take-le}
-use Rattle.number.proofs.Tools.{sym, arith, needs}
+use Rattle.number.proofs.Tools.{sym, arith, rules}
 use Rattle.told.specs.Tells.{is_open}
 use Rattle.told.proofs.say_mistake.Statement.{statement}
 use Rattle.told.proofs.say_mistake.Tie as tie

@@ -1,6 +1,6 @@
 -- `told::say_too_long` meets its contract.
 -- Assumes nothing.
-use Rattle.number.proofs.Tools.{needs}
+use Rattle.number.proofs.Tools.{rules}
 use Rattle.failures.specs.Lines.{line_too_long_text}
 use Rattle.streams.proofs.PrintLaws.{Made-Front}
 use Rattle.told.proofs.say_too_long.Statement.{statement}

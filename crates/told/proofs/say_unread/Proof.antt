@@ -5,7 +5,7 @@ use mir.Syntax.{w32}
 use mir.Val.{to_z, of_z}
 use mir.Facts.{to_z-of_z}
 use Rattle.std.specs.Prelude.{◌-◌}
-use Rattle.number.proofs.Tools.{subst, ap, ◌∙◌, ℕ, needs, take, drop}
+use Rattle.number.proofs.Tools.{subst, ap, ◌∙◌, ℕ, rules, take, drop}
 use Rattle.failures.specs.Lines.{unread_text}
 use Rattle.streams.specs.Printed.{Printed}
 use Rattle.told.specs.Tells.{Tells}

@@ -1,7 +1,7 @@
 -- `types::read_array` and `types::read_type` meet their contracts. The measure is the number of arrays left, twice, and one more for a type.
 -- Assumes nothing.
 use Rattle.std.specs.Prelude.{◌+◌, ◌<◌}
-use Rattle.number.proofs.Tools.{needs, arith, ℕ, sym, ◌∙◌}
+use Rattle.number.proofs.Tools.{rules, arith, ℕ, sym, ◌∙◌}
 use mathlib.Core.List.{[], ◌∷◌}
 use types.Run.{miss}
 use borrow.Fn.Kinds.{In}

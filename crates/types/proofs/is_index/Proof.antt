@@ -1,7 +1,7 @@
 -- `types::is_index` meets its contract.
 -- Assumes nothing.
 use mathlib.Core.Bool.{true≢false}
-use Rattle.number.proofs.Tools.{needs, arith, sym}
+use Rattle.number.proofs.Tools.{rules, arith, sym}
 use Rattle.reading.proofs.Steps.{at_end, no_eq, no_lt, field_in}
 use Rattle.types.specs.Types.{read_index}
 use Rattle.types.proofs.is_index.Statement.{statement}

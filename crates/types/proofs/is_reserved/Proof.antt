@@ -1,6 +1,6 @@
 -- `types::is_reserved` meets its contract.
 -- Assumes nothing.
-use Rattle.number.proofs.Tools.{needs, sym, ap}
+use Rattle.number.proofs.Tools.{rules, sym, ap}
 use Rattle.types.specs.Types.{is_reserved}
 use Rattle.types.proofs.is_reserved.Statement.{statement}
 use Rattle.types.proofs.is_reserved.Tie as tie

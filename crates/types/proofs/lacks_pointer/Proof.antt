@@ -1,6 +1,6 @@
 -- `types::lacks_pointer` meets its contract.
 -- Assumes nothing.
-use Rattle.number.proofs.Tools.{needs, arith, refl, is_le, no_le}
+use Rattle.number.proofs.Tools.{rules, arith, refl, is_le, no_le}
 use Rattle.types.specs.Types.{lacks_pointer}
 use Rattle.types.proofs.lacks_pointer.Statement.{statement}
 use Rattle.types.proofs.lacks_pointer.Tie as tie

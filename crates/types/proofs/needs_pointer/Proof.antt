@@ -1,6 +1,6 @@
 -- `types::needs_pointer` meets its contract.
 -- Assumes nothing.
-use Rattle.number.proofs.Tools.{needs, sym, ap}
+use Rattle.number.proofs.Tools.{rules, sym, ap}
 use Rattle.types.specs.Types.{needs_pointer}
 use Rattle.types.proofs.needs_pointer.Statement.{statement}
 use Rattle.types.proofs.needs_pointer.Tie as tie

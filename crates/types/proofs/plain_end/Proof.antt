@@ -1,6 +1,6 @@
 -- `types::plain_end` meets its contract.
 -- Assumes nothing.
-use Rattle.number.proofs.Tools.{needs, arith, refl}
+use Rattle.number.proofs.Tools.{rules, arith, refl}
 use Rattle.reading.proofs.Steps.{at_end}
 use Rattle.types.specs.Types.{is_reserved, read_rest}
 use Rattle.types.proofs.Laws.{type_under, index_rest, number_rest, sized_rest}

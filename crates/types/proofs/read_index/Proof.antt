@@ -1,6 +1,6 @@
 -- `types::read_index` meets its contract.
 -- Assumes nothing.
-use Rattle.number.proofs.Tools.{needs, arith}
+use Rattle.number.proofs.Tools.{rules, arith}
 use Rattle.reading.proofs.Steps.{at_end, at_bad, is_eq, no_eq, is_lt, no_lt, field_in, field_out}
 use Rattle.types.specs.Types.{read_index}
 use Rattle.types.proofs.read_index.Statement.{statement}

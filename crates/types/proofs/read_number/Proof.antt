@@ -1,6 +1,6 @@
 -- `types::read_number` meets its contract.
 -- Assumes nothing.
-use Rattle.number.proofs.Tools.{needs, arith}
+use Rattle.number.proofs.Tools.{rules, arith}
 use Rattle.reading.specs.Got.{byte}
 use Rattle.reading.proofs.Steps.{at_end, at_bad, is_le, no_le}
 use Rattle.types.proofs.read_number.Statement.{statement}

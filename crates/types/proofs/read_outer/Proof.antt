@@ -1,6 +1,6 @@
 -- `types::read_outer` meets its contract.
 -- Assumes nothing.
-use Rattle.number.proofs.Tools.{needs, arith, refl}
+use Rattle.number.proofs.Tools.{rules, arith, refl}
 use Rattle.reading.proofs.Steps.{at_end, next_last}
 use Rattle.types.specs.Types.{is_reserved, read_rest}
 use Rattle.types.proofs.Laws.{type_of}

@@ -1,6 +1,6 @@
 -- `types::read_plain` meets its contract.
 -- Assumes nothing.
-use Rattle.number.proofs.Tools.{needs, arith, sym, ◌∙◌}
+use Rattle.number.proofs.Tools.{rules, arith, sym, ◌∙◌}
 use Rattle.reading.proofs.Steps.{at_end, at_bad, next-end, next-refused, next_last}
 use Rattle.types.specs.Types.{read_rest, read_array}
 use Rattle.types.proofs.Laws.{byte_ends, rest_is}

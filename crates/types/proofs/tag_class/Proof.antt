@@ -1,6 +1,6 @@
 -- `types::tag_class` meets its contract.
 -- Assumes nothing.
-use Rattle.number.proofs.Tools.{arith, needs, refl, is_lt, no_lt, is_le, no_le, is_eq, no_eq}
+use Rattle.number.proofs.Tools.{arith, rules, refl, is_lt, no_lt, is_le, no_le, is_eq, no_eq}
 use Rattle.types.specs.Types.{class_of}
 use Rattle.types.proofs.tag_class.Statement.{statement}
 use Rattle.types.proofs.tag_class.Tie as tie

@@ -1,6 +1,6 @@
 -- `utf8::byte_before` meets its contract.
 -- Assumes nothing.
-use Rattle.number.proofs.Tools.{sym, arith, needs}
+use Rattle.number.proofs.Tools.{sym, arith, rules}
 use lib.ListN.{take, get_or-eq_default}
 use lib.Seq.{get_or-take, length-take-le}
 use Rattle.utf8.proofs.byte_before.Statement.{statement}

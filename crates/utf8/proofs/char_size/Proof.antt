@@ -1,6 +1,6 @@
 -- `utf8::char_size` meets its contract.
 -- Assumes nothing.
-use Rattle.number.proofs.Tools.{ℕ, take, refl, ap, ◌∙◌, arith, needs, is_le, no_le}
+use Rattle.number.proofs.Tools.{ℕ, take, refl, ap, ◌∙◌, arith, rules, is_le, no_le}
 use lib.Seq.{length-take-le}
 use Rattle.utf8.specs.Utf8.{char_size, size_of, size_after}
 use Rattle.utf8.proofs.char_size.Statement.{statement}

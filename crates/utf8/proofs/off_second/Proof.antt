@@ -1,6 +1,6 @@
 -- `utf8::off_second` meets its contract.
 -- Assumes nothing.
-use Rattle.number.proofs.Tools.{refl, arith, needs, is_lt, no_lt}
+use Rattle.number.proofs.Tools.{refl, arith, rules, is_lt, no_lt}
 use Rattle.number.specs.Choice.{◌<?◌}
 use Rattle.utf8.specs.Utf8.{outside, off_second}
 use Rattle.utf8.proofs.off_second.Statement.{statement}

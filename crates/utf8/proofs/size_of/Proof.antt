@@ -1,6 +1,6 @@
 -- `utf8::size_of` meets its contract.
 -- Assumes nothing.
-use Rattle.number.proofs.Tools.{refl, sym, ◌∙◌, arith, needs, is_true, is_false, is_le, no_le, is_eq, no_eq}
+use Rattle.number.proofs.Tools.{refl, sym, ◌∙◌, arith, rules, is_true, is_false, is_le, no_le, is_eq, no_eq}
 use Rattle.utf8.specs.Utf8.{size_of}
 use Rattle.utf8.proofs.size_of.Statement.{statement}
 use Rattle.utf8.proofs.size_of.Tie as tie

@@ -1,6 +1,6 @@
 -- `verbs::verb_of` meets its contract.
 -- Assumes nothing.
-use Rattle.number.proofs.Tools.{refl, sym, ◌∙◌, needs, is_true, is_false}
+use Rattle.number.proofs.Tools.{refl, sym, ◌∙◌, rules, is_true, is_false}
 use Rattle.verbs.specs.Verbs.{verb_of}
 use Rattle.verbs.proofs.verb_of.Statement.{statement}
 use Rattle.verbs.proofs.verb_of.Tie as tie

@@ -1,6 +1,6 @@
 -- `verbs::words_asked` meets its contract.
 -- Assumes nothing.
-use Rattle.number.proofs.Tools.{refl, needs}
+use Rattle.number.proofs.Tools.{refl, rules}
 use Rattle.verbs.specs.Verbs.{words_in}
 use Rattle.verbs.proofs.words_asked.Statement.{statement}
 use Rattle.verbs.proofs.words_asked.Tie as tie

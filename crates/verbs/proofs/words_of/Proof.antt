@@ -1,6 +1,6 @@
 -- `verbs::words_of` meets its contract.
 -- Assumes nothing.
-use Rattle.number.proofs.Tools.{refl, needs}
+use Rattle.number.proofs.Tools.{refl, rules}
 use Rattle.verbs.specs.Verbs.{words_in}
 use Rattle.verbs.proofs.words_of.Statement.{statement}
 use Rattle.verbs.proofs.words_of.Tie as tie

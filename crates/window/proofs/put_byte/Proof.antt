@@ -1,7 +1,7 @@
 -- `window::put_byte` meets its contract.
 -- Assumes nothing.
 use lib.Seq.{set_out}
-use Rattle.number.proofs.Tools.{refl, sym, arith, needs, is_lt, no_lt}
+use Rattle.number.proofs.Tools.{refl, sym, arith, rules, is_lt, no_lt}
 use Rattle.window.specs.Window.{byte_in}
 use Rattle.window.proofs.put_byte.Statement.{statement}
 use Rattle.window.proofs.put_byte.Tie as tie

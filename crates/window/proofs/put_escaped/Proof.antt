@@ -1,7 +1,7 @@
 -- `window::put_escaped` meets its contract.
 -- Assumes nothing.
 use mathlib.Core.List.{List}
-use Rattle.number.proofs.Tools.{subst, ℕ, needs}
+use Rattle.number.proofs.Tools.{subst, ℕ, rules}
 use Rattle.window.specs.Window.{Passed}
 use Rattle.window.proofs.WindowLaws.{four_escaped}
 use Rattle.window.proofs.put_escaped.Statement.{statement}

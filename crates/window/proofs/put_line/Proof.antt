@@ -1,7 +1,7 @@
 -- `window::put_line` meets its contract.
 -- Assumes nothing.
 use mathlib.Core.List.{List}
-use Rattle.number.proofs.Tools.{sym, ap, ◌∙◌, subst, ℕ, length, arith, needs}
+use Rattle.number.proofs.Tools.{sym, ap, ◌∙◌, subst, ℕ, length, arith, rules}
 use lib.ListN.{length-append}
 use Rattle.decimal.specs.Digits.{digits_of}
 use Rattle.decimal.proofs.Laws.{length_u64}

@@ -2,7 +2,7 @@
 -- Assumes nothing.
 use mathlib.Core.List.{List}
 use Rattle.std.specs.Prelude.{◌≡◌}
-use Rattle.number.proofs.Tools.{sym, ap, ◌∙◌, ℕ, suc, length, get_or, arith, needs}
+use Rattle.number.proofs.Tools.{sym, ap, ◌∙◌, ℕ, suc, length, get_or, arith, rules}
 use Rattle.text.proofs.HexLaws.{length_hex}
 use Rattle.window.specs.Shown.{byte_shown}
 use Rattle.window.proofs.WindowLaws.{Passed-byte, plain_shown, other_shown}

@@ -1,7 +1,7 @@
 -- `words::all_decimal` meets its contract.
 -- Assumes nothing.
 use Rattle.std.specs.Prelude.{◌-◌}
-use Rattle.number.proofs.Tools.{arith, needs, length}
+use Rattle.number.proofs.Tools.{arith, rules, length}
 use Rattle.words.specs.Numbers.{is_decimal}
 use Rattle.words.proofs.AllLaws.{Passed, Passed-start, Passed-next, passed_stop, passed_done}
 use Rattle.words.proofs.all_decimal.Statement.{statement}

@@ -1,6 +1,6 @@
 -- `words::iid_bytes` meets its contract.
 -- Assumes nothing.
-use Rattle.number.proofs.Tools.{refl, arith, needs}
+use Rattle.number.proofs.Tools.{refl, arith, rules}
 use Rattle.words.specs.Digits.{filled_with}
 use Rattle.words.proofs.HexLaws.{told_odd, told_stray, told_whole, told_other}
 use Rattle.words.proofs.iid_bytes.Statement.{statement}

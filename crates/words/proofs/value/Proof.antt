@@ -2,7 +2,7 @@
 -- Assumes nothing.
 use mathlib.Core.Logic.{inl, inr}
 use Rattle.std.specs.Prelude.{◌-◌}
-use Rattle.number.proofs.Tools.{sym, ◌∙◌, arith, needs, length}
+use Rattle.number.proofs.Tools.{sym, ◌∙◌, arith, rules, length}
 use Rattle.words.proofs.NumberLaws.{Spelled, Spelled-start, Spelled-next, spelled_large, spelled_done, digit_at}
 use Rattle.words.proofs.value.Statement.{statement}
 use Rattle.words.proofs.value.Tie as tie

@@ -1,6 +1,6 @@
 -- `cabi::kinds::method_of_kind` meets its contract.
 -- Assumes nothing.
-use Rattle.number.proofs.Tools.{arith, needs, ◌∙◌}
+use Rattle.number.proofs.Tools.{arith, rules, ◌∙◌}
 use Rattle.cabi.proofs.KindLaws.{getter, setter, plain}
 use Rattle.cabi.proofs.kinds.method_of_kind.Statement.{statement}
 use Rattle.cabi.proofs.kinds.method_of_kind.Tie as tie

@@ -1,6 +1,6 @@
 -- `cabi::kinds::of_no_kind` meets its contract.
 -- Assumes nothing.
-use Rattle.number.proofs.Tools.{arith, needs, sym, ◌∙◌}
+use Rattle.number.proofs.Tools.{arith, rules, sym, ◌∙◌}
 use Rattle.cabi.proofs.KindLaws.{none_such, refused}
 use Rattle.cabi.proofs.kinds.of_no_kind.Statement.{statement}
 use Rattle.cabi.proofs.kinds.of_no_kind.Tie as tie

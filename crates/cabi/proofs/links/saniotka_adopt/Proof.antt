@@ -1,6 +1,6 @@
 -- `cabi::links::saniotka_adopt` meets its contract.
 -- Assumes nothing.
-use Rattle.number.proofs.Tools.{arith, needs}
+use Rattle.number.proofs.Tools.{arith, rules}
 use Rattle.numbers.proofs.Calls.{short, answers, kept, changed}
 use Rattle.outcomes.specs.Numbers.{normal_numbers}
 use Rattle.cabi.proofs.links.saniotka_adopt.Statement.{statement}

@@ -1,7 +1,7 @@
 -- `cabi::piles::put_added` meets its contract.
 -- Assumes nothing.
 use lib.ListN.{length-set}
-use Rattle.number.proofs.Tools.{arith, refl, needs}
+use Rattle.number.proofs.Tools.{arith, refl, rules}
 use Rattle.cabi.specs.Piles.{pile_numbers}
 use Rattle.cabi.proofs.piles.put_added.Statement.{statement}
 use Rattle.cabi.proofs.piles.put_added.Tie as tie

@@ -1,6 +1,6 @@
 -- `cabi::piles::put_pile_refusal` meets its contract.
 -- Assumes nothing.
-use Rattle.number.proofs.Tools.{refl, needs}
+use Rattle.number.proofs.Tools.{refl, rules}
 use Rattle.outcomes.specs.Numbers.{link_refusal_numbers, link_numbers}
 use Rattle.cabi.specs.Piles.{pile_refusal_numbers}
 use Rattle.cabi.proofs.piles.put_pile_refusal.Statement.{statement}

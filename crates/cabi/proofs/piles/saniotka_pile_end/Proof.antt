@@ -1,6 +1,6 @@
 -- `cabi::piles::saniotka_pile_end` meets its contract.
 -- Assumes nothing.
-use Rattle.number.proofs.Tools.{arith, needs}
+use Rattle.number.proofs.Tools.{arith, rules}
 use Rattle.numbers.proofs.Calls.{short, answers, kept, changed}
 use Rattle.pile.proofs.Faces.{turn_parts}
 use Rattle.cabi.specs.Piles.{pile_numbers}

@@ -1,6 +1,6 @@
 -- `cabi::rdbs::saniotka_rdb_check` meets its contract.
 -- Assumes nothing.
-use Rattle.number.proofs.Tools.{arith, needs}
+use Rattle.number.proofs.Tools.{arith, rules}
 use Rattle.numbers.specs.Numbers.{verdict_numbers}
 use Rattle.numbers.proofs.Calls.{short, answers}
 use Rattle.cabi.proofs.rdbs.saniotka_rdb_check.Statement.{statement}

@@ -1,6 +1,6 @@
 -- `cabi::rdbs::saniotka_rdb_constant` meets its contract.
 -- Assumes nothing.
-use Rattle.number.proofs.Tools.{arith, needs, refl}
+use Rattle.number.proofs.Tools.{arith, rules, refl}
 use Rattle.rdb_numbers.specs.Numbers.{constant_numbers}
 use Rattle.numbers.proofs.Calls.{short, answers}
 use Rattle.cabi.proofs.rdbs.saniotka_rdb_constant.Statement.{statement}

@@ -1,6 +1,6 @@
 -- `cabi::rdbs::saniotka_rdb_entity` meets its contract.
 -- Assumes nothing.
-use Rattle.number.proofs.Tools.{arith, needs, refl}
+use Rattle.number.proofs.Tools.{arith, rules, refl}
 use Rattle.rdb_numbers.specs.Numbers.{entity_numbers}
 use Rattle.numbers.proofs.Calls.{short, answers}
 use Rattle.cabi.proofs.rdbs.saniotka_rdb_entity.Statement.{statement}

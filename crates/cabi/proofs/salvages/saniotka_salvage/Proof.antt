@@ -1,6 +1,6 @@
 -- `cabi::salvages::saniotka_salvage` meets its contract.
 -- Assumes nothing.
-use Rattle.number.proofs.Tools.{arith, needs}
+use Rattle.number.proofs.Tools.{arith, rules}
 use Rattle.numbers.proofs.Calls.{short, answers, kept, changed}
 use Rattle.cabi.specs.Salvages.{salvaged_numbers}
 use Rattle.cabi.proofs.salvages.saniotka_salvage.Statement.{statement}

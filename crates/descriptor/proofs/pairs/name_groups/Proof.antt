@@ -1,6 +1,6 @@
 -- `descriptor::pairs::name_groups` meets its contract.
 -- Assumes nothing.
-use Rattle.number.proofs.Tools.{refl, arith, needs}
+use Rattle.number.proofs.Tools.{refl, arith, rules}
 use Rattle.descriptor.proofs.StrayLaws.{names_Keyed, Taken-most, Taken-Led, grouped, groups_Below}
 use Rattle.descriptor.proofs.pairs.name_groups.Statement.{statement}
 use Rattle.descriptor.proofs.pairs.name_groups.Tie as tie

@@ -1,7 +1,7 @@
 -- `descriptor::pairs::spread_groups` meets its contract.
 -- Assumes nothing.
 use Rattle.std.specs.Prelude.{◌≡◌, ◌+◌, ◌-◌, ◌≤◌}
-use Rattle.number.proofs.Tools.{refl, sym, ◌∙◌, arith, needs, length}
+use Rattle.number.proofs.Tools.{refl, sym, ◌∙◌, arith, rules, length}
 use Rattle.number.specs.Scan.{tally}
 use Rattle.number.proofs.Scans.{tally_more}
 use Rattle.key.specs.First.{Filled}

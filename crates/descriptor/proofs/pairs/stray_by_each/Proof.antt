@@ -1,7 +1,7 @@
 -- `descriptor::pairs::stray_by_each` meets its contract.
 -- Assumes nothing.
 use Rattle.std.specs.Prelude.{◌≡◌, ◌-◌, ◌≤◌}
-use Rattle.number.proofs.Tools.{sym, ◌∙◌, arith, needs}
+use Rattle.number.proofs.Tools.{sym, ◌∙◌, arith, rules}
 use mathlib.Core.Path.{ap}
 use Rattle.number.specs.Scan.{some}
 use Rattle.number.proofs.Scans.{Misses, Misses-none, Misses-more, Misses-some, hits_some}

@@ -1,6 +1,6 @@
 -- `descriptor::pairs::stray_by_table` meets its contract.
 -- Assumes nothing.
-use Rattle.number.proofs.Tools.{arith, needs}
+use Rattle.number.proofs.Tools.{arith, rules}
 use Rattle.descriptor.proofs.StrayLaws.{no_getters, strays_told}
 use Rattle.descriptor.proofs.pairs.stray_by_table.Statement.{statement}
 use Rattle.descriptor.proofs.pairs.stray_by_table.Tie as tie

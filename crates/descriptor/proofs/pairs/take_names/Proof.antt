@@ -1,7 +1,7 @@
 -- `descriptor::pairs::take_names` meets its contract.
 -- Assumes nothing.
 use Rattle.std.specs.Prelude.{◌≡◌, ◌-◌, ◌≤◌}
-use Rattle.number.proofs.Tools.{arith, needs, length}
+use Rattle.number.proofs.Tools.{arith, rules, length}
 use Rattle.descriptor.specs.Tables.{Taken, cell, is_accessor}
 use Rattle.descriptor.proofs.StrayLaws.{one_most, Taken-none, Taken-most, Taken-next}
 use Rattle.descriptor.proofs.pairs.take_names.Statement.{statement}

@@ -1,6 +1,6 @@
 -- `descriptor::record::read_descriptor` meets its contract.
 -- Assumes nothing.
-use Rattle.number.proofs.Tools.{arith, needs, refl}
+use Rattle.number.proofs.Tools.{arith, rules, refl}
 use Rattle.method.proofs.SeenLaws.{seen_nowhere}
 use Rattle.descriptor.proofs.record.read_descriptor.Statement.{statement}
 use Rattle.descriptor.proofs.record.read_descriptor.Tie as tie

@@ -1,6 +1,6 @@
 -- `failures::reason::put_full` meets its contract.
 -- Assumes nothing.
-use Rattle.number.proofs.Tools.{refl, arith, needs, when◌then◌else◌, ◌=?◌, no_eq}
+use Rattle.number.proofs.Tools.{refl, arith, rules, when◌then◌else◌, ◌=?◌, no_eq}
 use Rattle.text.proofs.WritingLaws.{wrote, Wrote-as}
 use Rattle.failures.specs.Reasons.{full_text}
 use Rattle.failures.proofs.reason.put_full.Statement.{statement}

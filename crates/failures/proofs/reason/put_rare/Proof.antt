@@ -1,6 +1,6 @@
 -- `failures::reason::put_rare` meets its contract.
 -- Assumes nothing.
-use Rattle.number.proofs.Tools.{refl, arith, needs, when◌then◌else◌, ◌=?◌, no_eq}
+use Rattle.number.proofs.Tools.{refl, arith, rules, when◌then◌else◌, ◌=?◌, no_eq}
 use Rattle.ascii.specs.Ascii.{ascii}
 use Rattle.decimal.specs.Digits.{digits_of}
 use Rattle.decimal.proofs.Laws.{length_u64}

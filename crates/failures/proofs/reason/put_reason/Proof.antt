@@ -1,6 +1,6 @@
 -- `failures::reason::put_reason` meets its contract.
 -- Assumes nothing.
-use Rattle.number.proofs.Tools.{refl, arith, needs, when◌then◌else◌, ◌=?◌, no_eq}
+use Rattle.number.proofs.Tools.{refl, arith, rules, when◌then◌else◌, ◌=?◌, no_eq}
 use Rattle.text.proofs.WritingLaws.{wrote, Wrote-as}
 use Rattle.failures.specs.Reasons.{reason_text}
 use Rattle.failures.proofs.reason.put_reason.Statement.{statement}

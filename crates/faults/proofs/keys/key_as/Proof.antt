@@ -1,6 +1,6 @@
 -- `faults::keys::key_as` meets its contract.
 -- Assumes nothing.
-use Rattle.number.proofs.Tools.{arith, needs}
+use Rattle.number.proofs.Tools.{arith, rules}
 use Rattle.number.proofs.Parts.{part_rest}
 use Rattle.typelib.specs.Typelib.{pool_of}
 use Rattle.faults.proofs.KeyLaws.{key_zero, key_over, key_within, Written-none, Written-as}

@@ -1,6 +1,6 @@
 -- `faults::keys::key_of` meets its contract.
 -- Assumes nothing.
-use Rattle.number.proofs.Tools.{needs}
+use Rattle.number.proofs.Tools.{rules}
 use Rattle.head.proofs.HeaderLaws.{header_said}
 use Rattle.faults.proofs.KeyLaws.{Written-none, Written-as, header_key, header_none}
 use Rattle.faults.proofs.keys.key_of.Statement.{statement}

@@ -2,7 +2,7 @@
 -- Assumes nothing.
 use mathlib.Core.List.{[], ◌∷◌, ◌++◌}
 use Rattle.std.specs.Prelude.{◌+◌, ◌-◌}
-use Rattle.number.proofs.Tools.{arith, needs, sym, ap, ◌∙◌, length}
+use Rattle.number.proofs.Tools.{arith, rules, sym, ap, ◌∙◌, length}
 use Rattle.number.specs.Part.{part}
 use Rattle.faults.specs.Key.{pointed_key, text_of}
 use Rattle.faults.proofs.KeyLaws.{spelt, spaced, no_name_lem, no_space, default_text, spaced_text, Written-none, written, dotted_length}

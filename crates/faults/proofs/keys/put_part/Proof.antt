@@ -3,7 +3,7 @@
 use mathlib.Core.List.{List}
 use lib.Seq.{sets}
 use Rattle.std.specs.Prelude.{◌+◌}
-use Rattle.number.proofs.Tools.{arith, needs, ap, ◌∙◌, ℕ, length}
+use Rattle.number.proofs.Tools.{arith, rules, ap, ◌∙◌, ℕ, length}
 use Rattle.number.proofs.Parts.{length-part}
 use Rattle.faults.proofs.KeyLaws.{lent}
 use Rattle.faults.proofs.keys.put_part.Statement.{statement}

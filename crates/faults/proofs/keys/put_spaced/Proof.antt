@@ -1,7 +1,7 @@
 -- `faults::keys::put_spaced` meets its contract.
 -- Assumes nothing.
 use mathlib.Core.List.{[], ◌∷◌, ◌++◌}
-use Rattle.number.proofs.Tools.{arith, needs}
+use Rattle.number.proofs.Tools.{arith, rules}
 use Rattle.number.specs.Part.{part}
 use Rattle.number.proofs.Parts.{length-part}
 use Rattle.decimal.proofs.Stores.{chain}

@@ -1,6 +1,6 @@
 -- `faults::own::bad_own` meets its contract.
 -- Assumes nothing.
-use Rattle.number.proofs.Tools.{arith, needs, sym, ◌∙◌}
+use Rattle.number.proofs.Tools.{arith, rules, sym, ◌∙◌}
 use Rattle.typelib.proofs.OwnLaws.{own_none, own_out, own_read_lem, own_refused}
 use Rattle.broken.proofs.StopLaws.{bad_end, bad_refused}
 use Rattle.faults.proofs.own.bad_own.Statement.{statement}

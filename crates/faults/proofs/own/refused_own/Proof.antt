@@ -1,6 +1,6 @@
 -- `faults::own::refused_own` meets its contract.
 -- Assumes nothing.
-use Rattle.number.proofs.Tools.{needs, sym, ◌∙◌}
+use Rattle.number.proofs.Tools.{rules, sym, ◌∙◌}
 use Rattle.typelib.proofs.OwnLaws.{own_shared}
 use Rattle.broken.proofs.StopLaws.{bad_end}
 use Rattle.faults.specs.Fault.{refused_own}

@@ -1,6 +1,6 @@
 -- `feed::arguments::asks_help` meets its contract.
 -- Assumes nothing.
-use Rattle.number.proofs.Tools.{refl, needs, is_ne, no_ne, is_le, no_le}
+use Rattle.number.proofs.Tools.{refl, rules, is_ne, no_ne, is_le, no_le}
 use Rattle.feed.specs.Arguments.{asks_help}
 use Rattle.feed.proofs.arguments.asks_help.Statement.{statement}
 use Rattle.feed.proofs.arguments.asks_help.Tie as tie

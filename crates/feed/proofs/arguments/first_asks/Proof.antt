@@ -1,6 +1,6 @@
 -- `feed::arguments::first_asks` meets its contract: by the words in their order.
 -- Assumes nothing.
-use Rattle.number.proofs.Tools.{refl, sym, ◌∙◌, needs, is_true, is_false, is_ne, no_ne}
+use Rattle.number.proofs.Tools.{refl, sym, ◌∙◌, rules, is_true, is_false, is_ne, no_ne}
 use Rattle.feed.specs.Arguments.{first_asks}
 use Rattle.feed.proofs.arguments.first_asks.Statement.{statement}
 use Rattle.feed.proofs.arguments.first_asks.Tie as tie

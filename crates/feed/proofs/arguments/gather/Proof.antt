@@ -1,6 +1,6 @@
 -- `feed::arguments::gather` meets its contract: the first argument, and the words, lie within the line.
 -- Assumes nothing.
-use Rattle.number.proofs.Tools.{arith, needs}
+use Rattle.number.proofs.Tools.{arith, rules}
 use Rattle.feed.proofs.ArgumentLaws.{asked_gathered}
 use Rattle.feed.proofs.arguments.gather.Statement.{statement}
 use Rattle.feed.proofs.arguments.gather.Tie as tie

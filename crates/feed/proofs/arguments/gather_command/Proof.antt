@@ -1,6 +1,6 @@
 -- `feed::arguments::gather_command` meets its contract: the end of the last word lies within the line.
 -- Assumes nothing.
-use Rattle.number.proofs.Tools.{refl, sym, ◌∙◌, subst, arith, needs}
+use Rattle.number.proofs.Tools.{refl, sym, ◌∙◌, subst, arith, rules}
 use Rattle.feed.specs.Arguments.{EndsIn}
 use Rattle.feed.proofs.arguments.gather_command.Statement.{statement}
 use Rattle.feed.proofs.arguments.gather_command.Tie as tie

@@ -1,7 +1,7 @@
 -- `feed::arguments::gather_more` meets its contract. The loop's invariant: the line ends within its 65,536 bytes, behind the first word, which is as it was. The measure is the number of arguments left.
 -- Assumes nothing.
 use Rattle.std.specs.Prelude.{◌≡◌, ◌-◌, ◌≤◌}
-use Rattle.number.proofs.Tools.{refl, subst, arith, needs, length, take}
+use Rattle.number.proofs.Tools.{refl, subst, arith, rules, length, take}
 use Rattle.feed.specs.Arguments.{EndsIn}
 use Rattle.feed.proofs.ArgumentLaws.{Extends-more}
 use Rattle.feed.proofs.arguments.gather_more.Statement.{statement}

@@ -1,7 +1,7 @@
 -- `feed::arguments::gather_one` meets its contract: the zero byte changes no length.
 -- Assumes nothing.
 use lib.ListN.{length-set}
-use Rattle.number.proofs.Tools.{refl, ◌∙◌, arith, needs}
+use Rattle.number.proofs.Tools.{refl, ◌∙◌, arith, rules}
 use Rattle.feed.proofs.ArgumentLaws.{Extends-byte}
 use Rattle.feed.proofs.arguments.gather_one.Statement.{statement}
 use Rattle.feed.proofs.arguments.gather_one.Tie as tie

@@ -1,7 +1,7 @@
 -- `feed::arguments::gather_words` meets its contract: by what the first word asks for.
 -- Assumes nothing.
 use lib.Seq.{length-take-le}
-use Rattle.number.proofs.Tools.{sym, ap, ◌∙◌, arith, needs}
+use Rattle.number.proofs.Tools.{sym, ap, ◌∙◌, arith, rules}
 use Rattle.feed.specs.Arguments.{first_asks}
 use Rattle.feed.proofs.ArgumentLaws.{asked_command}
 use Rattle.feed.proofs.arguments.gather_words.Statement.{statement}

@@ -1,6 +1,6 @@
 -- `feed::arguments::is_help` meets its contract.
 -- Assumes nothing.
-use Rattle.number.proofs.Tools.{refl, sym, ◌∙◌, needs, is_true, is_false}
+use Rattle.number.proofs.Tools.{refl, sym, ◌∙◌, rules, is_true, is_false}
 use Rattle.feed.specs.Arguments.{is_help}
 use Rattle.feed.proofs.arguments.is_help.Statement.{statement}
 use Rattle.feed.proofs.arguments.is_help.Tie as tie

@@ -1,6 +1,6 @@
 -- `head::annotation::read_annotation` meets its contract.
 -- Assumes nothing.
-use Rattle.number.proofs.Tools.{needs, arith}
+use Rattle.number.proofs.Tools.{rules, arith}
 use Rattle.reading.proofs.Steps.{at_bad, is_le, no_le}
 use Rattle.head.specs.Annotation.{read_annotation}
 use Rattle.head.proofs.annotation.read_annotation.Statement.{statement}

@@ -1,7 +1,7 @@
 -- `head::annotation::read_annotations` meets its contract.
 -- Assumes nothing.
 use Rattle.std.specs.Prelude.{◌≤◌, ◌-◌}
-use Rattle.number.proofs.Tools.{needs, arith}
+use Rattle.number.proofs.Tools.{rules, arith}
 use Rattle.head.proofs.NoteLaws.{ends, note_Ends, Same, Same-start, Same-next, same_last, same_refused}
 use Rattle.head.proofs.annotation.read_annotations.Statement.{statement}
 use Rattle.head.proofs.annotation.read_annotations.Tie as tie

@@ -1,6 +1,6 @@
 -- `head::annotation::read_body` meets its contract.
 -- Assumes nothing.
-use Rattle.number.proofs.Tools.{needs, arith, sym, ◌∙◌}
+use Rattle.number.proofs.Tools.{rules, arith, sym, ◌∙◌}
 use Rattle.reading.proofs.Steps.{at_end, at_bad, is_eq, no_eq, is_ne, no_ne, next-end, next-refused, next_last}
 use Rattle.head.specs.Annotation.{read_body}
 use Rattle.head.proofs.NoteLaws.{ends, text_Ends}

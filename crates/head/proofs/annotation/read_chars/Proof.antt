@@ -1,7 +1,7 @@
 -- `head::annotation::read_chars` meets its contract. The loop's invariant: the n characters read from `from` on are the n - k from `at` on.
 -- Assumes nothing.
 use Rattle.std.specs.Prelude.{◌≡◌, ◌-◌, ◌≤◌}
-use Rattle.number.proofs.Tools.{refl, arith, needs}
+use Rattle.number.proofs.Tools.{refl, arith, rules}
 use native.Mathlib.Nat.{sub-zero}
 use Rattle.reading.specs.Got.{step_of, many}
 use Rattle.reading.proofs.Steps.{turn_done}

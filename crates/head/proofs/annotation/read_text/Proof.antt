@@ -1,6 +1,6 @@
 -- `head::annotation::read_text` meets its contract.
 -- Assumes nothing.
-use Rattle.number.proofs.Tools.{needs, arith}
+use Rattle.number.proofs.Tools.{rules, arith}
 use Rattle.reading.proofs.Steps.{at_bad, is_lt}
 use Rattle.head.specs.Annotation.{read_text}
 use Rattle.head.proofs.TextLaws.{text_step}

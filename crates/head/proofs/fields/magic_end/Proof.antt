@@ -4,7 +4,7 @@ use Rattle.std.specs.Prelude.{◌≡◌, ◌≤◌, ◌-◌}
 use Rattle.number.specs.Scan.{scan}
 use Rattle.number.proofs.Choice.{yes_ne, not_ne}
 use Rattle.number.proofs.Laws.{scan_done, scan_hit, scan_miss}
-use Rattle.number.proofs.Tools.{needs, arith, refl, sym, ◌∙◌}
+use Rattle.number.proofs.Tools.{rules, arith, refl, sym, ◌∙◌}
 use Rattle.head.specs.Header.{magic_end, off_magic}
 use Rattle.head.proofs.fields.magic_end.Statement.{statement}
 use Rattle.head.proofs.fields.magic_end.Tie as tie

@@ -1,6 +1,6 @@
 -- `head::fields::misplaced_directory` meets its contract.
 -- Assumes nothing.
-use Rattle.number.proofs.Tools.{needs, arith, refl, is_eq, no_eq, is_ne, no_ne, is_lt, no_lt}
+use Rattle.number.proofs.Tools.{rules, arith, refl, is_eq, no_eq, is_ne, no_ne, is_lt, no_lt}
 use Rattle.number.specs.Choice.{◌<?◌, ◌≠?◌}
 use Rattle.head.specs.Header.{misplaced_directory}
 use Rattle.head.proofs.fields.misplaced_directory.Statement.{statement}

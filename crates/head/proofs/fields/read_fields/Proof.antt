@@ -1,6 +1,6 @@
 -- `head::fields::read_fields` meets its contract.
 -- Assumes nothing.
-use Rattle.number.proofs.Tools.{needs, arith}
+use Rattle.number.proofs.Tools.{rules, arith}
 use Rattle.head.specs.Header.{read_fields}
 use Rattle.head.proofs.HeadSteps.{at_bad, is_true, is_false, is_lt, no_lt, is_ne, no_ne}
 use Rattle.head.proofs.fields.read_fields.Statement.{statement}

@@ -1,6 +1,6 @@
 -- `head::fields::read_header` meets its contract.
 -- Assumes nothing.
-use Rattle.number.proofs.Tools.{needs, arith}
+use Rattle.number.proofs.Tools.{rules, arith}
 use Rattle.head.specs.Header.{read_header}
 use Rattle.head.proofs.HeadSteps.{at_bad, is_lt, no_lt}
 use Rattle.head.proofs.fields.read_header.Statement.{statement}

@@ -1,6 +1,6 @@
 -- `head::fields::read_positions` meets its contract.
 -- Assumes nothing.
-use Rattle.number.proofs.Tools.{needs}
+use Rattle.number.proofs.Tools.{rules}
 use Rattle.head.specs.Header.{read_positions}
 use Rattle.head.proofs.HeadSteps.{at_read, at_bad, is_true, is_false}
 use Rattle.head.proofs.fields.read_positions.Statement.{statement}

@@ -1,6 +1,6 @@
 -- `lines::base::slot_base` meets its contract.
 -- Assumes nothing.
-use Rattle.number.proofs.Tools.{ap, ◌∙◌, needs}
+use Rattle.number.proofs.Tools.{ap, ◌∙◌, rules}
 use Rattle.lookup.specs.Chain.{Chain}
 use Rattle.lookup.specs.Method.{slot_of}
 use Rattle.lookup.specs.Question.{slot_as}

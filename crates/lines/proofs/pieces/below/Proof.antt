@@ -1,7 +1,7 @@
 -- `lines::pieces::below` meets its contract: the next entry, or the methods of a resolved one.
 -- Assumes nothing.
 use Rattle.std.specs.Prelude.{◌-◌}
-use Rattle.number.proofs.Tools.{ap, arith, length, drop, needs}
+use Rattle.number.proofs.Tools.{ap, arith, length, drop, rules}
 use Rattle.reader.proofs.Shown.{descriptor_in_lem}
 use Rattle.lines.specs.Cursor.{turns}
 use Rattle.printed.proofs.LineLaws.{laid_Small}

@@ -2,7 +2,7 @@
 -- Assumes nothing.
 use mathlib.Core.Logic.{inr}
 use Rattle.std.specs.Prelude.{◌+◌}
-use Rattle.number.proofs.Tools.{arith, needs}
+use Rattle.number.proofs.Tools.{arith, rules}
 use Rattle.lines.specs.declared.Cursor.TheVariants.{AtEntry}
 use Rattle.lines.specs.Cursor.{turns}
 use Rattle.printed.proofs.LineLaws.{constant_shown}

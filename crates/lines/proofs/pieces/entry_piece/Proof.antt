@@ -1,7 +1,7 @@
 -- `lines::pieces::entry_piece` meets its contract: after the last entry nothing is left.
 -- Assumes nothing.
 use mathlib.Core.Logic.{inr}
-use Rattle.number.proofs.Tools.{arith, needs}
+use Rattle.number.proofs.Tools.{arith, rules}
 use Rattle.lines.specs.declared.Cursor.TheVariants.{Done}
 use Rattle.lines.specs.Cursor.{turns}
 use Rattle.lines.proofs.PieceLaws.{part_none, entries_done, entries_next}

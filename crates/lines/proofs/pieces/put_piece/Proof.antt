@@ -1,7 +1,7 @@
 -- `lines::pieces::put_piece` meets its contract, by each kind of cursor.
 -- Assumes nothing.
 use mathlib.Core.Logic.{inl}
-use Rattle.number.proofs.Tools.{refl, arith, needs}
+use Rattle.number.proofs.Tools.{refl, arith, rules}
 use Rattle.lines.specs.declared.Cursor.TheVariants.{Done}
 use Rattle.lines.specs.Cursor.{is_done}
 use Rattle.lines.proofs.PieceLaws.{part_none}

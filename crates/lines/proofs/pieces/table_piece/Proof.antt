@@ -1,7 +1,7 @@
 -- `lines::pieces::table_piece` meets its contract: after the last row nothing is left.
 -- Assumes nothing.
 use mathlib.Core.Logic.{inr}
-use Rattle.number.proofs.Tools.{sym, ◌∙◌, arith, needs}
+use Rattle.number.proofs.Tools.{sym, ◌∙◌, arith, rules}
 use Rattle.slots.specs.Cursor.{row_turns}
 use Rattle.slots.proofs.CursorLaws.{none_left, rows_over}
 use Rattle.lines.specs.declared.Cursor.TheVariants.{Done}

@@ -1,6 +1,6 @@
 -- `mend::own::judge` meets its contract.
 -- Assumes nothing.
-use Rattle.number.proofs.Tools.{arith, needs}
+use Rattle.number.proofs.Tools.{arith, rules}
 use Rattle.method.proofs.SeenLaws.{seen_none, seen_nowhere}
 use Rattle.mend.proofs.own.judge.Statement.{statement}
 use Rattle.mend.proofs.own.judge.Tie as tie

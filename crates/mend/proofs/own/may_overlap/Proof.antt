@@ -1,7 +1,7 @@
 -- `mend::own::may_overlap` meets its contract.
 -- Assumes nothing.
 use Rattle.std.specs.Prelude.{◌≤◌, ◌-◌}
-use Rattle.number.proofs.Tools.{arith, needs}
+use Rattle.number.proofs.Tools.{arith, rules}
 use Rattle.mend.proofs.own.may_overlap.Statement.{statement}
 use Rattle.mend.proofs.own.may_overlap.Tie as tie
 

@@ -3,7 +3,7 @@
 use Rattle.mend.proofs.Marks.{mark_end, mark_refused}
 use Rattle.mend.specs.Tables.{own_mark, own_up}
 use Rattle.reading.proofs.Rows.{accepted}
-use Rattle.number.proofs.Tools.{arith, needs}
+use Rattle.number.proofs.Tools.{arith, rules}
 use Rattle.mend.proofs.own.own_mark.Statement.{statement}
 use Rattle.mend.proofs.own.own_mark.Tie as tie
 

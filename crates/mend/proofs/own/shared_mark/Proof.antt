@@ -1,7 +1,7 @@
 -- `mend::own::shared_mark` meets its contract.
 -- Assumes nothing.
 use Rattle.mend.proofs.Marks.{mark_shared}
-use Rattle.number.proofs.Tools.{arith, needs}
+use Rattle.number.proofs.Tools.{arith, rules}
 use Rattle.mend.proofs.own.shared_mark.Statement.{statement}
 use Rattle.mend.proofs.own.shared_mark.Tie as tie
 

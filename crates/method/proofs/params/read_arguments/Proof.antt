@@ -1,7 +1,7 @@
 -- `method::params::read_arguments` meets its contract. The loop's invariant: k arguments have been read up to p, and the table has their prefixes.
 -- Assumes nothing.
 use Rattle.std.specs.Prelude.{◌≡◌, ◌-◌, ◌≤◌}
-use Rattle.number.proofs.Tools.{arith, needs, refl, length}
+use Rattle.number.proofs.Tools.{arith, rules, refl, length}
 use lib.ListN.{length-set}
 use Rattle.method.proofs.Arguments.{param_ends, Sofar, Sofar-none, Sofar-more, Sofar-stop, Sofar-done}
 use Rattle.method.proofs.params.read_arguments.Statement.{statement}

@@ -1,6 +1,6 @@
 -- `method::params::read_param` meets its contract.
 -- Assumes nothing.
-use Rattle.number.proofs.Tools.{arith, needs, sym, ◌∙◌}
+use Rattle.number.proofs.Tools.{arith, rules, sym, ◌∙◌}
 use Rattle.reading.proofs.Steps.{at_bad, is_true, is_false, byte_in_lem, byte_out, at_end, next-end, next-refused}
 use Rattle.method.specs.Parameter.{read_param}
 use Rattle.method.proofs.params.read_param.Statement.{statement}

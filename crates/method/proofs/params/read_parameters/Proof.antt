@@ -1,7 +1,7 @@
 -- `method::params::read_parameters` meets its contract. The loop's invariant: k arguments have been read up to p, and the table has their prefixes.
 -- Assumes nothing.
 use Rattle.std.specs.Prelude.{◌≡◌, ◌-◌, ◌≤◌}
-use Rattle.number.proofs.Tools.{arith, needs, refl, sym, ◌∙◌, length}
+use Rattle.number.proofs.Tools.{arith, rules, refl, sym, ◌∙◌, length}
 use lib.ListN.{length-set}
 use Rattle.method.specs.Tables.{Signs}
 use Rattle.method.proofs.Arguments.{param_ends, Sofar, Sofar-none, Sofar-more}

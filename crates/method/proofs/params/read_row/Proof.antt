@@ -1,6 +1,6 @@
 -- `method::params::read_row` meets its contract.
 -- Assumes nothing.
-use Rattle.number.proofs.Tools.{arith, needs, sym, ◌∙◌}
+use Rattle.number.proofs.Tools.{arith, rules, sym, ◌∙◌}
 use Rattle.reading.proofs.Steps.{is_false, byte_in_lem, next_last}
 use Rattle.method.specs.Parameter.{read_param}
 use Rattle.method.proofs.params.read_row.Statement.{statement}

@@ -1,6 +1,6 @@
 -- `method::walk::broken_arguments` meets its contract.
 -- Assumes nothing.
-use Rattle.number.proofs.Tools.{needs}
+use Rattle.number.proofs.Tools.{rules}
 use Rattle.method.proofs.NumberLaws.{numberless}
 use Rattle.method.proofs.walk.broken_arguments.Statement.{statement}
 use Rattle.method.proofs.walk.broken_arguments.Tie as tie

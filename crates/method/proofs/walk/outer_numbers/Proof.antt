@@ -1,7 +1,7 @@
 -- `method::walk::outer_numbers` meets its contract. The loop's invariant: the type at p, with `left` arrays allowed, decides as the whole type does.
 -- Assumes nothing.
 use Rattle.std.specs.Prelude.{◌≡◌, ◌≤◌}
-use Rattle.number.proofs.Tools.{arith, needs, refl, sym, ◌∙◌, length, take}
+use Rattle.number.proofs.Tools.{arith, rules, refl, sym, ◌∙◌, length, take}
 use Rattle.reading.specs.Got.{Accepted}
 use Rattle.reading.specs.declared.Context.{Context}
 use Rattle.types.specs.Types.{read_type}

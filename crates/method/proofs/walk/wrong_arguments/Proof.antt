@@ -1,7 +1,7 @@
 -- `method::walk::wrong_arguments` meets its contract. The loop's invariant: k arguments are behind, and what is left decides.
 -- Assumes nothing.
 use Rattle.std.specs.Prelude.{◌-◌, ◌≤◌}
-use Rattle.number.proofs.Tools.{arith, needs, take}
+use Rattle.number.proofs.Tools.{arith, rules, take}
 use Rattle.method.proofs.NumberLaws.{type_room, Rest, Rest-start, rest_type, Rest-next, rest_broken, rest_done}
 use Rattle.method.proofs.walk.wrong_arguments.Statement.{statement}
 use Rattle.method.proofs.walk.wrong_arguments.Tie as tie

@@ -1,7 +1,7 @@
 -- `method::walk::wrong_size` meets its contract.
 -- Assumes nothing.
 use Rattle.number.specs.Choice.{◌≤?◌}
-use Rattle.number.proofs.Tools.{arith, needs, refl, is_le, no_le, is_ne, no_ne}
+use Rattle.number.proofs.Tools.{arith, rules, refl, is_le, no_le, is_ne, no_ne}
 use lib.Seq.{length-take-le, get_or-take}
 use Rattle.method.specs.Numbers.{wrong_size}
 use Rattle.method.proofs.walk.wrong_size.Statement.{statement}

@@ -1,6 +1,6 @@
 -- `method::walk::wrong_sizes` meets its contract.
 -- Assumes nothing.
-use Rattle.number.proofs.Tools.{needs, refl, is_true, is_false}
+use Rattle.number.proofs.Tools.{rules, refl, is_true, is_false}
 use Rattle.method.specs.Numbers.{wrong_sizes}
 use Rattle.method.proofs.walk.wrong_sizes.Statement.{statement}
 use Rattle.method.proofs.walk.wrong_sizes.Tie as tie

@@ -1,7 +1,7 @@
 -- `output::file::put_file` meets its contract: measured, then written, what stands before the directory last.
 -- Assumes nothing.
 use Rattle.std.specs.Prelude.{◌+◌, ◌*◌}
-use Rattle.number.proofs.Tools.{arith, needs, refl}
+use Rattle.number.proofs.Tools.{arith, rules, refl}
 use Rattle.writing.proofs.Lent.{back, length-rest}
 use Rattle.output.proofs.Tables as tables
 use Rattle.output.proofs.Files as files

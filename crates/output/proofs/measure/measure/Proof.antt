@@ -1,6 +1,6 @@
 -- `output::measure::measure` meets its contract.
 -- Assumes nothing.
-use Rattle.number.proofs.Tools.{arith, needs, refl}
+use Rattle.number.proofs.Tools.{arith, rules, refl}
 use Rattle.output.proofs.Lengths as laws
 use Rattle.output.proofs.measure.measure.Statement.{statement}
 use Rattle.output.proofs.measure.measure.Tie as tie

@@ -1,7 +1,7 @@
 -- `printed::line::put_constant` meets its contract: name, value.
 -- Assumes nothing.
 use Rattle.std.specs.Prelude.{◌-◌}
-use Rattle.number.proofs.Tools.{arith, needs}
+use Rattle.number.proofs.Tools.{arith, rules}
 use mathlib.Core.List.{◌++◌}
 use Rattle.key.specs.Word.{word_at}
 use Rattle.text.specs.Line.{space, newline}

@@ -1,7 +1,7 @@
 -- `printed::line::put_entry` meets its contract: what the bytes of an entry show is what its line says.
 -- Assumes nothing.
 use Rattle.std.specs.Prelude.{◌+◌, ◌-◌}
-use Rattle.number.proofs.Tools.{arith, needs}
+use Rattle.number.proofs.Tools.{arith, rules}
 use mathlib.Core.List.{◌++◌}
 use Rattle.number.specs.Number.{be}
 use Rattle.decimal.specs.Digits.{digits_of}

@@ -1,6 +1,6 @@
 -- `printed::line::put_front` meets its contract: the index, then the IID.
 -- Assumes nothing.
-use Rattle.number.proofs.Tools.{arith, needs}
+use Rattle.number.proofs.Tools.{arith, rules}
 use mathlib.Core.List.{◌++◌}
 use Rattle.number.specs.Number.{be}
 use Rattle.decimal.specs.Digits.{digits_of}

@@ -1,7 +1,7 @@
 -- `printed::line::put_method` meets its contract: slot, name, arguments, total.
 -- Assumes nothing.
 use Rattle.std.specs.Prelude.{◌-◌}
-use Rattle.number.proofs.Tools.{arith, needs}
+use Rattle.number.proofs.Tools.{arith, rules}
 use mathlib.Core.List.{◌++◌}
 use Rattle.decimal.specs.Digits.{digits_of}
 use Rattle.decimal.proofs.Laws.{length_u64}

@@ -1,6 +1,6 @@
 -- `printed::line::put_slot` meets its contract, by the text of each of the two slots.
 -- Assumes nothing.
-use Rattle.number.proofs.Tools.{sym, ap, arith, needs}
+use Rattle.number.proofs.Tools.{sym, ap, arith, rules}
 use Rattle.decimal.specs.Digits.{digits_of}
 use Rattle.decimal.proofs.Laws.{length_u64}
 use Rattle.printed.specs.Listing.{mark, slot_text}

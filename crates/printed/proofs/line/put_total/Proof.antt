@@ -1,6 +1,6 @@
 -- `printed::line::put_total` meets its contract: the total stands between a space and the newline.
 -- Assumes nothing.
-use Rattle.number.proofs.Tools.{arith, needs}
+use Rattle.number.proofs.Tools.{arith, rules}
 use mathlib.Core.List.{◌++◌}
 use Rattle.text.specs.Line.{space, newline}
 use Rattle.printed.specs.Listing.{slot_text}

@@ -1,7 +1,7 @@
 -- `printed::value::put_signed` meets its contract, by one law over the width.
 -- Assumes nothing.
 use Rattle.std.specs.Prelude.{◌+◌, ◌-◌}
-use Rattle.number.proofs.Tools.{sym, ap, ◌∙◌, ℕ, arith, needs}
+use Rattle.number.proofs.Tools.{sym, ap, ◌∙◌, ℕ, arith, rules}
 use mathlib.Core.List.{◌++◌}
 use Rattle.decimal.specs.Digits.{digits_of}
 use Rattle.decimal.proofs.Laws.{length_u64}

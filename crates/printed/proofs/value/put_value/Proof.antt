@@ -1,6 +1,6 @@
 -- `printed::value::put_value` meets its contract: the types 1 and 2 are signed.
 -- Assumes nothing.
-use Rattle.number.proofs.Tools.{refl, arith, needs}
+use Rattle.number.proofs.Tools.{refl, arith, rules}
 use Rattle.decimal.specs.Digits.{digits_of}
 use Rattle.decimal.proofs.Laws.{length_u64}
 use Rattle.reader.specs.Records.{Bytes}

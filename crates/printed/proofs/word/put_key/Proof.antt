@@ -1,7 +1,7 @@
 -- `printed::word::put_key` meets its contract: the namespace, then the name.
 -- Assumes nothing.
 use Rattle.std.specs.Prelude.{◌-◌}
-use Rattle.number.proofs.Tools.{needs}
+use Rattle.number.proofs.Tools.{rules}
 use mathlib.Core.List.{◌++◌}
 use Rattle.key.specs.Word.{word_at}
 use Rattle.key.specs.Key.{space_at}

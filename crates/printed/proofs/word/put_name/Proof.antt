@@ -1,7 +1,7 @@
 -- `printed::word::put_name` meets its contract: a space, then the word.
 -- Assumes nothing.
 use Rattle.std.specs.Prelude.{◌-◌}
-use Rattle.number.proofs.Tools.{needs}
+use Rattle.number.proofs.Tools.{rules}
 use Rattle.key.specs.Word.{word_at}
 use Rattle.text.specs.Line.{space}
 use Rattle.text.proofs.WritingLaws.{wrote, Wrote-then}

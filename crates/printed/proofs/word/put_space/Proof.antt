@@ -1,6 +1,6 @@
 -- `printed::word::put_space` meets its contract: the text of a namespace is `-` or its word.
 -- Assumes nothing.
-use Rattle.number.proofs.Tools.{sym, ap, arith, length, needs}
+use Rattle.number.proofs.Tools.{sym, ap, arith, length, rules}
 use Rattle.key.proofs.Walks.{Leads-in}
 use Rattle.text.specs.Line.{hyphen}
 use Rattle.text.proofs.WritingLaws.{wrote, Wrote-as}

@@ -1,6 +1,6 @@
 -- `reader::record::form_of` meets its contract.
 -- Assumes nothing.
-use Rattle.number.proofs.Tools.{needs, sym, ap, ◌∙◌}
+use Rattle.number.proofs.Tools.{rules, sym, ap, ◌∙◌}
 use Rattle.reader.specs.Form.{class_form, form_of}
 use Rattle.reader.proofs.record.form_of.Statement.{statement}
 use Rattle.reader.proofs.record.form_of.Tie as tie

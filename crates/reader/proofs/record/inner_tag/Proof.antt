@@ -2,7 +2,7 @@
 -- Assumes nothing.
 use Rattle.std.specs.Prelude.{◌-◌}
 use Rattle.rules.specs.Shows.{ShowsType}
-use Rattle.number.proofs.Tools.{needs, arith, length, ℕ, refl, sym, ◌∙◌}
+use Rattle.number.proofs.Tools.{rules, arith, length, ℕ, refl, sym, ◌∙◌}
 use Rattle.reader.specs.Values.{inner_tag}
 use Rattle.reader.specs.Layout.{Stands, Tells}
 use Rattle.reader.proofs.Shown as laws

@@ -1,7 +1,7 @@
 -- `reasons::length::put_length` meets its contract.
 -- Assumes nothing.
 use lib.Seq.{length-take-le}
-use Rattle.number.proofs.Tools.{sym, ap, arith, is_lt, no_lt, refl, needs}
+use Rattle.number.proofs.Tools.{sym, ap, arith, is_lt, no_lt, refl, rules}
 use Rattle.text.proofs.WritingLaws.{Wrote-as}
 use Rattle.reasons.specs.Lengths.{padded_text, length_text}
 use Rattle.reasons.proofs.length.put_length.Statement.{statement}

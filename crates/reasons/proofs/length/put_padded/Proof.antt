@@ -1,7 +1,7 @@
 -- `reasons::length::put_padded` meets its contract.
 -- Assumes nothing.
 use mathlib.Core.List.{[], ◌++◌}
-use Rattle.number.proofs.Tools.{arith, needs}
+use Rattle.number.proofs.Tools.{arith, rules}
 use Rattle.ascii.specs.Ascii.{ascii}
 use Rattle.decimal.specs.Digits.{digits_of}
 use Rattle.decimal.proofs.Laws.{length_u64}

@@ -1,6 +1,6 @@
 -- `reasons::length::put_without` meets its contract.
 -- Assumes nothing.
-use Rattle.number.proofs.Tools.{arith, needs}
+use Rattle.number.proofs.Tools.{arith, rules}
 use Rattle.text.proofs.WritingLaws.{wrote}
 use Rattle.reasons.specs.Lengths.{without_text}
 use Rattle.reasons.proofs.length.put_without.Statement.{statement}

@@ -1,6 +1,6 @@
 -- `reasons::length::said_length` meets its contract.
 -- Assumes nothing.
-use Rattle.number.proofs.Tools.{arith, refl, is_lt, no_lt, needs}
+use Rattle.number.proofs.Tools.{arith, refl, is_lt, no_lt, rules}
 use Rattle.reasons.specs.Lengths.{said_length}
 use Rattle.reasons.proofs.length.said_length.Statement.{statement}
 use Rattle.reasons.proofs.length.said_length.Tie as tie

@@ -1,7 +1,7 @@
 -- `slots::line::put_kind` meets its contract, by each of the three kinds.
 -- Assumes nothing.
 use mathlib.Core.List.{List, ◌++◌}
-use Rattle.number.proofs.Tools.{ap, ℕ, arith, needs}
+use Rattle.number.proofs.Tools.{ap, ℕ, arith, rules}
 use Rattle.text.specs.Line.{space}
 use Rattle.text.proofs.WritingLaws.{wrote, Wrote-as}
 use Rattle.slots.specs.Table.{getter_word, setter_word, plain_word}

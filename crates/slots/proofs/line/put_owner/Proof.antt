@@ -1,7 +1,7 @@
 -- `slots::line::put_owner` meets its contract: what the pointers of an entry lead to is its key.
 -- Assumes nothing.
 use Rattle.std.specs.Prelude.{◌-◌}
-use Rattle.number.proofs.Tools.{arith, needs}
+use Rattle.number.proofs.Tools.{arith, rules}
 use Rattle.key.specs.Word.{word_at}
 use Rattle.key.specs.Key.{space_at}
 use Rattle.reader.specs.Values.{keys_in}

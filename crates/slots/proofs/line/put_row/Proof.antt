@@ -2,7 +2,7 @@
 -- Assumes nothing.
 use mathlib.Core.List.{◌++◌}
 use Rattle.std.specs.Prelude.{◌-◌}
-use Rattle.number.proofs.Tools.{arith, needs}
+use Rattle.number.proofs.Tools.{arith, rules}
 use Rattle.reader.specs.Values.{keys_in}
 use Rattle.lookup.proofs.Entries.{pool_small}
 use Rattle.printed.specs.Listing.{slot_text}

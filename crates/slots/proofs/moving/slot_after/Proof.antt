@@ -1,6 +1,6 @@
 -- `slots::moving::slot_after` meets its contract, by each of the two slots.
 -- Assumes nothing.
-use Rattle.number.proofs.Tools.{ap, arith, needs}
+use Rattle.number.proofs.Tools.{ap, arith, rules}
 use Rattle.lookup.specs.Question.{slot_number}
 use Rattle.slots.proofs.MovingLaws.{slot_more, slot_unknown}
 use Rattle.slots.proofs.moving.slot_after.Statement.{statement}

@@ -9,7 +9,7 @@ use Rattle.rows.specs.Files.{HoldBoth}
 use Rattle.bridge.specs.Written.{two_meanings}
 use Rattle.iids.specs.Cells.{cell}
 use Rattle.number.proofs.Scans.{Misses, Misses-none, Misses-more, Misses-scan, Misses-end}
-use Rattle.number.proofs.Tools.{sym, ◌∙◌, arith, needs}
+use Rattle.number.proofs.Tools.{sym, ◌∙◌, arith, rules}
 use Rattle.stages.proofs.descriptors.first_two_descriptors.Statement.{statement}
 use Rattle.stages.proofs.descriptors.first_two_descriptors.Tie as tie
 

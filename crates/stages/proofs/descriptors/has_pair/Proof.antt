@@ -2,7 +2,7 @@
 -- Assumes nothing.
 use mathlib.Core.Bool.{true≢false}
 use borrow.Author.Tests.{eqb-true}
-use Rattle.number.proofs.Tools.{sym, ◌∙◌, arith, needs}
+use Rattle.number.proofs.Tools.{sym, ◌∙◌, arith, rules}
 use Rattle.stages.proofs.Settles.{pointed}
 use Rattle.stages.proofs.descriptors.has_pair.Statement.{statement}
 use Rattle.stages.proofs.descriptors.has_pair.Tie as tie

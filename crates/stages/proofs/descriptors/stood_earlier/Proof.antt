@@ -1,7 +1,7 @@
 -- `stages::descriptors::stood_earlier` meets its contract.
 -- Assumes nothing.
 use mathlib.Core.Bool.{true≢false}
-use Rattle.number.proofs.Tools.{sym, needs}
+use Rattle.number.proofs.Tools.{sym, rules}
 use Rattle.stages.proofs.descriptors.stood_earlier.Statement.{statement}
 use Rattle.stages.proofs.descriptors.stood_earlier.Tie as tie
 

@@ -2,7 +2,7 @@
 -- Assumes nothing.
 use Rattle.iids.specs.Cells.{cell}
 use Rattle.iids.specs.Joined.{holder}
-use Rattle.number.proofs.Tools.{refl, arith, needs, is_le, no_le, is_eq, no_eq, is_ne, no_ne}
+use Rattle.number.proofs.Tools.{refl, arith, rules, is_le, no_le, is_eq, no_eq, is_ne, no_ne}
 use Rattle.tables.proofs.mates.holder_of.Statement.{statement}
 use Rattle.tables.proofs.mates.holder_of.Tie as tie
 

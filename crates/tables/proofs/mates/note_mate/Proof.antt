@@ -2,7 +2,7 @@
 -- Assumes nothing.
 use Rattle.tables.specs.Cells.{mate_noted}
 use Rattle.iids.specs.Cells.{cell}
-use Rattle.number.proofs.Tools.{refl, arith, needs, is_lt, no_lt}
+use Rattle.number.proofs.Tools.{refl, arith, rules, is_lt, no_lt}
 use Rattle.tables.proofs.mates.note_mate.Statement.{statement}
 use Rattle.tables.proofs.mates.note_mate.Tie as tie
 

@@ -1,7 +1,7 @@
 -- `told::answer::put` meets its contract: the bytes lie within the buffer.
 -- Assumes nothing.
 use lib.Seq.{length-take-le}
-use Rattle.number.proofs.Tools.{sym, arith, needs}
+use Rattle.number.proofs.Tools.{sym, arith, rules}
 use Rattle.streams.proofs.PrintLaws.{Prints-line}
 use Rattle.told.proofs.answer.put.Statement.{statement}
 use Rattle.told.proofs.answer.put.Tie as tie

@@ -1,6 +1,6 @@
 -- `typelib::own::check_descriptors` meets its contract.
 -- Assumes nothing.
-use Rattle.number.proofs.Tools.{arith, needs}
+use Rattle.number.proofs.Tools.{arith, rules}
 use Rattle.typelib.proofs.OwnLaws.{descriptors_none}
 use Rattle.typelib.proofs.own.check_descriptors.Statement.{statement}
 use Rattle.typelib.proofs.own.check_descriptors.Tie as tie

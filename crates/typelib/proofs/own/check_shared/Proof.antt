@@ -8,7 +8,7 @@ use Rattle.typelib.specs.Own.{Settled}
 use Rattle.typelib.specs.Entry.{read_own}
 use Rattle.reading.proofs.Steps.{turn_refused}
 use Rattle.reading.specs.Got.{many, step_of}
-use Rattle.number.proofs.Tools.{arith, needs, refl, length}
+use Rattle.number.proofs.Tools.{arith, rules, refl, length}
 use Rattle.typelib.proofs.own.check_shared.Statement.{statement}
 use Rattle.typelib.proofs.own.check_shared.Tie as tie
 

@@ -4,7 +4,7 @@ use mathlib.Core.Bool.{false}
 use Rattle.number.specs.Choice.{◌<?◌}
 use Rattle.number.specs.Scan.{some}
 use Rattle.number.proofs.Scans.{clash}
-use Rattle.number.proofs.Tools.{refl, needs}
+use Rattle.number.proofs.Tools.{refl, rules}
 use Rattle.typelib.proofs.own.stood_earlier.Statement.{statement}
 use Rattle.typelib.proofs.own.stood_earlier.Tie as tie
 

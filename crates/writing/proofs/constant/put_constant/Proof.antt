@@ -1,7 +1,7 @@
 -- `writing::constant::put_constant` meets its contract.
 -- Assumes nothing.
 use lib.ListN.{length-take, length-drop}
-use Rattle.number.proofs.Tools.{arith, needs}
+use Rattle.number.proofs.Tools.{arith, rules}
 use Rattle.writing.proofs.Sources.{Room-Stands}
 use Rattle.writing.proofs.Methods as laws
 use Rattle.writing.proofs.constant.put_constant.Statement.{statement}

@@ -2,7 +2,7 @@
 -- Assumes nothing.
 use lib.Seq.{sets}
 use Rattle.std.specs.Prelude.{◌+◌}
-use Rattle.number.proofs.Tools.{ap, ◌∙◌, arith, length, needs}
+use Rattle.number.proofs.Tools.{ap, ◌∙◌, arith, length, rules}
 use Rattle.number.proofs.Parts.{length-part}
 use Rattle.writing.proofs.Copies as laws
 use Rattle.writing.proofs.field.copy.Statement.{statement}

@@ -1,7 +1,7 @@
 -- `writing::field::put_u16` meets its contract.
 -- Assumes nothing.
 use lib.ListN.{length-set}
-use Rattle.number.proofs.Tools.{arith, needs}
+use Rattle.number.proofs.Tools.{arith, rules}
 use Rattle.writing.proofs.Numbers as laws
 use Rattle.writing.proofs.field.put_u16.Statement.{statement}
 use Rattle.writing.proofs.field.put_u16.Tie as tie

@@ -1,6 +1,6 @@
 -- `writing::field::put_u64` meets its contract.
 -- Assumes nothing.
-use Rattle.number.proofs.Tools.{arith, refl, needs}
+use Rattle.number.proofs.Tools.{arith, refl, rules}
 use Rattle.writing.proofs.Numbers as laws
 use Rattle.writing.proofs.field.put_u64.Statement.{statement}
 use Rattle.writing.proofs.field.put_u64.Tie as tie

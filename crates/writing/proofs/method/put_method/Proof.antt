@@ -2,7 +2,7 @@
 -- Assumes nothing.
 use lib.ListN.{length-take, length-drop}
 use Rattle.std.specs.Prelude.{◌+◌}
-use Rattle.number.proofs.Tools.{arith, refl, needs}
+use Rattle.number.proofs.Tools.{arith, refl, rules}
 use Rattle.number.specs.Part.{part}
 use Rattle.normal.proofs.Lengths.{length_param}
 use Rattle.writing.specs.Source.{renumber}

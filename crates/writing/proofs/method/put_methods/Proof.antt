@@ -1,7 +1,7 @@
 -- `writing::method::put_methods` meets its contract.
 -- Assumes nothing.
 use Rattle.std.specs.Prelude.{◌-◌}
-use Rattle.number.proofs.Tools.{needs, arith, ℕ}
+use Rattle.number.proofs.Tools.{rules, arith, ℕ}
 use Rattle.iids.specs.Cells.{cell}
 use Rattle.reader.specs.Records.{ShowsMethod}
 use Rattle.normal.specs.Size.{method_size}

@@ -1,7 +1,7 @@
 -- `writing::param::put_type` meets its contract. The measure is the number of the pool's bytes from `at` on.
 -- Assumes nothing.
 use Rattle.std.specs.Prelude.{◌-◌, ◌<◌}
-use Rattle.number.proofs.Tools.{arith, needs, length, ℕ, sym, ◌∙◌}
+use Rattle.number.proofs.Tools.{arith, rules, length, ℕ, sym, ◌∙◌}
 use Rattle.normal.proofs.Lengths.{length_type}
 use Rattle.reader.specs.declared.record.Form.TheVariants.{Simple, Interface, InterfaceIs, Array, Sized}
 use Rattle.reader.proofs.record.form_of.Reads as form-of-reads

@@ -1,7 +1,7 @@
 -- `writing::param::put_interface` meets its contract.
 -- Assumes nothing.
 use lib.ListN.{length-set}
-use Rattle.number.proofs.Tools.{arith, needs, refl}
+use Rattle.number.proofs.Tools.{arith, rules, refl}
 use Rattle.writing.specs.Source.{renumber}
 use Rattle.writing.proofs.param.put_interface.Statement.{statement}
 use Rattle.writing.proofs.param.put_interface.Tie as tie

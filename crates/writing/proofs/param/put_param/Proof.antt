@@ -1,6 +1,6 @@
 -- `writing::param::put_param` meets its contract.
 -- Assumes nothing.
-use Rattle.number.proofs.Tools.{arith, needs}
+use Rattle.number.proofs.Tools.{arith, rules}
 use Rattle.normal.proofs.Lengths.{length_type}
 use Rattle.writing.specs.Source.{renumber}
 use Rattle.writing.proofs.Turns as turns

@@ -1,7 +1,7 @@
 -- `writing::param::put_params` meets its contract.
 -- Assumes nothing.
 use Rattle.std.specs.Prelude.{◌-◌}
-use Rattle.number.proofs.Tools.{needs, arith, ℕ}
+use Rattle.number.proofs.Tools.{rules, arith, ℕ}
 use Rattle.reader.specs.Records.{ShowsParam}
 use Rattle.meaning.specs.Refs.{ParamRefs}
 use Rattle.normal.specs.Size.{param_size}

@@ -1,7 +1,7 @@
 -- `writing::word::name_size` meets its contract.
 -- Assumes nothing.
 use Rattle.std.specs.Prelude.{◌-◌}
-use Rattle.number.proofs.Tools.{arith, needs}
+use Rattle.number.proofs.Tools.{arith, rules}
 use Rattle.key.proofs.Ends.{word_from}
 use Rattle.writing.proofs.Words as laws
 use Rattle.writing.proofs.word.name_size.Statement.{statement}

@@ -2,7 +2,7 @@
 -- Assumes nothing.
 use lib.Seq.{sets}
 use Rattle.std.specs.Prelude.{◌≡◌, ◌+◌, ◌-◌}
-use Rattle.number.proofs.Tools.{arith, needs}
+use Rattle.number.proofs.Tools.{arith, rules}
 use Rattle.number.specs.Part.{part}
 use Rattle.key.specs.Word.{word_end}
 use Rattle.key.proofs.Ends.{word_from}

@@ -1,7 +1,7 @@
 -- `xpt::sessions::ask_one` meets its contract: the words lie within the input.
 -- Assumes nothing.
 use lib.Seq.{length-take-le}
-use Rattle.number.proofs.Tools.{sym, arith, needs, take}
+use Rattle.number.proofs.Tools.{sym, arith, rules, take}
 use Rattle.tasks.specs.Tasks.{task_of}
 use Rattle.asks.specs.Asked.{is_asked}
 use Rattle.asks.proofs.AskLaws.{Took-here, Took-elsewhere}

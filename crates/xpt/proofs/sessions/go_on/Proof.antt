@@ -1,6 +1,6 @@
 -- `xpt::sessions::go_on` meets its contract: a line, one that was too long, more input, or the end.
 -- Assumes nothing.
-use Rattle.number.proofs.Tools.{subst, needs}
+use Rattle.number.proofs.Tools.{subst, rules}
 use Rattle.feed.specs.Input.{Comes}
 use Rattle.xpt.proofs.sessions.go_on.Statement.{statement}
 use Rattle.xpt.proofs.sessions.go_on.Tie as tie

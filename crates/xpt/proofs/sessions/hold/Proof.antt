@@ -1,6 +1,6 @@
 -- `xpt::sessions::hold` meets its contract: the only command leaves nothing to go on with.
 -- Assumes nothing.
-use Rattle.number.proofs.Tools.{needs}
+use Rattle.number.proofs.Tools.{rules}
 use Rattle.number.proofs.Scans.{clash}
 use Rattle.xpt.proofs.sessions.hold.Statement.{statement}
 use Rattle.xpt.proofs.sessions.hold.Tie as tie

@@ -1,6 +1,6 @@
 -- `xpt::sessions::is_answered` meets its contract.
 -- Assumes nothing.
-use Rattle.number.proofs.Tools.{needs}
+use Rattle.number.proofs.Tools.{rules}
 use Rattle.number.proofs.Scans.{clash}
 use Rattle.xpt.proofs.sessions.is_answered.Statement.{statement}
 use Rattle.xpt.proofs.sessions.is_answered.Tie as tie

@@ -1,6 +1,6 @@
 -- `xpt::sessions::run_all` meets its contract. The loop's invariant: the feed is one of this input, and the table is tidy. The measure is the turns that are left.
 -- Assumes nothing.
-use Rattle.number.proofs.Tools.{arith, needs}
+use Rattle.number.proofs.Tools.{arith, rules}
 use Rattle.kept.specs.Table.{Tidy}
 use Rattle.kept.proofs.RowLaws.{Tidy-nothing}
 use Rattle.feed.specs.Input.{Fed}

@@ -1,7 +1,7 @@
 -- `xpt::sessions::run_one` meets its contract: the words lie within the input, and nothing is kept yet.
 -- Assumes nothing.
 use lib.Seq.{length-take-le}
-use Rattle.number.proofs.Tools.{sym, arith, needs}
+use Rattle.number.proofs.Tools.{sym, arith, rules}
 use Rattle.kept.proofs.RowLaws.{Tidy-nothing}
 use Rattle.xpt.proofs.sessions.run_one.Statement.{statement}
 use Rattle.xpt.proofs.sessions.run_one.Tie as tie

@@ -1,6 +1,6 @@
 -- `xpt::sessions::serve` meets its contract: what is a question was answered, and what was not is none.
 -- Assumes nothing.
-use Rattle.number.proofs.Tools.{sym, subst, ◌∙◌, needs, take}
+use Rattle.number.proofs.Tools.{sym, subst, ◌∙◌, rules, take}
 use Rattle.number.proofs.Scans.{clash}
 use Rattle.tasks.specs.Tasks.{task_of}
 use Rattle.asks.specs.Asked.{is_asked, TookIf}

@@ -1,7 +1,7 @@
 -- `xpt::sessions::serve_all` meets its contract: the first session starts with nothing read, the second, of a batch, with what the first left.
 -- Assumes nothing.
 use borrow.Author.Tests.{not-false}
-use Rattle.number.proofs.Tools.{needs}
+use Rattle.number.proofs.Tools.{rules}
 use Rattle.number.proofs.Scans.{clash}
 use Rattle.xpt.proofs.sessions.serve_all.Statement.{statement}
 use Rattle.xpt.proofs.sessions.serve_all.Tie as tie
