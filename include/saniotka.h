@@ -3,7 +3,7 @@
  * files of office suites the check, an entity and a constant.
  *
  * Every function is proved to answer what the definitions in the sources say, for every input. docs/FORMAT.md there says
- * what a typelib is, what each refusal means and what its place counts. The library is made by `rt staticlib cabi`, as
+ * what a typelib is, what each refusal means and what its place counts. The library is made by `bin/build cabi`, as
  * target/staticlib/libcabi.a, for Linux on x86-64; a program that includes this header is linked with it and needs
  * nothing else:
  *

@@ -16,6 +16,11 @@ mod piles;
 mod rdbs;
 mod salvages;
 
+pub use links::{saniotka_adopt, saniotka_link, saniotka_normal};
+pub use piles::{saniotka_pile_add, saniotka_pile_end};
+pub use rdbs::{saniotka_rdb_check, saniotka_rdb_constant, saniotka_rdb_entity};
+pub use salvages::saniotka_salvage;
+
 // What a call returns.
 pub const ANSWERED: i32 = 0;
 

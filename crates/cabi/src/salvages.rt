@@ -34,7 +34,7 @@ pub extern "C" fn saniotka_salvage(
     out: &mut [u8],
     answer: &mut [u64],
 ) -> i32
-    ensures { SalvageCalled file.now answer.old (record { indexes = indexes.entry.now; numbers = numbers.old; places = places.old; out = out.old }) result answer.new (record { indexes = indexes.exit.now; numbers = numbers.new; places = places.new; out = out.new }) }
+    ensures { SalvageCalled file.now answer.old (record { indexes = indexes.old; numbers = numbers.old; places = places.old; out = out.old }) result answer.new (record { indexes = indexes.new; numbers = numbers.new; places = places.new; out = out.new }) }
 {
     if answer.len() < numbers::ROOM {
         return TOO_SHORT;

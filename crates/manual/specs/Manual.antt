@@ -114,4 +114,4 @@ help_of verb.Salvage = entry_text verb.Salvage
 help_of verb.Unknown = help_text
 
 unfoldable pub version_text : List ℕ
-version_text = ascii "xpt 2.0 (rattle-kit-5b-plain logic 097e4c862dff5811)" ++ newline
+version_text = ascii "xpt 2.0 (rattle-kit-13f logic dac8208d650f15bf)" ++ newline

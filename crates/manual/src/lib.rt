@@ -251,7 +251,7 @@ pub fn version(text: &mut [u8; ROOM]) -> usize
     ensures { Made version_text text.old result text.new }
 {
     failures::say(
-        b"xpt 2.0 (rattle-kit-5b-plain logic 097e4c862dff5811)\n",
+        b"xpt 2.0 (rattle-kit-13f logic dac8208d650f15bf)\n",
         text,
     )
 }

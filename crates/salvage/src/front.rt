@@ -53,7 +53,7 @@ fn salvage_left(
     out: &mut [u8],
 ) -> Salvaged
     requires { Fronted file.now h × (pool.now ≡ pool_of h file.now) × (length copy.old ≡ length file.now) × (h.count ≤ scan (repeated (key_on file.now pool.now h.directory)) h.count 0) × (too_short (length indexes.old) (length numbers.old) (length places.old) ≡ false) }
-    ensures { Salvages file.now (record { indexes = indexes.entry.now; numbers = numbers.old; places = places.old; out = out.old }) result (record { indexes = indexes.exit.now; numbers = numbers.new; places = places.new; out = out.new }) }
+    ensures { Salvages file.now (record { indexes = indexes.old; numbers = numbers.old; places = places.old; out = out.old }) result (record { indexes = indexes.new; numbers = numbers.new; places = places.new; out = out.new }) }
 {
     let mut own = [0usize; ENTRY_LIMIT];
     let mut at = [0usize; ENTRY_LIMIT];
@@ -97,7 +97,7 @@ fn salvage_behind(
     out: &mut [u8],
 ) -> Salvaged
     requires { Fronted file.now h × (pool.now ≡ pool_of h file.now) × (length copy.old ≡ length file.now) }
-    ensures { Salvages file.now (record { indexes = indexes.entry.now; numbers = numbers.old; places = places.old; out = out.old }) result (record { indexes = indexes.exit.now; numbers = numbers.new; places = places.new; out = out.new }) }
+    ensures { Salvages file.now (record { indexes = indexes.old; numbers = numbers.old; places = places.old; out = out.old }) result (record { indexes = indexes.new; numbers = numbers.new; places = places.new; out = out.new }) }
 {
     let n = h.count;
     let d = h.directory;
@@ -128,7 +128,7 @@ pub fn salvage_front(
     out: &mut [u8],
 ) -> Salvaged
     requires { Fronted file.now h × (file_limit ≤ length work.old) }
-    ensures { Salvages file.now (record { indexes = indexes.entry.now; numbers = numbers.old; places = places.old; out = out.old }) result (record { indexes = indexes.exit.now; numbers = numbers.new; places = places.new; out = out.new }) }
+    ensures { Salvages file.now (record { indexes = indexes.old; numbers = numbers.old; places = places.old; out = out.old }) result (record { indexes = indexes.new; numbers = numbers.new; places = places.new; out = out.new }) }
 {
     let pool = h.pool;
     let len = file.len();

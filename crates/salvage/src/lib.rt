@@ -36,7 +36,7 @@ fn salvage_in(
     out: &mut [u8],
 ) -> Salvaged
     requires { file_limit ≤ length work.old }
-    ensures { Salvages file.now (record { indexes = indexes.entry.now; numbers = numbers.old; places = places.old; out = out.old }) result (record { indexes = indexes.exit.now; numbers = numbers.new; places = places.new; out = out.new }) }
+    ensures { Salvages file.now (record { indexes = indexes.old; numbers = numbers.old; places = places.old; out = out.old }) result (record { indexes = indexes.new; numbers = numbers.new; places = places.new; out = out.new }) }
 {
     match typelib::check_front(file) {
         Head::Read(h) => {
@@ -55,7 +55,7 @@ pub fn salvage_with(
     places: &mut [u64],
     out: &mut [u8],
 ) -> Salvaged
-    ensures { Salvages file.now (record { indexes = indexes.entry.now; numbers = numbers.old; places = places.old; out = out.old }) result (record { indexes = indexes.exit.now; numbers = numbers.new; places = places.new; out = out.new }) }
+    ensures { Salvages file.now (record { indexes = indexes.old; numbers = numbers.old; places = places.old; out = out.old }) result (record { indexes = indexes.new; numbers = numbers.new; places = places.new; out = out.new }) }
 {
     salvage_in(file, work, indexes, numbers, places, out)
 }
@@ -68,7 +68,7 @@ pub fn salvage(
     places: &mut [u64],
     out: &mut [u8],
 ) -> Salvaged
-    ensures { Salvages file.now (record { indexes = indexes.entry.now; numbers = numbers.old; places = places.old; out = out.old }) result (record { indexes = indexes.exit.now; numbers = numbers.new; places = places.new; out = out.new }) }
+    ensures { Salvages file.now (record { indexes = indexes.old; numbers = numbers.old; places = places.old; out = out.old }) result (record { indexes = indexes.new; numbers = numbers.new; places = places.new; out = out.new }) }
 {
     let mut work = [0u8; FILE_LIMIT];
     salvage_with(file, &mut work, indexes, numbers, places, out)
