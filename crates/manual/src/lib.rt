@@ -250,8 +250,5 @@ pub fn types_help(text: &mut [u8; ROOM]) -> usize
 pub fn version(text: &mut [u8; ROOM]) -> usize
     ensures { Made version_text text.old result text.new }
 {
-    failures::say(
-        b"xpt 2.0 (rattle-kit-13f logic dac8208d650f15bf)\n",
-        text,
-    )
+    failures::say(b"xpt 2.0 (rattle-kit-13f logic dac8208d650f15bf)\n", text)
 }
