@@ -9,7 +9,7 @@ use head::Head;
 use number::FILE_LIMIT;
 use reading::Refusal;
 
-mod front;
+mod behind;
 mod reports;
 mod work;
 
@@ -40,7 +40,7 @@ fn salvage_in(
 {
     match typelib::check_front(file) {
         Head::Read(h) => {
-            crate::front::salvage_front(file, h, work, indexes, numbers, places, out)
+            crate::behind::salvage_front(file, h, work, indexes, numbers, places, out)
         }
         Head::Refused(why) => Salvaged::Refused(why),
     }

@@ -1,12 +1,12 @@
--- `salvage::front::salvage_behind` meets its contract.
+-- `salvage::behind::salvage_behind` meets its contract.
 -- Assumes nothing.
 use Rattle.salvage.proofs.Outcomes.{refuses, keys_refused, lists_refused}
 use Rattle.typelib.proofs.WholeLaws.{fronted_Lies, fronted_Named, pool_small}
 use Rattle.typelib.proofs.FrontLaws.{fronted_header}
 use Rattle.number.proofs.Tools.{arith, sym, ◌∙◌}
 use borrow.Author.Rules.{rules}
-use Rattle.salvage.proofs.front.salvage_behind.Statement.{statement}
-use Rattle.salvage.proofs.front.salvage_behind.Tie as tie
+use Rattle.salvage.proofs.behind.salvage_behind.Statement.{statement}
+use Rattle.salvage.proofs.behind.salvage_behind.Tie as tie
 
 first-repeated-requires : tie.Need-first-repeated-requires
 first-repeated-requires c κs = let a = c.before.before.before.before.before.before.before.requires in (fronted_Lies _ _ _ a.0 a.1, fronted_Named _ _ _ a.0 a.1, omega (arith, pool_small _ _ _ a.0 a.1))

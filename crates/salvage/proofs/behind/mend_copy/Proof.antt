@@ -1,11 +1,11 @@
--- `salvage::front::mend_copy` meets its contract.
+-- `salvage::behind::mend_copy` meets its contract.
 -- Assumes nothing.
 use Rattle.salvage.proofs.Lefts.{Judged-is, judged_Parents, copy_cleared, copy_ready}
 use Rattle.typelib.proofs.WholeLaws.{fronted_Lies, pool_small}
 use Rattle.typelib.specs.Typelib.{context_of}
 use borrow.Author.Rules.{rules}
-use Rattle.salvage.proofs.front.mend_copy.Statement.{statement}
-use Rattle.salvage.proofs.front.mend_copy.Tie as tie
+use Rattle.salvage.proofs.behind.mend_copy.Statement.{statement}
+use Rattle.salvage.proofs.behind.mend_copy.Tie as tie
 
 cast-minor : tie.Need-overflow-cast-minor
 cast-minor c = search rules

@@ -1,9 +1,9 @@
--- `salvage::front::too_short` meets its contract.
+-- `salvage::behind::too_short` meets its contract.
 -- Assumes nothing.
 use Rattle.salvage.specs.Salvage.{too_short}
 use Rattle.number.proofs.Tools.{arith, refl, is_lt, no_lt, ◌<?◌}
-use Rattle.salvage.proofs.front.too_short.Statement.{statement}
-use Rattle.salvage.proofs.front.too_short.Tie as tie
+use Rattle.salvage.proofs.behind.too_short.Statement.{statement}
+use Rattle.salvage.proofs.behind.too_short.Tie as tie
 
 returns : tie.Need-returns
 unfolding too_short

@@ -1,12 +1,12 @@
--- `salvage::front::salvage_left` meets its contract.
+-- `salvage::behind::salvage_left` meets its contract.
 -- Assumes nothing.
 use Rattle.salvage.proofs.Lefts.{judged_Parents, directory_low, long_lists, ends_ready, ends_refused, ends_written}
 use Rattle.typelib.proofs.FrontLaws.{fronted_header}
 use Rattle.salvage.specs.Salvage.{Lent}
 use Rattle.number.proofs.Tools.{arith}
 use borrow.Author.Rules.{rules}
-use Rattle.salvage.proofs.front.salvage_left.Statement.{statement}
-use Rattle.salvage.proofs.front.salvage_left.Tie as tie
+use Rattle.salvage.proofs.behind.salvage_left.Statement.{statement}
+use Rattle.salvage.proofs.behind.salvage_left.Tie as tie
 
 mend-copy-requires : tie.Need-mend-copy-requires
 mend-copy-requires c κs = search rules

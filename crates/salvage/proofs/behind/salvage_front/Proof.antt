@@ -1,4 +1,4 @@
--- `salvage::front::salvage_front` meets its contract.
+-- `salvage::behind::salvage_front` meets its contract.
 -- Assumes nothing.
 use Rattle.typelib.proofs.FrontLaws.{fronted_header}
 use Rattle.typelib.specs.Typelib.{pool_of}
@@ -6,8 +6,8 @@ use Rattle.number.proofs.Parts.{part_rest}
 use lib.Seq.{length-take-le}
 use Rattle.number.proofs.Tools.{arith, sym}
 use borrow.Author.Rules.{rules}
-use Rattle.salvage.proofs.front.salvage_front.Statement.{statement}
-use Rattle.salvage.proofs.front.salvage_front.Tie as tie
+use Rattle.salvage.proofs.behind.salvage_front.Statement.{statement}
+use Rattle.salvage.proofs.behind.salvage_front.Tie as tie
 
 sub-salvage-behind : tie.Need-overflow-sub-salvage-behind
 sub-salvage-behind c = omega (arith, (fronted_header _ _ c.before.before.before.before.before.before.requires.0).inside)
