@@ -1,38 +1,27 @@
-// The mode of a file, as the system tells it: what kind of file it is, and its permissions.
+// The mode of a file, as the system tells it: what kind of file it is, and its permissions; or errno's number.
 #![tactic(auto)]
 
-ghost use Rattle.libc.specs.Io.{Ended};
+use std::os::unix::fs::MetadataExt;
+use std::rt::Files;
 
-// Room for what the system tells of a file.
-fn unknown() -> libc::types::stat {
-    let never = libc::types::timespec {
-        tv_sec: 0,
-        tv_nsec: 0,
-    };
-    libc::types::stat {
-        st_dev: 0,
-        st_ino: 0,
-        st_nlink: 0,
-        st_mode: 0,
-        st_uid: 0,
-        st_gid: 0,
-        __pad: 0,
-        st_rdev: 0,
-        st_size: 0,
-        st_blksize: 0,
-        st_blocks: 0,
-        st_atim: never,
-        st_mtim: never,
-        st_ctim: never,
-        __unused: [0; 3],
+// Of the name itself, a symbolic link not followed.
+pub fn own_mode(rt: &HostRuntime, path: &[u8]) -> Result<u32, i32> {
+    match paths::text_of(path) {
+        Err(error) => Err(error),
+        Ok(text) => match rt.symlink_metadata(text) {
+            Ok(told) => Ok(told.mode()),
+            Err(error) => Err(paths::errno(error.raw_os_error())),
+        },
     }
 }
 
-// Of the name itself, a symbolic link not followed; 0, which is no file's, where it cannot be told.
-pub fn own_mode(path: &[u8; 4096]) -> u32
-    requires { Ended path.now }
-{
-    let mut told = unknown();
-    libc::lstat(path, &mut told);
-    told.st_mode
+// Of what the name leads to.
+pub fn led_mode(rt: &HostRuntime, path: &[u8]) -> Result<u32, i32> {
+    match paths::text_of(path) {
+        Err(error) => Err(error),
+        Ok(text) => match rt.metadata(text) {
+            Ok(told) => Ok(told.mode()),
+            Err(error) => Err(paths::errno(error.raw_os_error())),
+        },
+    }
 }

@@ -1,6 +1,6 @@
 -- Paths that the system can be asked about, and the last part of a path. The numbers of errors are those of errno.
 -- Assumes nothing.
-use Rattle.std.specs.Prelude.{Bool, List, ℕ, zero, suc, pos, length, get_or, take, drop, replicate}
+use Rattle.std.specs.Prelude.{◌≡◌, Bool, List, ℕ, ℤ, zero, suc, pos, length, get_or, take, drop, replicate, Option, None, Some, slice_index_or, IsUtf8}
 use Rattle.std.proofs.lemmas.List.Edits.{sets}
 use Rattle.number.specs.Choice.{when◌then◌else◌, ◌<?◌, ◌=?◌}
 use Rattle.number.specs.Scan.{some}
@@ -25,6 +25,20 @@ judged path =
     when path_limit <? length path then Not (pos 36) else
     when has_zero path then Not (pos 22) else
     Path
+
+-- why a path is not handed on: errno's number for what is no path; 84 where it is one and no UTF-8, which std's calls do not take
+abbrev pub Unhanded : Judged → List ℕ → ℤ → Type 0
+Unhanded Path path e = (e ≡ pos 84) × (IsUtf8 path → ⊥)
+Unhanded (Not n) path e = e ≡ n
+
+-- errno's number in an error of std's; 5, an error of the device, where it has none
+abbrev pub errno_of : Option ℤ → ℤ
+errno_of None = pos 5
+errno_of (Some e) = e
+
+-- the last of 4,096 bytes is 0
+abbrev pub Ended : List ℕ → Type 0
+Ended bytes = slice_index_or bytes 4095 1 ≡ 0
 
 -- as many bytes as a path may have, and zeros behind: 4,096 together
 unfoldable pub ended_of : List ℕ → List ℕ
