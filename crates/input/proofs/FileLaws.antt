@@ -2,12 +2,11 @@
 -- Assumes nothing.
 use mathlib.Core.Path.{◌≡◌, sym, ap, subst, ◌∙◌}
 use mathlib.Core.List.{List, ◌++◌}
-use Prim.Native.Nat.{ℕ, ◌+◌, ◌-◌, ◌≤◌, ◌<◌}
+use Prim.Native.Nat.{ℕ, ◌+◌, ◌≤◌, ◌<◌}
 use native.Mathlib.Omega.{arith}
 use lib.IntN.{ℤ}
 use lib.ListN.{length, take, drop}
-use lib.Seq.{sets, take-add, length-take-le}
-use borrow.Rule.Slice.PartMut.{put_mid, take_put}
+use lib.Seq.{sets, take-add, length-take-le, take-append_seam}
 use Rattle.decimal.proofs.Stores.{front}
 use Rattle.input.specs.declared.Came.{Came}
 use Rattle.input.specs.declared.Came.TheVariants.{To, Failed}
@@ -15,11 +14,10 @@ use Rattle.input.specs.Came.{CameIn}
 use Rattle.input.specs.File.{StandsBehind, Comes, FirstBytes, ReadIn}
 
 -- a part from `from` on was lent, and its first bytes are those that came
-pub came_behind : (buf ys : List ℕ) (from got : ℕ) → from ≤ length buf → take (from + got) (put_mid from (length buf - from) buf ys) ≡ take from buf ++ take got (drop from (put_mid from (length buf - from) buf ys))
-came_behind buf ys from got h =
-    let after = put_mid from (length buf - from) buf ys in
-    take-add from got after
-    ∙ ap (λ (z : List ℕ). z ++ take got (drop from after)) (take_put from (length buf - from) buf ys h)
+pub came_behind : (front rest : List ℕ) (from got : ℕ) → length front ≡ from → take (from + got) (front ++ rest) ≡ front ++ take got (drop from (front ++ rest))
+came_behind front rest from got e =
+    take-add from got (front ++ rest)
+    ∙ ap (λ (z : List ℕ). z ++ take got (drop from (front ++ rest))) (rw (← e) (take-append_seam front rest))
 
 -- bytes that were put at the front of a buffer
 pub put_first : (buf bytes after : List ℕ) (n : ℕ) → length bytes ≤ length buf → n ≡ 0 + length bytes → after ≡ sets buf 0 bytes → take n after ≡ bytes

@@ -1,11 +1,14 @@
 -- The bytes of a file, by its name. What the system did is no fact of a program: three predicates here are shut, and mean what they say by where they come from. Their laws (`SystemCalls`) are for the proofs of `open` and
 -- `read_some`, which call the system, and of `standard_input`, which is open from the start; tests/sealed fails where another file names them. So who requires one of them, or promises one, has it from there.
 -- Assumes nothing.
-use Rattle.std.specs.Prelude.{◌≡◌, Bool, List, [], ℕ, ◌≤◌, ◌<◌, ℤ, length, take}
+use Rattle.std.specs.Prelude.{◌≡◌, Bool, List, [], ℕ, ◌≤◌, ◌<◌, ℤ, pos, length, take}
+use Rattle.std.specs.Fd.{file_raw_fd}
 use Rattle.ascii.specs.Ascii.{ascii}
 use Rattle.key.specs.Word.{same_word}
 use Rattle.input.specs.declared.Came.{Came}
 use Rattle.input.specs.declared.Came.TheVariants as came
+use Rattle.input.specs.declared.Source.{Source}
+use Rattle.input.specs.declared.Source.TheVariants as source
 use Rattle.input.specs.declared.Opened.{Opened}
 use Rattle.input.specs.declared.Opened.TheVariants as opened
 use Rattle.input.specs.declared.Begun.{Begun}
@@ -15,6 +18,11 @@ pub mod SystemCalls
 -- the name of standard input
 abbrev pub is_input : List ℕ → Bool
 is_input name = same_word name (ascii "-")
+
+-- the number of a descriptor; that of standard input is 0
+abbrev pub number_of : Source → ℤ
+number_of (source.Input i) = pos 0
+number_of (source.File f) = file_raw_fd f
 
 -- the descriptor is open for the file of this name, and stands behind these bytes, its first
 pub StandsBehind : List ℕ → ℤ → List ℕ → Type 0
@@ -37,7 +45,7 @@ pub record FirstBytes (name : List ℕ) (room : ℕ) (bytes : List ℕ) : Type 0
 -- ---- what the functions promise
 
 abbrev pub Opens : List ℕ → Opened → Type 0
-Opens name (opened.At fd) = StandsBehind name fd []
+Opens name (opened.At s) = StandsBehind name (number_of s) []
 Opens name (opened.Failed e) = Unread name e
 
 -- one call of `read`, with room behind the first `from` bytes: where it gave none, the file ended
@@ -58,5 +66,5 @@ ReadIn name (came.Failed e) buf = Unread name e
 -- all of the file is, or it fills the buffer and may go on
 abbrev pub Begins : List ℕ → Begun → List ℕ → Type 0
 Begins name (begun.Whole n) buf = (n < length buf) × FirstBytes name (length buf) (take n buf)
-Begins name (begun.Full fd) buf = StandsBehind name fd buf
+Begins name (begun.Full s) buf = StandsBehind name (number_of s) buf
 Begins name (begun.Failed e) buf = Unread name e

@@ -1,29 +1,40 @@
 // Files by name, read into a lent buffer until they end or the buffer is full. The name `-` is standard input's. A failed call is told.
 #![tactic(auto)]
 
-ghost use Rattle.std.specs.Prelude.{◌≡◌, true, List, [], ℕ, ◌≤◌, ◌<◌, length, take};
+ghost use Rattle.std.specs.Prelude.{◌≡◌, true, List, [], ℕ, ◌≤◌, ◌<◌, length, take, IfOk};
 ghost use Rattle.input.specs.Came.{CameIn};
-ghost use Rattle.input.specs.File.{is_input, StandsBehind, Opens, Goes, Comes, ReadIn, Begins};
+ghost use Rattle.input.specs.File.{is_input, number_of, StandsBehind, Opens, Goes, Comes, ReadIn, Begins};
+
+use std::fs;
+use std::fs::File;
+use std::io::{Read, Stdin};
+
+// Standard input, or a file that is open and is closed where it is dropped.
+#[derive(Drop)]
+pub enum Source {
+    Input(Stdin),
+    File(File),
+}
 
 // Where what was read ends in the buffer, or errno's number.
-#[derive(Drop)]
+#[derive(Clone, Copy)]
 pub enum Came {
     To(usize),
     Failed(i32),
 }
 
-// A descriptor, or errno's number.
+// What is open, or errno's number.
 #[derive(Drop)]
 enum Opened {
-    At(i32),
+    At(Source),
     Failed(i32),
 }
 
-// The whole file was read, of so many bytes, and is closed again; or the buffer is full, and the file is open yet, by its descriptor; or errno's number.
+// The whole file was read, of so many bytes, and is closed again; or the buffer is full, and the file is open yet; or errno's number.
 #[derive(Drop)]
 pub enum Begun {
     Whole(usize),
-    Full(i32),
+    Full(Source),
     Failed(i32),
 }
 
@@ -34,56 +45,70 @@ pub fn is_input(name: &[u8]) -> bool
 }
 
 // Standard input, of which nothing was read.
-pub fn standard_input() -> i32
-    ensures { (name : List ℕ) → is_input name ≡ true → StandsBehind name result [] }
+pub fn standard_input(rt: &HostRuntime) -> Source
+    ensures { (name : List ℕ) → is_input name ≡ true → StandsBehind name (number_of result) [] }
 {
-    libc::STDIN_FILENO
+    Source::Input(rt.stdin())
 }
 
-fn open(name: &[u8]) -> Opened
+fn open(rt: &HostRuntime, name: &[u8]) -> Opened
     ensures { Opens name.now result }
 {
-    if paths::LIMIT < name.len() {
-        return Opened::Failed(libc::ENAMETOOLONG);
-    }
     if is_input(name) {
-        return Opened::At(standard_input());
+        return Opened::At(standard_input(rt));
     }
-    let fd = os::open_read(name);
-    if fd < 0 {
-        return Opened::Failed(os::errno());
+    match paths::text_of(name) {
+        Err(error) => Opened::Failed(error),
+        Ok(path) => match fs::open(rt, path) {
+            Err(error) => Opened::Failed(paths::errno(error.raw_os_error())),
+            Ok(file) => Opened::At(Source::File(file)),
+        },
     }
-    Opened::At(fd)
 }
 
 // Standard input stays open.
-pub fn close(name: &[u8], fd: i32) {
-    if !is_input(name) {
-        libc::close(fd);
+pub fn close(source: Source) {
+    drop(source);
+}
+
+// One call of `read`.
+fn read_once(source: &Source, part: &mut [u8]) -> std::io::Result<usize>
+    ensures { IfOk result (λ n. n ≤ length part.new) }
+{
+    match source {
+        Source::Input(stdin) => {
+            let mut stdin = *stdin;
+            Read::read(&mut stdin, part)
+        }
+        Source::File(file) => {
+            let mut file = file;
+            Read::read(&mut file, part)
+        }
     }
 }
 
 // Some bytes from `from` on, where there is room: where they end, which is `from` at the file's end.
-fn read_some(fd: i32, from: usize, buf: &mut [u8]) -> Came
+fn read_some(source: &Source, from: usize, buf: &mut [u8]) -> Came
     requires { from < length buf.old }
-    ensures { CameIn from (length buf.new) result × ((name : List ℕ) → StandsBehind name fd (take from buf.old) → Goes name fd from result buf.new) }
+    ensures within { CameIn from (length buf.new) result }
+    ensures bytes { (name : List ℕ) → StandsBehind name (number_of source.now) (take from buf.old) → Goes name (number_of source.now) from result buf.new }
 {
     let part = &mut buf[from..];
-    let got = libc::read(fd, part);
-    if got < 0 {
-        return Came::Failed(os::errno());
+    match read_once(source, part) {
+        Err(error) => Came::Failed(paths::errno(error.raw_os_error())),
+        Ok(got) => Came::To(from + got),
     }
-    Came::To(from + io::count(got, part))
 }
 
 // All bytes from `from` on, as many as the buffer has room for.
-fn read_all(fd: i32, from: usize, buf: &mut [u8]) -> Came
+fn read_all(source: &Source, from: usize, buf: &mut [u8]) -> Came
     requires { from ≤ length buf.old }
-    ensures { CameIn from (length buf.new) result × ((name : List ℕ) → StandsBehind name fd (take from buf.old) → Comes name fd result buf.new) }
+    ensures within { CameIn from (length buf.new) result }
+    ensures bytes { (name : List ℕ) → StandsBehind name (number_of source.now) (take from buf.old) → Comes name (number_of source.now) result buf.new }
 {
     let mut end = from;
     while end < buf.len() {
-        let came = read_some(fd, end, buf);
+        let came = read_some(source, end, buf);
         let Came::To(next) = came else {
             return came;
         };
@@ -95,49 +120,49 @@ fn read_all(fd: i32, from: usize, buf: &mut [u8]) -> Came
     Came::To(end)
 }
 
-fn begin_at(fd: i32, name: &[u8], buf: &mut [u8]) -> Begun
-    requires { StandsBehind name.now fd [] }
+fn begin_at(source: Source, name: &[u8], buf: &mut [u8]) -> Begun
+    requires { StandsBehind name.now (number_of source) [] }
     ensures { Begins name.now result buf.new }
 {
-    match read_all(fd, 0, buf) {
+    match read_all(&source, 0, buf) {
         Came::Failed(error) => {
-            close(name, fd);
+            close(source);
             Begun::Failed(error)
         }
         Came::To(n) => {
             if n == buf.len() {
-                return Begun::Full(fd);
+                return Begun::Full(source);
             }
-            close(name, fd);
+            close(source);
             Begun::Whole(n)
         }
     }
 }
 
 // The file of this name, from its first byte on.
-pub fn begin(name: &[u8], buf: &mut [u8]) -> Begun
+pub fn begin(rt: &HostRuntime, name: &[u8], buf: &mut [u8]) -> Begun
     ensures { Begins name.now result buf.new }
 {
-    match open(name) {
+    match open(rt, name) {
         Opened::Failed(error) => Begun::Failed(error),
-        Opened::At(fd) => begin_at(fd, name, buf),
+        Opened::At(source) => begin_at(source, name, buf),
     }
 }
 
 // An open file whose first bytes were read elsewhere: those, and the others behind them.
-pub fn go_on(fd: i32, front: &[u8], buf: &mut [u8]) -> Came
+pub fn go_on(source: &Source, front: &[u8], buf: &mut [u8]) -> Came
     requires { length front.now ≤ length buf.old }
-    ensures { (name : List ℕ) → StandsBehind name fd front.now → ReadIn name result buf.new }
+    ensures { (name : List ℕ) → StandsBehind name (number_of source.now) front.now → ReadIn name result buf.new }
 {
     let n = text::put_bytes(buf, 0, front);
-    read_all(fd, n, buf)
+    read_all(source, n, buf)
 }
 
 // Standard input, from where it stands.
-pub fn read_input(buf: &mut [u8]) -> Came
+pub fn read_input(rt: &HostRuntime, buf: &mut [u8]) -> Came
     ensures { (name : List ℕ) → is_input name ≡ true → ReadIn name result buf.new }
 {
-    go_on(standard_input(), b"", buf)
+    go_on(&standard_input(rt), b"", buf)
 }
 
 // Standard input failed; it is said on standard output, in place of an answer.
