@@ -21,7 +21,7 @@ const FILE_ROOM: usize = paths::LIMIT + FILE_MOST;
 pub const STORE_ROOM: usize = 3 * FILE_ROOM;
 
 // The rows in use, and the bytes of the store that they take.
-#[derive(Drop)]
+#[derive(Clone, Copy)]
 pub struct Kept {
     pub rows: usize,
     pub used: usize,
@@ -116,10 +116,11 @@ pub fn add(state: usize, file: Span, kept: Kept, rows: &mut [usize; 256]) -> Kep
     requires { Tidy rows.old kept × ((kept.rows < 64) × ((kept.used ≤ file.from) × ((file.from ≤ file.end) × (file.end ≤ store_bytes)))) }
     ensures { Tidy rows.new result × ((result ≡ one_more file kept) × (rows.new ≡ row_added state file kept rows.old)) }
 {
+    let end = file.end;
     put_row(kept.rows, kept.used, file, state, rows);
     Kept {
         rows: kept.rows + 1,
-        used: file.end,
+        used: end,
     }
 }
 
