@@ -4,10 +4,12 @@ ghost use Rattle.feed.specs.Lines.{input_room};
 ghost use Rattle.feed.specs.Arguments.{is_help_flag, is_help, first_asks, asks_help, Extends, CommandIn, AskedIn, GatheredIn};
 
 use crate::INPUT_ROOM;
+use std::env::FillError;
+use std::rt::Env;
 
 // No argument; more than the line has room for; `help`; `--version`; `batch` alone; a command with `-h` or `--help` alone, by the length of its name;
 // or the length of the words of another command.
-#[derive(Drop)]
+#[derive(Clone, Copy)]
 pub enum Gathered {
     Nothing,
     TooLong,
@@ -19,7 +21,7 @@ pub enum Gathered {
 }
 
 // What the first word asks for.
-#[derive(Drop)]
+#[derive(Clone, Copy)]
 enum First {
     Help,
     Version,
@@ -28,44 +30,43 @@ enum First {
 }
 
 // Where the line ends, or that it has no room.
-#[derive(Drop)]
+#[derive(Clone, Copy)]
 enum Ended {
     At(usize),
     TooLong,
 }
 
 // Argument i into the line, from `from` on.
-fn gather_at(i: usize, from: usize, line: &mut [u8]) -> Ended
+fn gather_at(rt: &HostRuntime, i: usize, from: usize, line: &mut [u8]) -> Ended
     requires { from ≤ length line.old }
     ensures { Extends (length line.old) line.old from result line.new }
 {
-    let got = os::arg(i, &mut line[from..]);
-    if os::errno() != 0 {
-        return Ended::TooLong;
+    match rt.arg(i, &mut line[from..]) {
+        Err(_) => Ended::TooLong,
+        Ok(got) => Ended::At(from + got),
     }
-    Ended::At(from + got)
 }
 
 // Argument i after a zero byte, behind the line that ends at `end`.
-fn gather_one(i: usize, end: usize, line: &mut [u8]) -> Ended
+fn gather_one(rt: &HostRuntime, i: usize, end: usize, line: &mut [u8]) -> Ended
     ensures { Extends (length line.old) line.old end result line.new }
 {
     if line.len() <= end {
         return Ended::TooLong;
     }
     line[end] = 0;
-    gather_at(i, end + 1, line)
+    gather_at(rt, i, end + 1, line)
 }
 
 // The arguments from the second on, behind the first.
-fn gather_more(count: usize, first: usize, line: &mut [u8; INPUT_ROOM]) -> Ended
+fn gather_more(rt: &HostRuntime, count: usize, first: usize, line: &mut [u8; INPUT_ROOM]) -> Ended
     requires { first ≤ input_room }
     ensures { Extends input_room line.old first result line.new }
 {
     let mut end = first;
     let mut i: usize = 2;
     while i < count {
-        match gather_one(i, end, line) {
+        match gather_one(rt, i, end, line) {
             Ended::At(next) => {
                 end = next;
             }
@@ -132,11 +133,16 @@ fn asks_help(count: usize, first: usize, end: usize, line: &[u8]) -> bool
 }
 
 // The words of a command.
-fn gather_command(count: usize, first: usize, line: &mut [u8; INPUT_ROOM]) -> Gathered
+fn gather_command(
+    rt: &HostRuntime,
+    count: usize,
+    first: usize,
+    line: &mut [u8; INPUT_ROOM],
+) -> Gathered
     requires { first ≤ input_room }
     ensures { CommandIn count first line.new result × (take first line.new ≡ take first line.old) }
 {
-    match gather_more(count, first, line) {
+    match gather_more(rt, count, first, line) {
         Ended::At(end) => {
             if asks_help(count, first, end, line) {
                 return Gathered::HelpOf(first);
@@ -148,7 +154,12 @@ fn gather_command(count: usize, first: usize, line: &mut [u8; INPUT_ROOM]) -> Ga
 }
 
 // What the first word, of this length, and those behind it ask for.
-fn gather_words(count: usize, first: usize, line: &mut [u8; INPUT_ROOM]) -> Gathered
+fn gather_words(
+    rt: &HostRuntime,
+    count: usize,
+    first: usize,
+    line: &mut [u8; INPUT_ROOM],
+) -> Gathered
     requires { first ≤ input_room }
     ensures { AskedIn count first line.new result }
 {
@@ -157,21 +168,31 @@ fn gather_words(count: usize, first: usize, line: &mut [u8; INPUT_ROOM]) -> Gath
         First::Help => Gathered::Help,
         First::Version => Gathered::Version,
         First::Batch => Gathered::Batch,
-        First::Command => gather_command(count, first, line),
+        First::Command => gather_command(rt, count, first, line),
     }
 }
 
+// How many arguments there are, the program's own name among them.
+fn arg_count(rt: &HostRuntime) -> usize {
+    let mut none = [0u8; 0];
+    for i in 0..usize::MAX {
+        if let Err(FillError::NotPresent) = rt.arg(i, &mut none) {
+            return i;
+        }
+    }
+    usize::MAX
+}
+
 // The arguments into `line`, a zero byte between two.
-pub fn gather(line: &mut [u8; INPUT_ROOM]) -> Gathered
+pub fn gather(rt: &HostRuntime, line: &mut [u8; INPUT_ROOM]) -> Gathered
     ensures { GatheredIn line.new result }
 {
-    let count = os::arg_count();
+    let count = arg_count(rt);
     if count < 2 {
         return Gathered::Nothing;
     }
-    let first = os::arg(1, line);
-    if os::errno() != 0 {
+    let Ok(first) = rt.arg(1, line) else {
         return Gathered::TooLong;
-    }
-    gather_words(count, first, line)
+    };
+    gather_words(rt, count, first, line)
 }

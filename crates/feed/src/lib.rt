@@ -7,11 +7,13 @@ ghost use Rattle.std.specs.Prelude.{◌≡◌, true, false, ◌-◌, ◌≤◌, 
 ghost use Rattle.feed.specs.Input.{FirstNewline, MovedDown, ReadBehind, Fed, Searched, Starts, Skips, Comes, Adds, feed_from};
 ghost use Rattle.feed.specs.Lines.{input_room};
 
+use std::io::Read;
+
 // Bytes of the buffer: those of the longest line, and its newline.
 pub const INPUT_ROOM: usize = 65536;
 
 // The input that is in the buffer: from `from` to `end`, with no newline before `seen`. The rest of a line that was too long is passed over.
-#[derive(Drop)]
+#[derive(Clone, Copy)]
 pub struct Feed {
     from: usize,
     seen: usize,
@@ -21,7 +23,7 @@ pub struct Feed {
 }
 
 // A line in the buffer, without its newline, and the feed after it.
-#[derive(Drop)]
+#[derive(Clone, Copy)]
 pub struct Taken {
     pub from: usize,
     pub end: usize,
@@ -29,7 +31,7 @@ pub struct Taken {
 }
 
 // A line; that one was too long; more is to be read; or all lines were handed on.
-#[derive(Drop)]
+#[derive(Clone, Copy)]
 pub enum Coming {
     Line(Taken),
     TooLong(Feed),
@@ -38,14 +40,14 @@ pub enum Coming {
 }
 
 // The feed after a read, and whether the read failed: the input is over then, too.
-#[derive(Drop)]
+#[derive(Clone, Copy)]
 pub struct Came {
     pub feed: Feed,
     pub is_failed: bool,
 }
 
 // How many bytes came, none where the read failed.
-#[derive(Drop)]
+#[derive(Clone, Copy)]
 struct Arrived {
     count: usize,
     is_failed: bool,
@@ -191,32 +193,33 @@ fn move_down(from: usize, end: usize, input: &mut [u8]) -> usize
 }
 
 // Standard input into the buffer from `at` on. There is room for one byte, so that none means the end. A failure is said on standard error.
-fn read_at(at: usize, input: &mut [u8]) -> Arrived
+fn read_at(rt: &HostRuntime, at: usize, input: &mut [u8]) -> Arrived
     requires { at < length input.old }
     ensures { ReadBehind input.old at result input.new }
 {
     let part = &mut input[at..];
-    let got = libc::read(0, part);
-    if got < 0 {
-        io::write_all(2, b"xpt: standard input cannot be read any further\n");
-        return Arrived {
-            count: 0,
-            is_failed: true,
-        };
-    }
-    Arrived {
-        count: io::count(got, part),
-        is_failed: false,
+    match rt.stdin().read(part) {
+        Err(_) => {
+            io::write_all(2, b"xpt: standard input cannot be read any further\n");
+            Arrived {
+                count: 0,
+                is_failed: true,
+            }
+        }
+        Ok(count) => Arrived {
+            count,
+            is_failed: false,
+        },
     }
 }
 
 // More input behind what is unread, which does not fill the buffer.
-pub fn read_more(feed: Feed, input: &mut [u8; INPUT_ROOM]) -> Came
+pub fn read_more(rt: &HostRuntime, feed: Feed, input: &mut [u8; INPUT_ROOM]) -> Came
     requires { Fed input.old feed × ((feed.end - feed.from < input_room) × (feed.is_over ≡ false)) }
     ensures { Adds input.old feed result input.new }
 {
     let kept = move_down(feed.from, feed.end, input);
-    let arrived = read_at(kept, input);
+    let arrived = read_at(rt, kept, input);
     Came {
         feed: Feed {
             from: 0,
