@@ -13,10 +13,11 @@ ghost use Rattle.store.specs.Loading.{is_barred, ReadBehind, Loads};
 use input::{Begun, Came};
 use kept::{Kept, STORE_ROOM};
 use number::FILE_MOST;
+use std::rt::Files;
 use words::Span;
 
 // A file is kept under its name; standard input is the batch's own; or errno's number.
-#[derive(Drop)]
+#[derive(Clone, Copy)]
 pub enum Loaded {
     Kept,
     InBatch,
@@ -24,22 +25,22 @@ pub enum Loaded {
 }
 
 // What was asked for, and what is kept now.
-#[derive(Drop)]
+#[derive(Clone, Copy)]
 pub struct Asked {
     pub kept: Kept,
     pub file: Loaded,
 }
 
 // The file's bytes into the store from `from` on.
-fn read_from(name: &[u8], from: usize, store: &mut [u8]) -> Came
+fn read_from(rt: &HostRuntime, name: &[u8], from: usize, store: &mut [u8]) -> Came
     requires { from + file_most ≤ length store.old }
     ensures { ReadBehind name.now store.old from result store.new }
 {
     let most = from + FILE_MOST;
-    match input::begin(name, &mut store[from..most]) {
+    match input::begin(rt, name, &mut store[from..most]) {
         Begun::Failed(error) => Came::Failed(error),
-        Begun::Full(fd) => {
-            input::close(name, fd);
+        Begun::Full(source) => {
+            input::close(source);
             Came::To(most)
         }
         Begun::Whole(n) => Came::To(from + n),
@@ -47,33 +48,45 @@ fn read_from(name: &[u8], from: usize, store: &mut [u8]) -> Came
 }
 
 // The state of a row.
-fn state_of(name: &[u8]) -> usize
+fn state_of(rt: &HostRuntime, name: &[u8]) -> usize
     ensures { result < forgotten_state }
 {
     if input::is_input(name) {
         return kept::PLAIN;
     }
-    let all = paths::ended(name);
-    let mut target = [0u8; 8];
-    if libc::readlink(&all, &mut target) < 0 {
-        return kept::PLAIN;
+    match paths::text_of(name) {
+        Err(_) => kept::PLAIN,
+        Ok(text) => match rt.symlink_metadata(text) {
+            Err(_) => kept::PLAIN,
+            Ok(told) => {
+                if told.is_symlink() {
+                    return kept::LINK;
+                }
+                kept::PLAIN
+            }
+        },
     }
-    kept::LINK
 }
 
 // The file, which is not kept, behind what is, with its name before it.
-fn read_in(name: &[u8], kept: Kept, rows: &mut [usize; 256], store: &mut [u8; STORE_ROOM]) -> Asked
+fn read_in(
+    rt: &HostRuntime,
+    name: &[u8],
+    kept: Kept,
+    rows: &mut [usize; 256],
+    store: &mut [u8; STORE_ROOM],
+) -> Asked
     requires { Tidy rows.old kept × (Roomy 1 kept × ((is_found name.now kept rows.old store.old ≡ false) × (length name.now ≤ path_limit))) }
     ensures { Loads false name.now kept rows.old store.old result rows.new store.new }
 {
     let from = text::put_bytes(store, kept.used, name);
-    match read_from(name, from, store) {
+    match read_from(rt, name, from, store) {
         Came::Failed(error) => Asked {
             kept,
             file: Loaded::Failed(error),
         },
         Came::To(end) => Asked {
-            kept: kept::add(state_of(name), Span { from, end }, kept, rows),
+            kept: kept::add(state_of(rt, name), Span { from, end }, kept, rows),
             file: Loaded::Kept,
         },
     }
@@ -91,6 +104,7 @@ fn is_barred(in_batch: bool, name: &[u8]) -> bool
 
 // The file of this name. There is room for it: see `kept::with_room`.
 pub fn load(
+    rt: &HostRuntime,
     name: &[u8],
     in_batch: bool,
     kept: Kept,
@@ -115,8 +129,8 @@ pub fn load(
     if paths::LIMIT < name.len() {
         return Asked {
             kept,
-            file: Loaded::Failed(libc::ENAMETOOLONG),
+            file: Loaded::Failed(paths::ENAMETOOLONG),
         };
     }
-    read_in(name, kept, rows, store)
+    read_in(rt, name, kept, rows, store)
 }
