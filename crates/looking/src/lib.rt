@@ -2,34 +2,35 @@
 #![tactic(auto)]
 
 ghost use Rattle.std.specs.Prelude.{◌≤◌, ◌<◌, length};
-ghost use Rattle.libc.specs.Io.{Ended};
 
 use standing::{Leave, Seen, Stands};
+use std::fs::OpenOptions;
+use std::io;
+use std::io::ErrorKind;
+use std::rt::Files;
 
-// What errno says, as a number; an error of the device where it says nothing.
-pub fn reason() -> u32
+// What an error of std's says, as errno's number; an error of the device where it says none.
+pub fn reason(number: Option<i32>) -> u32
     ensures { result < 2147483648 }
 {
-    let error = signed::unsigned(os::errno());
-    if error == 0 {
-        return 5;
-    }
-    if 2147483647 < error {
+    let error = paths::errno(number);
+    if error <= 0 {
         return 5;
     }
     error as u32
 }
 
-// What lstat tells of the name at `path`; a mode of 0 is no file's.
-fn see(path: &[u8]) -> Seen {
-    if paths::LIMIT < path.len() {
-        return Seen::Failed(36);
+// What lstat or stat tells.
+fn seen_by(told: Result<u32, i32>) -> Seen {
+    match told {
+        Ok(mode) => Seen::Mode(mode),
+        Err(error) => standing::failed_by(reason(Some(error))),
     }
-    let mode = modes::own_mode(&paths::ended(path));
-    if mode == 0 {
-        return standing::failed_by(reason());
-    }
-    Seen::Mode(mode)
+}
+
+// What lstat tells of the name at `path`.
+fn see(rt: &HostRuntime, path: &[u8]) -> Seen {
+    seen_by(modes::own_mode(rt, path))
 }
 
 // How many bytes of `path` stand before what its link says: its folder, or nothing where that starts at the root.
@@ -61,41 +62,75 @@ fn put_led(path: &[u8], link: &[u8], target: &mut [u8; 4096]) -> usize
 }
 
 // What stands where the link of these bytes leads.
-fn see_behind(path: &[u8], link: &[u8], target: &mut [u8; 4096]) -> Seen
-    requires { length link.now ≤ 4096 }
-{
+fn see_behind(rt: &HostRuntime, path: &[u8], link: &[u8], target: &mut [u8; 4096]) -> Seen {
+    if 4096 < link.len() {
+        return Seen::Failed(36);
+    }
     let n = put_led(path, link, target);
     let all: &[u8] = target;
-    see(&all[..n])
+    see(rt, &all[..n])
 }
 
-// What stands where the name at `path` leads, which is a link; itself where it is none. What the link says is put in `link`.
-fn see_led(path: &[u8], link: &mut [u8; 4096]) -> Seen {
-    let got = libc::readlink(&paths::ended(path), link);
-    if got < 0 {
-        return see(path);
+// What stands where the name at `path` leads, whose link std does not give: itself where it is no link; a link that is no UTF-8 is
+// followed.
+fn see_unread(rt: &HostRuntime, path: &[u8], error: io::Error) -> Seen {
+    if let Some(_) = error.raw_os_error() {
+        return see(rt, path);
     }
-    let all: &[u8] = link;
-    let n = io::count(got, all);
-    let mut target = io::buffer();
-    see_behind(path, &all[..n], &mut target)
-}
-
-// Whether what the name leads to may be written.
-fn see_leave(path: &[u8; 4096]) -> Leave
-    requires { Ended path.now }
-{
-    if libc::access(path, libc::W_OK) < 0 {
-        return Leave::Denied(reason());
+    match error.kind() {
+        ErrorKind::OutOfMemory => Seen::Failed(12),
+        _ => seen_by(modes::led_mode(rt, path)),
     }
-    Leave::Given
 }
 
-// What stands at the path.
-pub fn look(path: &[u8]) -> Stands {
-    let own = see(path);
-    let mut link = io::buffer();
-    let led = see_led(path, &mut link);
-    let leave = see_leave(&paths::ended(path));
+// What stands where the name at `path` leads, which is a link; itself where it is none.
+fn see_led(rt: &HostRuntime, path: &[u8]) -> Seen {
+    match paths::text_of(path) {
+        Err(error) => standing::failed_by(reason(Some(error))),
+        Ok(text) => match rt.read_link(rt.alloc(), text) {
+            Err(error) => see_unread(rt, path, error),
+            Ok(link) => {
+                let mut target = [0u8; 4096];
+                see_behind(rt, path, link.as_str().as_bytes(), &mut target)
+            }
+        },
+    }
+}
+
+// Whether the leave to write counts: only of an ordinary file, at the name or where it leads. No error has the number 0.
+fn is_leave_asked(own: Seen, led: Seen) -> bool {
+    match standing::standing_of(own, led, Leave::Denied(0)) {
+        Stands::Barred(error) => error == 0,
+        _ => false,
+    }
+}
+
+// Whether the file that the name leads to may be written: it is opened to be written behind its end, and nothing is. A file that is
+// being run may be, though it cannot be opened so.
+fn see_leave(rt: &HostRuntime, path: &[u8]) -> Leave {
+    match paths::text_of(path) {
+        Err(error) => Leave::Denied(reason(Some(error))),
+        Ok(text) => {
+            let mut options = OpenOptions::new();
+            options.append(true);
+            match rt.open_file(&options, text) {
+                Ok(_) => Leave::Given,
+                Err(error) => match error.kind() {
+                    ErrorKind::ExecutableFileBusy => Leave::Given,
+                    _ => Leave::Denied(reason(error.raw_os_error())),
+                },
+            }
+        }
+    }
+}
+
+// What stands at the path. Nothing but an ordinary file is opened: to open a pipe would wait for its other end.
+pub fn look(rt: &HostRuntime, path: &[u8]) -> Stands {
+    let own = see(rt, path);
+    let led = see_led(rt, path);
+    let mut leave = Leave::Given;
+    if is_leave_asked(own, led) {
+        leave = see_leave(rt, path);
+    }
     standing::standing_of(own, led, leave)
 }

@@ -5,7 +5,7 @@ ghost use Rattle.std.specs.Prelude.{◌≡◌};
 ghost use Rattle.standing.specs.Standing.{is_file, is_link, is_shut, failed_by, of_file, of_link, standing, if_forced, decision};
 
 // What lstat or stat tells: the mode, that there is nothing, or errno's number.
-#[derive(Drop)]
+#[derive(Clone, Copy)]
 pub enum Seen {
     Mode(u32),
     Missing,
@@ -32,7 +32,7 @@ pub enum Stands {
 
 // An output that is a new file, and only as long as its name is free; one that takes the place of what stands there, with the usual
 // permissions or with those of the file before; or none.
-#[derive(Drop)]
+#[derive(Clone, Copy)]
 pub enum Decision {
     New,
     Instead,
