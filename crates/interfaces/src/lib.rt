@@ -16,7 +16,7 @@ use names::USE_LIMIT;
 use number::ROW_LIMIT;
 use writing::constant::{constants_end, put_constants};
 use writing::field::{copy, put_u16};
-use writing::method::put_methods;
+use writing::method_record::put_methods;
 
 // What a parent's index r becomes; 0 is none.
 fn parent_number(place: &[u16; ROW_LIMIT], shift: usize, r: usize) -> u16

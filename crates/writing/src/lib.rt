@@ -4,6 +4,6 @@
 
 pub mod constant;
 pub mod field;
-pub mod method;
+pub mod method_record;
 pub mod param;
 pub mod word;

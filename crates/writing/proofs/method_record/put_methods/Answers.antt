@@ -1,10 +1,10 @@
--- `writing::method::put_methods` meets its contract.
+-- `writing::method_record::put_methods` meets its contract.
 -- Assumes nothing.
 use Rattle.number.proofs.Tools.{arith}
 use Rattle.iids.specs.Cells.{cell}
 use Rattle.writing.proofs.Methods as laws
 use Rattle.writing.proofs.Turns as turns
-use Rattle.writing.proofs.method.put_methods.Goals as goal
+use Rattle.writing.proofs.method_record.put_methods.Goals as goal
 
 pub loop-k-init : goal.loop-k-init
 loop-k-init c = turns.Writing-start (laws.methods_how _ _ _ _) c.requires.0

@@ -1,4 +1,4 @@
--- `writing::method::put_method` meets its contract.
+-- `writing::method_record::put_method` meets its contract.
 -- Assumes nothing.
 use lib.ListN.{length-take, length-drop}
 use Rattle.std.specs.Prelude.{◌+◌}
@@ -11,7 +11,7 @@ use Rattle.writing.proofs.Lent.{back, lent}
 use Rattle.writing.proofs.Sources.{Room-Stands, Known-Stands, Room-lent}
 use Rattle.writing.proofs.Types.{param_Room}
 use Rattle.writing.proofs.Methods as laws
-use Rattle.writing.proofs.method.put_method.Goals as goal
+use Rattle.writing.proofs.method_record.put_method.Goals as goal
 
 pub copy-w-requires : goal.copy-w-requires
 copy-w-requires c =
