@@ -228,7 +228,7 @@ module _ (s pool : List ℕ) (l : Layout) (s2 pool2 : List ℕ) (l2 : Layout) (x
       count = sym (length_view iid (cell holders) t c);
       few = omega (arith, w.few);
       small = small;
-      other_small_lem = other_small_lem;
+      other_small = other_small_lem;
       keys = λ q m.
           let e = ap entry_key (view_at iid (cell holders) t c q m) ∙ view_key iid (cell holders) (cell t q) in
           rw (f.held q m, g.held q m, e) (record { name = name_led names names₁ names₂ n n₂ (cell t q) (w.rows q m); space = space_led spaces spaces₁ spaces₂ v v₂ (cell t q) (w.rows q m) });
