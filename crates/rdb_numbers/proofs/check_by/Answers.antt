@@ -1,0 +1,19 @@
+-- `rdb_numbers::check_by` meets its contract.
+-- Assumes nothing.
+use Rattle.number.proofs.Tools.{arith, refl}
+use Rattle.lookup.specs.Question.{refusal, malformed}
+use Rattle.rdb_numbers.specs.Numbers.{check_by}
+use Rattle.rdb_numbers.proofs.NumberLaws.{first_reading, second_reading, no_reading}
+use Rattle.rdb_numbers.proofs.check_by.Goals as goal
+
+pub returns-in-0 : goal.returns-in-0
+unfolding check_by malformed refusal
+returns-in-0 c = first_reading _ _ _ (omega arith) c.check.ensures
+
+pub returns-in-1 : goal.returns-in-1
+unfolding check_by malformed refusal
+returns-in-1 c = second_reading _ _ _ (omega arith) c.check-in-1.ensures
+
+pub returns-in_default : goal.returns-in_default
+unfolding check_by malformed refusal
+returns-in_default c = no_reading _ _ _ (λ e. omega arith) (λ e. omega arith) refl
