@@ -29,8 +29,8 @@ fn report(file: &[u8], line: &mut [u8; 64])
 }
 
 // A failed read is no end of the input: nothing is judged then.
-fn run(buf: &mut [u8; FILE_MOST]) {
-    match input::read_input(buf) {
+fn run(rt: &HostRuntime, buf: &mut [u8; FILE_MOST]) {
+    match input::read_input(rt, buf) {
         Came::To(n) => {
             let all: &[u8] = buf;
             let mut line = [0u8; 64];
@@ -42,7 +42,7 @@ fn run(buf: &mut [u8; FILE_MOST]) {
     }
 }
 
-fn main() {
+fn main(rt: HostRuntime) {
     let mut buf = [0u8; FILE_MOST];
-    run(&mut buf);
+    run(&rt, &mut buf);
 }
