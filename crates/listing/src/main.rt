@@ -45,8 +45,8 @@ fn report(file: &[u8], line: &mut [u8; 64], out: &mut [u8; 65536])
 
 // Room for one byte more than is listed, so that a longer input is told from one of 65,536 bytes.
 // A failed read is no end of the input: nothing is listed then.
-fn run(buf: &mut [u8; 65537]) {
-    match input::read_input(buf) {
+fn run(rt: &HostRuntime, buf: &mut [u8; 65537]) {
+    match input::read_input(rt, buf) {
         Came::To(n) => {
             let all: &[u8] = buf;
             let mut line = [0u8; 64];
@@ -59,7 +59,7 @@ fn run(buf: &mut [u8; 65537]) {
     }
 }
 
-fn main() {
+fn main(rt: HostRuntime) {
     let mut buf = [0u8; 65537];
-    run(&mut buf);
+    run(&rt, &mut buf);
 }
