@@ -58,10 +58,10 @@ fn put_help_of(input: &[u8; INPUT_ROOM], k: usize, text: &mut [u8; ROOM]) -> usi
 }
 
 // What the arguments ask for; what needs no file is answered here.
-pub fn find_work(input: &mut [u8; INPUT_ROOM], text: &mut [u8; ROOM]) -> Work
+pub fn find_work(rt: &HostRuntime, input: &mut [u8; INPUT_ROOM], text: &mut [u8; ROOM]) -> Work
     ensures { result.length ≤ input_room }
 {
-    match feed::arguments::gather(input) {
+    match feed::arguments::gather(rt, input) {
         Gathered::Nothing => {
             let n = failures::no_command(text);
             streams::put_error(text, n);

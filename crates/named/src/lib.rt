@@ -17,6 +17,7 @@ use words::Span;
 
 // The file of the k-th word into the store.
 pub fn fetch(
+    rt: &HostRuntime,
     line: &[u8],
     separator: u8,
     k: usize,
@@ -31,6 +32,7 @@ pub fn fetch(
     let from = name.from;
     let end = name.end;
     store::load(
+        rt,
         &line[from..end],
         tasks::in_batch(separator),
         kept,
