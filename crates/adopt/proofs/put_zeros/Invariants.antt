@@ -1,0 +1,13 @@
+-- `adopt::put_zeros` meets its contract. The loop's invariant: i zero bytes are stored from `at` on. The measure is what is left of n.
+-- Assumes nothing.
+use lib.ListN.{replicate}
+use lib.Seq.{sets}
+use Rattle.std.specs.Prelude.{◌≡◌, ◌-◌, ◌≤◌}
+use Rattle.number.proofs.Tools.{length}
+use Rattle.adopt.proofs.put_zeros.Given as goal
+
+abbrev pub invariant-loop-i : goal.invariant-loop-i
+invariant-loop-i l = (l.i ≤ l.n) × ((length l.out ≡ length l.initial.out) × (l.out ≡ sets l.initial.out l.at (replicate l.i 0)))
+
+abbrev pub decreases-loop-i : goal.decreases-loop-i
+decreases-loop-i l = l.n - l.i
