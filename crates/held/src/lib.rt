@@ -51,6 +51,7 @@ fn second_wanting(file: Loaded) -> Wanting
 
 // The second file, where the first is kept.
 fn fetch_second(
+    rt: &HostRuntime,
     line: &[u8],
     separator: u8,
     kept: Kept,
@@ -60,7 +61,7 @@ fn fetch_second(
     requires { (Tidy rows.old kept × Roomy 1 kept) × (is_found (argument 1 (words_of separator line.now)) kept rows.old store.old ≡ true) }
     ensures { (n : ℕ) → FetchesAll n (words_of separator line.now) result rows.new store.new }
 {
-    let asked = named::fetch(line, separator, 2, kept, rows, store);
+    let asked = named::fetch(rt, line, separator, 2, kept, rows, store);
     let kept = asked.kept;
     let file = asked.file;
     Fetched {
@@ -71,6 +72,7 @@ fn fetch_second(
 
 // The second file, unless the first is wanting.
 fn fetch_next(
+    rt: &HostRuntime,
     line: &[u8],
     separator: u8,
     wanting: Wanting,
@@ -82,7 +84,7 @@ fn fetch_next(
     ensures { (n : ℕ) → FetchesAll n (words_of separator line.now) result rows.new store.new }
 {
     match wanting {
-        Wanting::Nothing => fetch_second(line, separator, kept, rows, store),
+        Wanting::Nothing => fetch_second(rt, line, separator, kept, rows, store),
         Wanting::Input => Fetched {
             kept,
             wanting: Wanting::Input,
@@ -100,6 +102,7 @@ fn fetch_next(
 
 // The files that the line names into the store, up to the first that is wanting.
 pub fn fetch_all(
+    rt: &HostRuntime,
     line: &[u8],
     separator: u8,
     kept: Kept,
@@ -116,12 +119,12 @@ pub fn fetch_all(
             wanting: Wanting::Nothing,
         };
     }
-    let asked = named::fetch(line, separator, 1, kept, rows, store);
+    let asked = named::fetch(rt, line, separator, 1, kept, rows, store);
     let kept = asked.kept;
     let file = asked.file;
     let wanting = first_wanting(file);
     if n == 1 {
         return Fetched { kept, wanting };
     }
-    fetch_next(line, separator, wanting, kept, rows, store)
+    fetch_next(rt, line, separator, wanting, kept, rows, store)
 }
