@@ -12,7 +12,7 @@ use reading::Verdict;
 use said::{ANSWER_ROOM, Said};
 
 // What comes next: nothing, the newline that ends the one line of a batch, or what is left at a cursor.
-#[derive(Drop)]
+#[derive(Clone, Copy)]
 pub enum Next {
     Over,
     Closing,
@@ -20,7 +20,7 @@ pub enum Next {
 }
 
 // What is left of a listing or of a table.
-#[derive(Drop)]
+#[derive(Clone, Copy)]
 pub struct Rest {
     pub layout: Layout,
     pub next: Next,

@@ -10,7 +10,7 @@ use number::FILE_LIMIT;
 use said::{ANSWER_ROOM, Said};
 
 // What of the output is to be saved: nothing, or its first bytes.
-#[derive(Drop)]
+#[derive(Clone, Copy)]
 pub enum Save {
     Nothing,
     FirstBytes(usize),

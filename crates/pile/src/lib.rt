@@ -23,14 +23,14 @@ pub struct Pile {
 }
 
 // A refusal, and the link that it came from, counted from 1.
-#[derive(Drop)]
+#[derive(Clone, Copy)]
 pub struct PileRefusal {
     pub why: LinkRefusal,
     pub step: usize,
 }
 
 // The pile with one more file; a refusal; or 256 files are there already.
-#[derive(Drop)]
+#[derive(Clone, Copy)]
 pub enum Added {
     Grown(Pile),
     Refused(PileRefusal),

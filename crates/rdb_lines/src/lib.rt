@@ -21,7 +21,7 @@ const BUFFER: usize = 65536;
 const MODULE_LIMIT: usize = 16;
 
 // Where a buffer begins: at a byte of the text from the line of this number on, counted from 0.
-#[derive(Drop)]
+#[derive(Clone, Copy)]
 pub struct Cursor {
     pub line: usize,
     pub place: usize,

@@ -12,14 +12,14 @@ use reader::Layout;
 use said::{Said, Why};
 
 // The line about a part of a types.rdb, from byte `place` of it on.
-#[derive(Drop)]
+#[derive(Clone, Copy)]
 pub struct Telling {
     pub answer: PartAnswer,
     pub place: usize,
 }
 
 // What is left: of a listing or a table of a typelib, of the line about a part of a types.rdb, or of all its paths.
-#[derive(Drop)]
+#[derive(Clone, Copy)]
 pub enum Stream {
     Lines(Rest),
     Part(Telling),
