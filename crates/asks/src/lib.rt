@@ -8,12 +8,12 @@ ghost use Rattle.tasks.specs.Tasks.{task_of};
 ghost use Rattle.said.specs.Saying.{answer_room, Says};
 ghost use Rattle.commands.specs.Answer.{answer_of};
 ghost use Rattle.number.specs.Limits.{file_most};
-ghost use Rattle.input.specs.File.{StandsBehind, Unread, FirstBytes};
+ghost use Rattle.input.specs.File.{number_of, StandsBehind, Unread, FirstBytes};
 ghost use Rattle.told.specs.Tells.{Tells, is_open};
 ghost use Rattle.asks.specs.Asked.{short_room, Asks, is_asked, is_here, name_in, Replied, Took};
 
 use failures::ROOM;
-use input::{Begun, Came};
+use input::{Begun, Came, Source};
 use number::FILE_MOST;
 use said::{ANSWER_ROOM, Said, Why};
 use tasks::Task;
@@ -88,7 +88,7 @@ fn say_unread(line: &[u8], error: i32, text: &mut [u8; ROOM]) -> Told
 }
 
 fn answer_long(
-    fd: i32,
+    source: &Source,
     line: &[u8],
     question: Question,
     front: &[u8],
@@ -96,10 +96,10 @@ fn answer_long(
     head: &mut [u8; ANSWER_ROOM],
     text: &mut [u8; ROOM],
 ) -> Told
-    requires { (length line.now ≤ word_limit) × (Asks question line.now × (StandsBehind (name_in line.now) fd front.now × (length front.now ≤ short_room))) }
+    requires { (length line.now ≤ word_limit) × (Asks question line.now × (StandsBehind (name_in line.now) (number_of source.now) front.now × (length front.now ≤ short_room))) }
     ensures { Tells (Replied line.now) result }
 {
-    match input::go_on(fd, front, long) {
+    match input::go_on(source, front, long) {
         Came::Failed(error) => say_unread(line, error, text),
         Came::To(end) => {
             let all: &[u8] = long;
@@ -110,17 +110,24 @@ fn answer_long(
 
 // A file that may be long, whose first bytes were read. The compiler puts a function into its caller that has no other or is small: this one is neither, which
 // keeps its buffer out of the frame of a short file; `tests/xpt` tells if it does not.
-fn ask_long(fd: i32, line: &[u8], question: Question, front: &[u8], text: &mut [u8; ROOM]) -> Told
-    requires { (length line.now ≤ word_limit) × (Asks question line.now × (StandsBehind (name_in line.now) fd front.now × (length front.now ≤ short_room))) }
+fn ask_long(
+    source: &Source,
+    line: &[u8],
+    question: Question,
+    front: &[u8],
+    text: &mut [u8; ROOM],
+) -> Told
+    requires { (length line.now ≤ word_limit) × (Asks question line.now × (StandsBehind (name_in line.now) (number_of source.now) front.now × (length front.now ≤ short_room))) }
     ensures { Tells (Replied line.now) result }
 {
     let mut long = [0u8; FILE_MOST];
     let mut head = [0u8; ANSWER_ROOM];
-    answer_long(fd, line, question, front, &mut long, &mut head, text)
+    answer_long(source, line, question, front, &mut long, &mut head, text)
 }
 
 // A file that is not standard input.
 fn answer_short(
+    rt: &HostRuntime,
     path: &[u8],
     line: &[u8],
     question: Question,
@@ -131,11 +138,11 @@ fn answer_short(
     requires { (length line.now ≤ word_limit) × (Asks question line.now × (path.now ≡ name_in line.now)) }
     ensures { Tells (Replied line.now) result }
 {
-    match input::begin(path, short) {
+    match input::begin(rt, path, short) {
         Begun::Failed(error) => say_unread(line, error, text),
-        Begun::Full(fd) => {
-            let told = ask_long(fd, line, question, short, text);
-            input::close(path, fd);
+        Begun::Full(source) => {
+            let told = ask_long(&source, line, question, short, text);
+            input::close(source);
             told
         }
         Begun::Whole(n) => {
@@ -145,44 +152,56 @@ fn answer_short(
     }
 }
 
-fn ask_short(path: &[u8], line: &[u8], question: Question, text: &mut [u8; ROOM]) -> Told
+fn ask_short(
+    rt: &HostRuntime,
+    path: &[u8],
+    line: &[u8],
+    question: Question,
+    text: &mut [u8; ROOM],
+) -> Told
     requires { (length line.now ≤ word_limit) × (Asks question line.now × (path.now ≡ name_in line.now)) }
     ensures { Tells (Replied line.now) result }
 {
     let mut short = [0u8; SHORT];
     let mut head = [0u8; ANSWER_ROOM];
-    answer_short(path, line, question, &mut short, &mut head, text)
+    answer_short(rt, path, line, question, &mut short, &mut head, text)
 }
 
 // The file of the name in the line. Standard input starts in the long buffer.
-fn ask_named(path: &[u8], line: &[u8], question: Question, text: &mut [u8; ROOM]) -> Told
+fn ask_named(
+    rt: &HostRuntime,
+    path: &[u8],
+    line: &[u8],
+    question: Question,
+    text: &mut [u8; ROOM],
+) -> Told
     requires { (length line.now ≤ word_limit) × (Asks question line.now × (path.now ≡ name_in line.now)) }
     ensures { Tells (Replied line.now) result }
 {
     if input::is_input(path) {
-        return ask_long(input::standard_input(), line, question, b"", text);
+        return ask_long(&input::standard_input(rt), line, question, b"", text);
     }
-    ask_short(path, line, question, text)
+    ask_short(rt, path, line, question, text)
 }
 
-fn ask_file(line: &[u8], question: Question, text: &mut [u8; ROOM]) -> Told
+fn ask_file(rt: &HostRuntime, line: &[u8], question: Question, text: &mut [u8; ROOM]) -> Told
     requires { (length line.now ≤ word_limit) × Asks question line.now }
     ensures { Tells (Replied line.now) result }
 {
     let name = tasks::argument(line, 0, 1);
     let from = name.from;
     let end = name.end;
-    ask_named(&line[from..end], line, question, text)
+    ask_named(rt, &line[from..end], line, question, text)
 }
 
 // The question of the line, where it is one.
-pub fn run(line: &[u8], text: &mut [u8; ROOM]) -> Answered
+pub fn run(rt: &HostRuntime, line: &[u8], text: &mut [u8; ROOM]) -> Answered
     requires { length line.now ≤ word_limit }
     ensures { (is_here result ≡ is_asked (task_of 0 line.now)) × Took line.now result }
 {
     match tasks::task_of(line, 0) {
         Task::Run(verb) => match verb {
-            Verb::Ask(question) => Answered::Here(ask_file(line, question, text)),
+            Verb::Ask(question) => Answered::Here(ask_file(rt, line, question, text)),
             _ => Answered::Elsewhere,
         },
         _ => Answered::Elsewhere,

@@ -20,6 +20,7 @@ use told::{Ran, Told};
 
 // What a pile saves to the file that the line names.
 fn save_pile(
+    rt: &HostRuntime,
     line: &[u8],
     separator: u8,
     saves: Saves,
@@ -30,8 +31,8 @@ fn save_pile(
 {
     match saves {
         Saves::Nothing => Saved::Done,
-        Saves::First(n) => told::save_output(line, separator, n, out),
-        Saves::Second(n) => told::save_output(line, separator, n, work),
+        Saves::First(n) => told::save_output(rt, line, separator, n, out),
+        Saves::Second(n) => told::save_output(rt, line, separator, n, work),
     }
 }
 
@@ -58,6 +59,7 @@ fn say_refused(
 
 // What came of a pile: its file is written and its line said, or the line for a file that is wanting.
 fn reply_pile(
+    rt: &HostRuntime,
     line: &[u8],
     separator: u8,
     replied: Replied,
@@ -79,7 +81,7 @@ fn reply_pile(
     match went {
         Went::Added(added) => match added {
             Added::Grown(_) => {
-                let saved = save_pile(line, separator, saves, out, work);
+                let saved = save_pile(rt, line, separator, saves, out, work);
                 told::say_saved(line, separator, saved, n, head, text)
             }
             Added::Refused(x) => say_refused(line, separator, x, n, head, kept, rows, store, text),
@@ -91,6 +93,7 @@ fn reply_pile(
 
 // A link of n files.
 pub fn run(
+    rt: &HostRuntime,
     line: &[u8],
     separator: u8,
     n: usize,
@@ -105,10 +108,12 @@ pub fn run(
     ensures { Settled separator line.now result.kept rows.new store.new }
 {
     let mut head = [0u8; ANSWER_ROOM];
-    let replied = piling::answer(line, separator, n, kept, rows, store, out, work, &mut head);
+    let replied = piling::answer(
+        rt, line, separator, n, kept, rows, store, out, work, &mut head,
+    );
     let kept = replied.kept;
     let told = reply_pile(
-        line, separator, replied, rows, store, out, work, &head, text,
+        rt, line, separator, replied, rows, store, out, work, &head, text,
     );
     named::settle(line, separator, kept, rows, store);
     Ran { kept, told }

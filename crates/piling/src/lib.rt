@@ -58,6 +58,7 @@ pub struct Replied {
 
 // The file of the k-th word into the store, where room is made for it.
 fn fetch(
+    rt: &HostRuntime,
     line: &[u8],
     separator: u8,
     k: usize,
@@ -69,7 +70,7 @@ fn fetch(
     ensures { Asks (in_batch separator) (argument k (words_of separator line.now)) (store_of kept rows.old store.old) result.file (store_of result.kept rows.new store.new) }
 {
     let roomy = kept::with_room(kept, 1, rows);
-    named::fetch(line, separator, k, roomy, rows, store)
+    named::fetch(rt, line, separator, k, roomy, rows, store)
 }
 
 // The file of the k-th word, which is in the store, into the pile.
@@ -96,6 +97,7 @@ fn add_kept(
 
 // The file of the k-th word, fetched and added.
 fn add_next(
+    rt: &HostRuntime,
     line: &[u8],
     separator: u8,
     k: usize,
@@ -109,7 +111,7 @@ fn add_next(
     requires { (k ≤ pile_limit) × Tidy rows.old kept }
     ensures { Tidy rows.new result.kept × (ShortEnd result.went × WentOn (in_batch separator) (argument k (words_of separator line.now)) pile (store_of kept rows.old store.old) one.old other.old result.went (store_of result.kept rows.new store.new) one.new other.new) }
 {
-    let asked = fetch(line, separator, k, kept, rows, store);
+    let asked = fetch(rt, line, separator, k, kept, rows, store);
     let kept = asked.kept;
     let file = asked.file;
     let Loaded::Kept = file else {
@@ -127,6 +129,7 @@ fn add_next(
 
 // The first n files of the line, linked in their order; up to the first that is not to be had or refused.
 fn link_all(
+    rt: &HostRuntime,
     line: &[u8],
     separator: u8,
     n: usize,
@@ -144,7 +147,7 @@ fn link_all(
     let mut k: usize = 0;
     while k < n {
         k += 1;
-        let next = add_next(line, separator, k, pile, kept, rows, store, one, other);
+        let next = add_next(rt, line, separator, k, pile, kept, rows, store, one, other);
         kept = next.kept;
         let went = next.went;
         let Went::Added(added) = went else {
@@ -194,6 +197,7 @@ fn saves_of(added: Added) -> Saves
 
 // The first n files of the line, linked in their order, and the line that is answered.
 pub fn answer(
+    rt: &HostRuntime,
     line: &[u8],
     separator: u8,
     n: usize,
@@ -207,7 +211,7 @@ pub fn answer(
     requires { (n ≤ pile_limit) × Tidy rows.old first }
     ensures { Answers (in_batch separator) (words_of separator line.now) n (store_of first rows.old store.old) one.old other.old text.old result rows.new store.new one.new other.new text.new }
 {
-    let linked = link_all(line, separator, n, first, rows, store, one, other);
+    let linked = link_all(rt, line, separator, n, first, rows, store, one, other);
     let kept = linked.kept;
     let count = linked.count;
     let went = linked.went;

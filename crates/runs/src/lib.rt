@@ -144,6 +144,7 @@ fn say_changes(
 
 // All files that the line names are in the store.
 fn reply_with(
+    rt: &HostRuntime,
     line: &[u8],
     separator: u8,
     kept: Kept,
@@ -157,13 +158,12 @@ fn reply_with(
     requires { (length line.now ≤ word_limit) × (Tidy rows.now kept × Held (files_of (task_of separator line.now)) (words_of separator line.now) kept rows.now store.now) }
 {
     let reply = answer_kept(line, separator, kept, rows, store, out, work, head);
-    let said = reply.said;
     let save = reply.save;
-    let length = said.length;
+    let length = reply.said.length;
     match save {
         Save::Nothing => say_reply(line, separator, reply, head, kept, rows, store, text),
         Save::FirstBytes(n) => {
-            let saved = told::save_output(line, separator, n, out);
+            let saved = told::save_output(rt, line, separator, n, out);
             let told = told::say_saved(line, separator, saved, length, head, text);
             say_changes(line, separator, saved, kept, rows, store, out, work, text);
             told
@@ -172,6 +172,7 @@ fn reply_with(
 }
 
 fn reply(
+    rt: &HostRuntime,
     line: &[u8],
     separator: u8,
     kept: Kept,
@@ -185,12 +186,13 @@ fn reply(
 {
     let mut head = [0u8; ANSWER_ROOM];
     reply_with(
-        line, separator, kept, rows, store, out, work, &mut head, text,
+        rt, line, separator, kept, rows, store, out, work, &mut head, text,
     )
 }
 
 // The answer, or the line for a file that is wanting.
 fn answer(
+    rt: &HostRuntime,
     line: &[u8],
     separator: u8,
     wanting: Wanting,
@@ -204,7 +206,7 @@ fn answer(
     requires { (length line.now ≤ word_limit) × (Tidy rows.now kept × WhereHad (Held (files_of (task_of separator line.now)) (words_of separator line.now) kept rows.now store.now) wanting) }
 {
     match wanting {
-        Wanting::Nothing => reply(line, separator, kept, rows, store, out, work, text),
+        Wanting::Nothing => reply(rt, line, separator, kept, rows, store, out, work, text),
         Wanting::Input => told::say_input(text),
         Wanting::First(error) => told::say_unread(line, separator, 1, error, text),
         Wanting::Second(error) => told::say_unread(line, separator, 2, error, text),
@@ -213,6 +215,7 @@ fn answer(
 
 // A command that reads one file, or two.
 fn run_few(
+    rt: &HostRuntime,
     line: &[u8],
     separator: u8,
     kept: Kept,
@@ -226,16 +229,19 @@ fn run_few(
     ensures { Settled separator line.now result.kept rows.new store.new }
 {
     let roomy = kept::with_room(kept, 2, rows);
-    let fetched = held::fetch_all(line, separator, roomy, rows, store);
+    let fetched = held::fetch_all(rt, line, separator, roomy, rows, store);
     let kept = fetched.kept;
     let wanting = fetched.wanting;
-    let told = answer(line, separator, wanting, kept, rows, store, out, work, text);
+    let told = answer(
+        rt, line, separator, wanting, kept, rows, store, out, work, text,
+    );
     named::settle(line, separator, kept, rows, store);
     Ran { kept, told }
 }
 
 // The command of a line.
 pub fn run(
+    rt: &HostRuntime,
     line: &[u8],
     separator: u8,
     kept: Kept,
@@ -250,7 +256,7 @@ pub fn run(
 {
     let task = tasks::task_of(line, separator);
     if let Task::Pile(n) = task {
-        return pile_runs::run(line, separator, n, kept, rows, store, out, work, text);
+        return pile_runs::run(rt, line, separator, n, kept, rows, store, out, work, text);
     }
-    run_few(line, separator, kept, rows, store, out, work, text)
+    run_few(rt, line, separator, kept, rows, store, out, work, text)
 }

@@ -105,7 +105,13 @@ pub fn say_mistake(
 }
 
 // The first n bytes of the output to the file that the line names.
-pub fn save_output(line: &[u8], separator: u8, n: usize, out: &[u8; FILE_LIMIT]) -> Saved
+pub fn save_output(
+    rt: &HostRuntime,
+    line: &[u8],
+    separator: u8,
+    n: usize,
+    out: &[u8; FILE_LIMIT],
+) -> Saved
     requires { n ≤ file_limit }
 {
     let name = tasks::output(line, separator);
@@ -113,7 +119,7 @@ pub fn save_output(line: &[u8], separator: u8, n: usize, out: &[u8; FILE_LIMIT])
     let end = name.end;
     let is_forced = tasks::is_forced(line, separator);
     let all: &[u8] = out;
-    saving::save(&line[from..end], &all[..n], is_forced)
+    saving::save(rt, &line[from..end], &all[..n], is_forced)
 }
 
 // The line for a file that was not written.

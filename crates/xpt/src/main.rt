@@ -6,15 +6,15 @@ mod sessions;
 use failures::ROOM;
 use feed::INPUT_ROOM;
 
-fn start(input: &mut [u8; INPUT_ROOM], text: &mut [u8; ROOM]) {
-    let work = asking::find_work(input, text);
+fn start(rt: &HostRuntime, input: &mut [u8; INPUT_ROOM], text: &mut [u8; ROOM]) {
+    let work = asking::find_work(rt, input, text);
     if work.is_asked {
-        sessions::serve(input, work.length, work.in_batch, text);
+        sessions::serve(rt, input, work.length, work.in_batch, text);
     }
 }
 
-fn main() {
+fn main(rt: HostRuntime) {
     let mut input = [0u8; INPUT_ROOM];
     let mut text = [0u8; ROOM];
-    start(&mut input, &mut text);
+    start(&rt, &mut input, &mut text);
 }

@@ -42,6 +42,7 @@ fn is_open(told: Told, text: &mut [u8; ROOM]) -> bool {
 
 // A line of a batch, answered.
 fn take_line(
+    rt: &HostRuntime,
     taken: Taken,
     kept: Kept,
     input: &[u8; INPUT_ROOM],
@@ -58,7 +59,17 @@ fn take_line(
     let end = taken.end;
     let feed = taken.feed;
     let all: &[u8] = input;
-    let ran = runs::run(&all[from..end], b' ', kept, rows, store, out, work, text);
+    let ran = runs::run(
+        rt,
+        &all[from..end],
+        b' ',
+        kept,
+        rows,
+        store,
+        out,
+        work,
+        text,
+    );
     let kept = ran.kept;
     let told = ran.told;
     Turn {
@@ -70,6 +81,7 @@ fn take_line(
 
 // One item of the input, answered with one line, or more input.
 fn go_on(
+    rt: &HostRuntime,
     feed: Feed,
     kept: Kept,
     input: &mut [u8; INPUT_ROOM],
@@ -83,7 +95,7 @@ fn go_on(
     ensures { Fed input.new result.feed × Tidy rows.new result.kept }
 {
     match feed::next(feed, input) {
-        Coming::Line(taken) => take_line(taken, kept, input, rows, store, out, work, text),
+        Coming::Line(taken) => take_line(rt, taken, kept, input, rows, store, out, work, text),
         Coming::TooLong(after) => {
             let told = told::say_too_long(text);
             Turn {
@@ -93,7 +105,7 @@ fn go_on(
             }
         }
         Coming::More(after) => {
-            let came = feed::read_more(after, input);
+            let came = feed::read_more(rt, after, input);
             let more = came.feed;
             Turn {
                 feed: more,
@@ -111,6 +123,7 @@ fn go_on(
 
 // The lines of standard input from a feed on. A loop that is proved has to end, and nothing says that the input does: the turns are counted down from a number that no run uses up.
 fn run_all(
+    rt: &HostRuntime,
     from: Feed,
     input: &mut [u8; INPUT_ROOM],
     rows: &mut [usize; 256],
@@ -127,7 +140,7 @@ fn run_all(
     let mut turns = u64::MAX;
     while 0 < turns {
         turns -= 1;
-        let after = go_on(feed, kept, input, rows, store, out, work, text);
+        let after = go_on(rt, feed, kept, input, rows, store, out, work, text);
         feed = after.feed;
         kept = after.kept;
         if !after.is_going {
@@ -154,6 +167,7 @@ fn finish(told: Told, text: &mut [u8; ROOM]) {
 
 // One command that is no question, whose words are the first n bytes, parted by zero bytes.
 fn run_one(
+    rt: &HostRuntime,
     input: &[u8; INPUT_ROOM],
     n: usize,
     rows: &mut [usize; 256],
@@ -166,6 +180,7 @@ fn run_one(
 {
     let all: &[u8] = input;
     let ran = runs::run(
+        rt,
         &all[..n],
         0,
         Kept { rows: 0, used: 0 },
@@ -181,6 +196,7 @@ fn run_one(
 
 // A session, with its buffers: the lines from a feed on, or the command whose words are the first n bytes.
 fn hold(
+    rt: &HostRuntime,
     feed: Feed,
     input: &mut [u8; INPUT_ROOM],
     n: usize,
@@ -196,10 +212,12 @@ fn hold(
     let mut work = [0u8; FILE_LIMIT];
     if in_batch {
         return run_all(
-            feed, input, &mut rows, &mut store, &mut out, &mut work, text,
+            rt, feed, input, &mut rows, &mut store, &mut out, &mut work, text,
         );
     }
-    run_one(input, n, &mut rows, &mut store, &mut out, &mut work, text);
+    run_one(
+        rt, input, n, &mut rows, &mut store, &mut out, &mut work, text,
+    );
     Rest {
         feed,
         is_going: false,
@@ -207,24 +225,30 @@ fn hold(
 }
 
 // The commands on standard input, one a line, or the one whose words are the first n bytes. What a session has no turns for is another's. The compiler puts a function that is called once into its caller, however large it is: the second call of `hold` keeps the buffers out of the frame of `main`, and questions, help and mistakes in the arguments run without them.
-fn serve_all(input: &mut [u8; INPUT_ROOM], n: usize, in_batch: bool, text: &mut [u8; ROOM])
+fn serve_all(
+    rt: &HostRuntime,
+    input: &mut [u8; INPUT_ROOM],
+    n: usize,
+    in_batch: bool,
+    text: &mut [u8; ROOM],
+)
     requires { (n ≤ input_room) × (in_batch ≡ false → is_asked (task_of 0 (take n input.old)) ≡ false) }
 {
-    let rest = hold(feed::start(), input, n, in_batch, text);
+    let rest = hold(rt, feed::start(), input, n, in_batch, text);
     if !rest.is_going {
         return;
     }
     let feed = rest.feed;
-    hold(feed, input, n, in_batch, text);
+    hold(rt, feed, input, n, in_batch, text);
 }
 
 // The question whose words are the first n bytes; whether they are one.
-fn ask_one(input: &[u8; INPUT_ROOM], n: usize, text: &mut [u8; ROOM]) -> bool
+fn ask_one(rt: &HostRuntime, input: &[u8; INPUT_ROOM], n: usize, text: &mut [u8; ROOM]) -> bool
     requires { n ≤ input_room }
     ensures { (result ≡ is_asked (task_of 0 (take n input.now))) × TookIf (take n input.now) result }
 {
     let all: &[u8] = input;
-    match asks::run(&all[..n], text) {
+    match asks::run(rt, &all[..n], text) {
         Answered::Here(told) => {
             finish(told, text);
             true
@@ -234,23 +258,35 @@ fn ask_one(input: &[u8; INPUT_ROOM], n: usize, text: &mut [u8; ROOM]) -> bool
 }
 
 // A question by arguments; whether the first n bytes are one.
-fn is_answered(input: &[u8; INPUT_ROOM], n: usize, in_batch: bool, text: &mut [u8; ROOM]) -> bool
+fn is_answered(
+    rt: &HostRuntime,
+    input: &[u8; INPUT_ROOM],
+    n: usize,
+    in_batch: bool,
+    text: &mut [u8; ROOM],
+) -> bool
     requires { n ≤ input_room }
     ensures { in_batch ≡ false → (result ≡ is_asked (task_of 0 (take n input.now))) × TookIf (take n input.now) result }
 {
     if in_batch {
         return false;
     }
-    ask_one(input, n, text)
+    ask_one(rt, input, n, text)
 }
 
 // A batch, or a command: a question needs no session. There is one call of `serve_all`, with no number known to the compiler, which would make two of `hold`.
-pub fn serve(input: &mut [u8; INPUT_ROOM], n: usize, in_batch: bool, text: &mut [u8; ROOM])
+pub fn serve(
+    rt: &HostRuntime,
+    input: &mut [u8; INPUT_ROOM],
+    n: usize,
+    in_batch: bool,
+    text: &mut [u8; ROOM],
+)
     requires { n ≤ input_room }
     ensures { in_batch ≡ false → is_asked (task_of 0 (take n input.old)) ≡ true → TookIf (take n input.old) true }
 {
-    if is_answered(input, n, in_batch, text) {
+    if is_answered(rt, input, n, in_batch, text) {
         return;
     }
-    serve_all(input, n, in_batch, text)
+    serve_all(rt, input, n, in_batch, text)
 }
