@@ -1,0 +1,11 @@
+-- `salvage::salvage_in` meets its contract.
+-- Assumes nothing.
+use Rattle.salvage.proofs.Outcomes.{refuses, front_refused}
+use Rattle.typelib.proofs.FrontLaws.{fronted, front_bad}
+use Rattle.salvage.proofs.salvage_in.Goals as goal
+
+pub salvage_front-requires : goal.salvage_front-requires
+salvage_front-requires c = (fronted _ c.check_front.ensures _ c.in-Read.is, c.requires)
+
+pub returns-in-Refused : goal.returns-in-Refused
+returns-in-Refused c = refuses _ _ _ (front_refused _ _ _ (front_bad _ c.check_front.ensures _ c.in-Refused.is))
