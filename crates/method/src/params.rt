@@ -41,7 +41,7 @@ fn wrong_param(res: bool, f: u8) -> bool
     false
 }
 
-// An argument or, where `result` says so, a result.
+// An argument or, where `res` says so, a result.
 pub fn read_param(pool: &[u8], c: Context, res: bool, at: usize) -> Step
     requires { (at ≤ length pool.now) × (c.base + length pool.now ≤ file_limit) }
     ensures { result ≡ step_of (read_param res c pool.now at) }
