@@ -1,0 +1,12 @@
+-- `cabi::saniotka_looks` meets its contract.
+-- Assumes nothing.
+use Rattle.number.proofs.Tools.{arith}
+use Rattle.numbers.specs.Numbers.{counted_numbers}
+use Rattle.numbers.proofs.Calls.{short, answers}
+use Rattle.cabi.proofs.saniotka_looks.Goals as goal
+
+pub returns-then-answer-lt-ROOM : goal.returns-then-answer-lt-ROOM
+returns-then-answer-lt-ROOM c = short (omega arith)
+
+pub returns : goal.returns
+returns c = answers counted_numbers (omega arith) c.interface_by_iid_counted.ensures c.put_counted.ensures
