@@ -7,15 +7,12 @@ use Prim.Native.Nat.{ℕ, ◌+◌, ◌≤◌, ◌<◌}
 use native.Mathlib.Omega.{arith}
 use native.Mathlib.Numerals.{add-one}
 use lib.ListN.{length}
-use types.Run.{OneOf, miss}
-use denote.Enum.Declared.{tag_of}
 use Rattle.number.specs.Limits.{file_limit}
 use Rattle.tasks.specs.Tasks.{argument}
 use Rattle.kept.specs.Table.{Tidy}
 use Rattle.store.specs.declared.Loaded.{Loaded}
 use Rattle.store.specs.declared.Loaded.TheVariants as loaded
 use Rattle.pile.specs.declared.Pile.{Pile}
-use Rattle.pile.specs.contracts.Added as added-type
 use Rattle.pile.specs.declared.Added.{Added}
 use Rattle.pile.specs.declared.Added.TheVariants.{Grown, Refused, Full}
 use Rattle.pile.specs.Pile.{no_files, Turn, turn, added, ended, onward, add_all, piled}
@@ -73,10 +70,6 @@ not_Whole k n (Grown p) z = absurd (z p refl)
 not_Whole k n (Refused x) z = tt
 not_Whole k n Full z = tt
 
--- the tags of a match's second arm are not the first variant's
-not_grown : (x : Added) → OneOf (1 ∷ 2 ∷ []) (tag_of added-type.the_type x) → (q : Pile) → x ≡ Grown q → ⊥
-not_grown x o q e = miss (1 ∷ 2 ∷ []) 0 tt (subst (λ (y : Added). OneOf (1 ∷ 2 ∷ []) (tag_of added-type.the_type y)) e o)
-
 module _ (b : Bool) (ws : List (List ℕ)) (n : ℕ) (s : Store) (one other : List ℕ) where
   -- k files are in the pile
   pub record So (t : Store) (first second : List ℕ) (p : Pile) (k : ℕ) : Type 0 where
@@ -132,11 +125,11 @@ module _ (b : Bool) (ws : List (List ℕ)) (n : ℕ) (s : Store) (one other : Li
         rw (e, d.1.0, d.1.1) (stops file d.0)
 
     -- it is refused
-    pub refuses_next : (w : Went) (left right : List ℕ) (x : Added) → w ≡ went.Added x → OneOf (1 ∷ 2 ∷ []) (tag_of added-type.the_type x) → WentOn b (argument (k + 1) ws) p t first second w u left right → Ends b ws n (k + 1) s one other (went.Added x) u left right
+    pub refuses_next : (w : Went) (left right : List ℕ) (x : Added) → w ≡ went.Added x → ((q : Pile) → x ≡ Grown q → ⊥) → WentOn b (argument (k + 1) ws) p t first second w u left right → Ends b ws n (k + 1) s one other (went.Added x) u left right
     unfolding WentOn Ends
-    refuses_next w left right x e o g =
+    refuses_next w left right x e z g =
         let d = came w (went.Added x) left right e g in
-        refuses x left right d.0 d.1 (not_grown x o)
+        refuses x left right d.0 d.1 z
 
     -- it is in the pile
     pub goes_on_lem : (w : Went) (left right : List ℕ) (x : Added) (q : Pile) → w ≡ went.Added x → x ≡ Grown q → WentOn b (argument (k + 1) ws) p t first second w u left right → k < n → Tidy u.rows u.kept → ShortEnd w → So u left right q (k + 1)
