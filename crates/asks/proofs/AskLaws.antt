@@ -1,16 +1,13 @@
--- The tags of the arms that match no question; what is told of a file that was read, and of one that cannot be.
+-- What matches no question is none; what is told of a file that was read, and of one that cannot be.
 -- Assumes nothing.
 use mathlib.Core.Path.{◌≡◌, refl, subst}
 use mathlib.Core.Bool.{Bool, true, false}
-use mathlib.Core.List.{List, [], ◌∷◌}
+use mathlib.Core.List.{List, []}
 use Prim.Native.Nat.{ℕ}
 use lib.IntN.{ℤ}
-use types.Run.{OneOf, miss}
-use denote.Enum.Declared.{tag_of}
-use Rattle.verbs.specs.contracts.Verb as verb-type
+use Rattle.verbs.specs.declared.Question.{Question}
 use Rattle.verbs.specs.declared.Verb.{Verb}
 use Rattle.verbs.specs.declared.Verb.TheVariants as verb
-use Rattle.tasks.specs.contracts.Task as task-type
 use Rattle.tasks.specs.declared.Task.{Task}
 use Rattle.tasks.specs.declared.Task.TheVariants.{Mistaken, Run, Pile, Types}
 use Rattle.words.specs.Words.{words_of}
@@ -28,9 +25,9 @@ use Rattle.asks.specs.declared.Answered.{Answered}
 use Rattle.asks.specs.declared.Answered.TheVariants.{Here, Elsewhere}
 use Rattle.asks.specs.Asked.{is_question, is_asked, is_here, name_in, answer_text, Replied, unread, Took, TookIf}
 
-pub other_verb : (v : Verb) → OneOf (1 ∷ 2 ∷ 3 ∷ 4 ∷ 5 ∷ 6 ∷ 7 ∷ []) (tag_of verb-type.the_type v) → is_question v ≡ false
+pub other_verb : (v : Verb) → ((q : Question) → v ≡ verb.Ask q → ⊥) → is_question v ≡ false
 unfolding is_question
-other_verb (verb.Ask q) o = absurd (miss (1 ∷ 2 ∷ 3 ∷ 4 ∷ 5 ∷ 6 ∷ 7 ∷ []) 0 tt o)
+other_verb (verb.Ask q) o = absurd (o q refl)
 other_verb verb.List o = refl
 other_verb verb.Table o = refl
 other_verb verb.Normal o = refl
@@ -39,10 +36,10 @@ other_verb verb.Link o = refl
 other_verb verb.Salvage o = refl
 other_verb verb.Unknown o = refl
 
-pub other_task_lem : (t : Task) → OneOf (0 ∷ 2 ∷ 3 ∷ []) (tag_of task-type.the_type t) → is_asked t ≡ false
+pub other_task_lem : (t : Task) → ((v : Verb) → t ≡ Run v → ⊥) → is_asked t ≡ false
 unfolding is_asked
 other_task_lem (Mistaken m) o = refl
-other_task_lem (Run v) o = absurd (miss (0 ∷ 2 ∷ 3 ∷ []) 1 tt o)
+other_task_lem (Run v) o = absurd (o v refl)
 other_task_lem (Pile n) o = refl
 other_task_lem (Types m q) o = refl
 
