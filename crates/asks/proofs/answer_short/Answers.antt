@@ -23,7 +23,7 @@ ask_long-told-requires c = (
 )
 
 pub slice_bounds-say_answer-end : goal.slice_bounds-say_answer-end
-slice_bounds-say_answer-end c = sym (length-take-le c.in-Whole.n c.begin.new.buf (omega (arith, c.in-Whole.ensures.0)))
+slice_bounds-say_answer-end c = sym (length-take-le _ c.begin.new.buf (omega (arith, c.in-Whole.ensures.0)))
 
 pub say_answer-requires : goal.say_answer-requires
 say_answer-requires c =
