@@ -108,8 +108,8 @@ fn answer_long(
     }
 }
 
-// A file that may be long, whose first bytes were read. The compiler puts a function into its caller that has no other or is small: this one is neither, which
-// keeps its buffer out of the frame of a short file; `tests/xpt` tells if it does not.
+// A file that may be long, whose first bytes were read. The hint keeps its buffer out of the frame of its callers; `tests/xpt` tells if it does not.
+#[inline(never)]
 fn ask_long(
     source: &Source,
     line: &[u8],
@@ -152,6 +152,8 @@ fn answer_short(
     }
 }
 
+// A file that is not standard input, in a buffer of its own, which is kept out of the caller's frame too.
+#[inline(never)]
 fn ask_short(
     rt: &HostRuntime,
     path: &[u8],
