@@ -1,5 +1,6 @@
 -- The answers of this crate's functions, one law for each way through them.
 -- Assumes nothing.
+use Rattle.std.specs.Prelude.{Err, Ok, Result, ℕ}
 use mathlib.Core.Path.{◌≡◌, refl, sym, ap, ◌∙◌}
 use mathlib.Core.List.{List}
 use Prim.Native.Nat.{ℕ, ◌+◌, ◌-◌, ◌*◌, ◌%◌, ◌≤◌, ◌<◌}
@@ -14,17 +15,15 @@ use Rattle.reading.specs.Got.{got, bad}
 use Rattle.reading.specs.declared.Refusal.{Refusal}
 use Rattle.head.specs.declared.Header.{Header}
 use Rattle.head.specs.Header.{read_header}
-use Rattle.joining.specs.declared.Normalised.{Normalised}
-use Rattle.joining.specs.declared.Normalised.TheVariants.{Written, Refused}
 use Rattle.joining.specs.Outcome.{Outcome, refused, written, refusal, in_room, after, normalised_as}
 use Rattle.genuine.specs.Start.{start_of, misplaced_start}
 use Rattle.adopt.specs.Adopt.{gap_of, moved_bytes, adopted, fitted, moved_of, adopt_of, adopt_in, adopt_answer, adopt_buffer}
 
 -- r is the answer for this outcome, and `left` what the buffer becomes
-abbrev pub Answers : Outcome Refusal → List ℕ → Normalised → List ℕ → Type 0
+abbrev pub Answers : Outcome Refusal → List ℕ → Result ℕ Refusal → List ℕ → Type 0
 Answers o out r left = (r ≡ normalised_as (in_room refusal (length out) o)) × (left ≡ after (in_room refusal (length out) o) out)
 
-pub stops : (n q : ℕ) (out : List ℕ) (o : Outcome Refusal) → o ≡ refused (refusal n q) → Answers o out (Refused (record { no = n; place = q })) out
+pub stops : (n q : ℕ) (out : List ℕ) (o : Outcome Refusal) → o ≡ refused (refusal n q) → Answers o out (Err (record { no = n; place = q })) out
 unfolding normalised_as in_room after refusal
 stops n q out o e = rw e (refl, refl)
 
@@ -39,16 +38,16 @@ module _ (bytes : List ℕ) (size : ℕ) (e : length bytes ≡ size) (out : List
   unfolding fitted
   short_is h = sym (no_lt _ _ _ _ (omega arith) refl)
 
-  pub too_long_lem : file_limit < size → Answers (fitted bytes) out (Refused (record { no = 26; place = 0 })) out
+  pub too_long_lem : file_limit < size → Answers (fitted bytes) out (Err (record { no = 26; place = 0 })) out
   too_long_lem h = stops 26 0 out (fitted bytes) (long_is h)
 
-  pub no_room : size ≤ file_limit → length out < size → Answers (fitted bytes) out (Refused (record { no = 27; place = size })) out
+  pub no_room : size ≤ file_limit → length out < size → Answers (fitted bytes) out (Err (record { no = 27; place = size })) out
   unfolding normalised_as in_room after refusal when◌then◌else◌
-  no_room h k = rw (short_is h, yes_lt (length out) (length bytes) (omega arith)) (ap (λ (n : ℕ). Refused (record { no = 27; place = n })) (sym e), refl)
+  no_room h k = rw (short_is h, yes_lt (length out) (length bytes) (omega arith)) (ap (λ (n : ℕ). Err (record { no = 27; place = n })) (sym e), refl)
 
-  pub fits : size ≤ file_limit → size ≤ length out → {left : List ℕ} → left ≡ sets out 0 bytes → Answers (fitted bytes) out (Written size) left
+  pub fits : size ≤ file_limit → size ≤ length out → {left : List ℕ} → left ≡ sets out 0 bytes → Answers (fitted bytes) out (Ok size) left
   unfolding normalised_as in_room after when◌then◌else◌
-  fits h k q = rw (short_is h, not_lt (length out) (length bytes) (omega arith)) (ap (λ (n : ℕ). Written n) (sym e), q)
+  fits h k q = rw (short_is h, not_lt (length out) (length bytes) (omega arith)) (ap (λ (n : ℕ). Ok n) (sym e), q)
 
 -- ---- where the directory starts
 
@@ -81,24 +80,24 @@ module _ (s : List ℕ) (n field pool : ℕ) (n_is : n ≡ be 2 s 18) (field_is 
 -- ---- the whole
 
 module _ (s out : List ℕ) where
-  as_outcome : {r : Normalised} {left : List ℕ} (o : Outcome Refusal) → adopt_of s (read_header s) ≡ o → Answers o out r left → (r ≡ adopt_answer s out) × (left ≡ adopt_buffer s out)
+  as_outcome : {r : Result ℕ Refusal} {left : List ℕ} (o : Outcome Refusal) → adopt_of s (read_header s) ≡ o → Answers o out r left → (r ≡ adopt_answer s out) × (left ≡ adopt_buffer s out)
   unfolding adopt_answer adopt_buffer adopt_in
   as_outcome o e h = rw e h
 
   module _ (h : Header) (e : ℕ) (q : read_header s ≡ got h e) where
-    pub whole_read : {r : Normalised} {left : List ℕ} → Answers (moved_of s) out r left → (r ≡ adopt_answer s out) × (left ≡ adopt_buffer s out)
+    pub whole_read : {r : Result ℕ Refusal} {left : List ℕ} → Answers (moved_of s) out r left → (r ≡ adopt_answer s out) × (left ≡ adopt_buffer s out)
     unfolding adopt_of
     whole_read w = as_outcome (moved_of s) (ap (adopt_of s) q) w
 
   module _ (x : Refusal) (q : read_header s ≡ bad x.no x.place) where
-    pub whole_number : (x.no ≡ 8 → ⊥) → (Refused x ≡ adopt_answer s out) × (out ≡ adopt_buffer s out)
+    pub whole_number : (x.no ≡ 8 → ⊥) → (Err x ≡ adopt_answer s out) × (out ≡ adopt_buffer s out)
     unfolding adopt_of
     whole_number f = as_outcome _ (ap (adopt_of s) q ∙ sym (is_ne _ _ _ _ f refl)) (stops x.no x.place out _ refl)
 
-    pub whole_place : x.no ≡ 8 → (x.place ≡ 24 → ⊥) → (Refused x ≡ adopt_answer s out) × (out ≡ adopt_buffer s out)
+    pub whole_place : x.no ≡ 8 → (x.place ≡ 24 → ⊥) → (Err x ≡ adopt_answer s out) × (out ≡ adopt_buffer s out)
     unfolding adopt_of
     whole_place e f = as_outcome _ (ap (adopt_of s) q ∙ sym (no_ne _ _ _ _ e (is_ne _ _ _ _ f refl))) (stops x.no x.place out _ refl)
 
-    pub whole_moved : x.no ≡ 8 → x.place ≡ 24 → {r : Normalised} {left : List ℕ} → Answers (moved_of s) out r left → (r ≡ adopt_answer s out) × (left ≡ adopt_buffer s out)
+    pub whole_moved : x.no ≡ 8 → x.place ≡ 24 → {r : Result ℕ Refusal} {left : List ℕ} → Answers (moved_of s) out r left → (r ≡ adopt_answer s out) × (left ≡ adopt_buffer s out)
     unfolding adopt_of
     whole_moved e f w = as_outcome (moved_of s) (ap (adopt_of s) q ∙ sym (no_ne _ _ _ _ e (no_ne _ _ _ _ f refl))) w

@@ -10,7 +10,7 @@ use Rattle.number.specs.Scan.{scan}
 use Rattle.reading.specs.Got.{bad}
 use Rattle.head.specs.Header.{magic, off_magic, magic_end, unknown_minor, length_fault, misplaced_pool, misplaced_directory, read_positions, read_fields, read_header}
 use Rattle.reader.specs.Reader.Marked.{P2}
-use Rattle.normal.specs.BigEndian.{bytes_of}
+use Rattle.meaning.specs.Normal.BigEndian.{bytes_of}
 use Rattle.genuine.specs.Start.{start_of, misplaced_start}
 use Rattle.adopt.specs.Adopt.{gap_of, head_bytes, moved_bytes, adopted, fitted, moved_of, adopt_of}
 use Rattle.adopt.specs.Theorems.{Adopts}

@@ -11,9 +11,9 @@ use Rattle.number.specs.Limits.{file_limit}
 use Rattle.number.specs.Number.{be}
 use Rattle.number.specs.Part.{part}
 use Rattle.number.proofs.Parts.{length-part, get_or-part}
-use Rattle.normal.specs.BigEndian.{bytes_of}
-use Rattle.normal.proofs.Lengths.{length_bytes}
-use Rattle.normal.proofs.From.{From, From-whole, From-at, From-left, From-right, From-number}
+use Rattle.meaning.specs.Normal.BigEndian.{bytes_of}
+use Rattle.meaning.proofs.Normal.Lengths.{length_bytes}
+use Rattle.meaning.proofs.Normal.From.{From, From-whole, From-at, From-left, From-right, From-number}
 use Rattle.adopt.specs.Adopt.{head_bytes, moved_bytes}
 use Rattle.adopt.specs.Theorems.{Bytewise}
 use Rattle.adopt.proofs.Stored.{length_one, length_two, length_head, length_front, length_padded, length_moved}

@@ -10,8 +10,8 @@ use Rattle.number.specs.Number.{be}
 use Rattle.number.specs.Part.{part}
 use Rattle.number.proofs.Parts.{length-part, part_rest}
 use Rattle.decimal.proofs.Stores.{chain, snoc}
-use Rattle.normal.specs.BigEndian.{bytes_of}
-use Rattle.normal.proofs.Lengths.{length_bytes}
+use Rattle.meaning.specs.Normal.BigEndian.{bytes_of}
+use Rattle.meaning.proofs.Normal.Lengths.{length_bytes}
 use Rattle.writing.proofs.Copies.{lent_part}
 use Rattle.adopt.specs.Adopt.{head_bytes, moved_bytes}
 

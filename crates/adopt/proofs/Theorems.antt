@@ -1,5 +1,6 @@
 -- The theorems on adopting hold.
 -- Assumes nothing.
+use Rattle.std.specs.Prelude.{Ok}
 use mathlib.Core.Path.{◌≡◌, refl, sym, ap, ◌∙◌, subst}
 use mathlib.Core.Logic.{◌⊎◌, inl, inr}
 use mathlib.Core.List.{List, ◌++◌, append_assoc}
@@ -22,10 +23,9 @@ use Rattle.reader.specs.Records.{Bytes, ShowsText, ShowsNotes, NotesRule, ShowsT
 use Rattle.reader.specs.Rules.{EntriesRule}
 use Rattle.reader.specs.Reader.{decode}
 use Rattle.reader.specs.Reader.Laws.{accepted_shows, accepted_obeys, shown_accepted}
-use Rattle.normal.specs.BigEndian.{bytes_of}
-use Rattle.normal.proofs.Lengths.{length_bytes}
-use Rattle.normal.proofs.Numbers.{Bytes-read}
-use Rattle.joining.specs.declared.Normalised.TheVariants as normalised
+use Rattle.meaning.specs.Normal.BigEndian.{bytes_of}
+use Rattle.meaning.proofs.Normal.Lengths.{length_bytes}
+use Rattle.meaning.proofs.Normal.Numbers.{Bytes-read}
 use Rattle.joining.specs.Outcome.{Outcome, refused, written, refusal, in_room, after, normalised_as}
 use Rattle.genuine.specs.Start.{start_of}
 use Rattle.adopt.specs.Adopt.{gap_of, adopt_of, adopt_in, adopt_answer, adopt_buffer}
@@ -188,7 +188,7 @@ accepts = record {
 -- ---- answers and buffers
 
 -- the outcome that this answer tells
-wrote : (o : Outcome Refusal) (out : List ℕ) (n : ℕ) → normalised_as (in_room refusal (length out) o) ≡ normalised.Written n
+wrote : (o : Outcome Refusal) (out : List ℕ) (n : ℕ) → normalised_as (in_room refusal (length out) o) ≡ Ok n
     → (b : List ℕ) × (o ≡ written b) × (length b ≡ n) × (length b ≤ length out) × (after (in_room refusal (length out) o) out ≡ sets out 0 b)
 unfolding normalised_as in_room after
 wrote (refused x) out n = λ h. absurd (let z : ◌≡◌ {A = ℕ} 0 1 = cc in omega arith)
@@ -197,7 +197,7 @@ wrote (written b) out n = both P (length out <? length b) (refused (refusal 27 (
     (λ t h. (b, refl, cc, from_not_lt (length out) (length b) t, refl))
   where
     P : Outcome Refusal → Type 0
-    P p = normalised_as p ≡ normalised.Written n → (c : List ℕ) × (◌≡◌ {A = Outcome Refusal} (written b) (written c)) × (length c ≡ n) × (length c ≤ length out) × (after p out ≡ sets out 0 c)
+    P p = normalised_as p ≡ Ok n → (c : List ℕ) × (◌≡◌ {A = Outcome Refusal} (written b) (written c)) × (length c ≡ n) × (length c ≤ length out) × (after p out ≡ sets out 0 c)
 
 pub left : Left
 unfolding adopt_answer adopt_buffer adopt_in

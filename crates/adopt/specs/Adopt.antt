@@ -1,7 +1,7 @@
 -- Typelibs as libxpt writes them: the directory offset counts from 1, and the directory follows the annotations at any alignment; all else is document
 -- 01's. What adopting such a file gives: its bytes in the published layout, the answer, and every byte of the output buffer.
 -- Assumes nothing.
-use Rattle.std.specs.Prelude.{List, ◌++◌, ℕ, ◌+◌, ◌-◌, ◌%◌, length, take, drop, replicate}
+use Rattle.std.specs.Prelude.{List, ◌++◌, ℕ, ◌+◌, ◌-◌, ◌%◌, length, take, drop, replicate, Result}
 use Rattle.number.specs.Limits.{file_limit}
 use Rattle.number.specs.Choice.{when◌then◌else◌, ◌<?◌, ◌=?◌, ◌≠?◌}
 use Rattle.number.specs.Number.{be}
@@ -11,8 +11,7 @@ use Rattle.reading.specs.declared.Refusal.{Refusal}
 use Rattle.head.specs.declared.Header.{Header}
 use Rattle.head.specs.Header.{read_header}
 use Rattle.genuine.specs.Start.{start_of, misplaced_start}
-use Rattle.normal.specs.BigEndian.{bytes_of}
-use Rattle.joining.specs.declared.Normalised.{Normalised}
+use Rattle.meaning.specs.Normal.BigEndian.{bytes_of}
 use Rattle.joining.specs.Outcome.{Outcome, refused, written, refusal, in_room, after, normalised_as}
 
 -- the zero bytes from d to the next multiple of 4
@@ -53,7 +52,7 @@ unfoldable pub adopt_in : ℕ → List ℕ → Outcome Refusal
 adopt_in room s = in_room refusal room (adopt_of s (read_header s))
 
 -- the answer, and the buffer afterwards
-unfoldable pub adopt_answer : List ℕ → List ℕ → Normalised
+unfoldable pub adopt_answer : List ℕ → List ℕ → Result ℕ Refusal
 adopt_answer s out = normalised_as (adopt_in (length out) s)
 
 unfoldable pub adopt_buffer : List ℕ → List ℕ → List ℕ

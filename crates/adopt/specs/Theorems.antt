@@ -1,6 +1,6 @@
 -- Theorems on what adopting a file gives. `s` is the file as libxpt wrote it, whose directory starts at its field less 1; `b` is what is written for it.
 -- Assumes nothing.
-use Rattle.std.specs.Prelude.{◌≡◌, ◌⊎◌, ◌↔◌, List, ℕ, ◌+◌, ◌%◌, ◌≤◌, ◌<◌, length, get_or, take}
+use Rattle.std.specs.Prelude.{◌≡◌, ◌⊎◌, ◌↔◌, List, ℕ, ◌+◌, ◌%◌, ◌≤◌, ◌<◌, length, get_or, take, Ok}
 use Rattle.std.proofs.lemmas.List.Edits.{sets}
 use Rattle.number.specs.Number.{be}
 use Rattle.reading.specs.Got.{got}
@@ -9,8 +9,7 @@ use Rattle.reader.specs.Values.{Header, Annotation, Entry, Typelib, typelib}
 use Rattle.reader.specs.Records.{Bytes, ShowsText, ShowsNotes, NotesRule, ShowsTypelib, pool_of}
 use Rattle.reader.specs.Rules.{EntriesRule, PositionRule}
 use Rattle.reader.specs.Reader.{decode}
-use Rattle.normal.specs.BigEndian.{bytes_of}
-use Rattle.joining.specs.declared.Normalised.TheVariants as normalised
+use Rattle.meaning.specs.Normal.BigEndian.{bytes_of}
 use Rattle.joining.specs.Outcome.{written}
 use Rattle.genuine.specs.Start.{start_of}
 use Rattle.adopt.specs.Adopt.{gap_of, adopt_of, adopt_answer, adopt_buffer}
@@ -81,4 +80,4 @@ pub record Accepts : Type 0 where
 
 -- an answer n says that the first n bytes of the buffer are such a b
 abbrev pub Left : Type 0
-Left = (s out : List ℕ) (n : ℕ) → adopt_answer s out ≡ normalised.Written n → (length (take n (adopt_buffer s out)) ≡ n) × Adopts s (take n (adopt_buffer s out))
+Left = (s out : List ℕ) (n : ℕ) → adopt_answer s out ≡ Ok n → (length (take n (adopt_buffer s out)) ≡ n) × Adopts s (take n (adopt_buffer s out))

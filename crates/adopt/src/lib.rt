@@ -1,4 +1,4 @@
-// Typelibs as libxpt writes them, moved into the published layout.
+//! Typelibs as libxpt writes them, moved into the published layout.
 #![tactic(auto)]
 
 ghost use Rattle.std.specs.Prelude.{◌≡◌, ◌+◌, ◌≤◌, ◌<◌, length, replicate};
@@ -10,20 +10,16 @@ ghost use Rattle.joining.specs.Outcome.{refusal, in_room, after, normalised_as};
 ghost use Rattle.genuine.specs.Headed.{Headed};
 ghost use Rattle.adopt.specs.Adopt.{head_bytes, moved_bytes, fitted, moved_of, adopt_answer, adopt_buffer};
 
-use head::Head;
-use joining::Normalised;
 use number::{ENTRY_WIDTH, FILE_LIMIT};
-use reading::Refusal;
+use reading::{Refusal, Rule};
 
 // n zero bytes from `at` on.
 fn put_zeros(out: &mut [u8], at: usize, n: usize)
     requires { at + n ≤ length out.old }
     ensures { out.new ≡ sets out.old at (replicate n 0) }
 {
-    let mut i: usize = 0;
-    while i < n {
+    for i in 0..n {
         out[at + i] = 0;
-        i += 1;
     }
 }
 
@@ -51,26 +47,29 @@ fn put_moved(file: &[u8], cut: usize, z: usize, directory: usize, out: &mut [u8]
 }
 
 // 26, 27, or that file.
-fn put_fitted(file: &[u8], cut: usize, z: usize, directory: usize, out: &mut [u8]) -> Normalised
+fn put_fitted(
+    file: &[u8],
+    cut: usize,
+    z: usize,
+    directory: usize,
+    out: &mut [u8],
+) -> Result<usize, Refusal>
     requires { (32 ≤ cut) × (cut ≤ length file.now) × (length file.now ≤ file_limit) × (z ≤ 3) × (be 4 file.now 28 ≤ length file.now) × (directory ≤ file_limit) }
     ensures { (result ≡ normalised_as (in_room refusal (length out.old) (fitted (moved_bytes file.now cut z directory)))) × (out.new ≡ after (in_room refusal (length out.old) (fitted (moved_bytes file.now cut z directory))) out.old) }
 {
     let size = file.len() + z;
     if FILE_LIMIT < size {
-        return Normalised::Refused(Refusal { no: 26, place: 0 });
+        return Err(Rule::OutputLimit.at(0));
     }
     if out.len() < size {
-        return Normalised::Refused(Refusal {
-            no: 27,
-            place: size,
-        });
+        return Err(Rule::Room.at(size));
     }
     put_moved(file, cut, z, directory, out);
-    Normalised::Written(size)
+    Ok(size)
 }
 
 // A file whose header has no fault but that of its directory.
-fn adopt_headed(file: &[u8], out: &mut [u8]) -> Normalised
+fn adopt_headed(file: &[u8], out: &mut [u8]) -> Result<usize, Refusal>
     requires { Headed file.now }
     ensures { (result ≡ normalised_as (in_room refusal (length out.old) (moved_of file.now))) × (out.new ≡ after (in_room refusal (length out.old) (moved_of file.now)) out.old) }
 {
@@ -81,28 +80,28 @@ fn adopt_headed(file: &[u8], out: &mut [u8]) -> Normalised
         return put_fitted(file, 32, 0, 0, out);
     }
     if field <= 33 {
-        return Normalised::Refused(Refusal { no: 8, place: 24 });
+        return Err(Rule::Positions.at(24));
     }
     let start = field - 1;
     if pool < start + ENTRY_WIDTH * n {
-        return Normalised::Refused(Refusal { no: 8, place: 24 });
+        return Err(Rule::Positions.at(24));
     }
     let z = (4 - start % 4) % 4;
     put_fitted(file, start, z, start + z, out)
 }
 
-// A file in the published layout into `out`, where its directory offset counts from 1.
-pub fn adopt(file: &[u8], out: &mut [u8]) -> Normalised
+/// A file in the published layout into `out`, where its directory offset counts from 1.
+pub fn adopt(file: &[u8], out: &mut [u8]) -> Result<usize, Refusal>
     ensures { (result ≡ adopt_answer file.now out.old) × (out.new ≡ adopt_buffer file.now out.old) × Bytes file.now }
 {
     match head::read_header(file) {
-        Head::Read(h) => adopt_headed(file, out),
-        Head::Refused(why) => {
+        Ok(_) => adopt_headed(file, out),
+        Err(why) => {
             if why.no != 8 {
-                return Normalised::Refused(why);
+                return Err(why);
             }
             if why.place != 24 {
-                return Normalised::Refused(why);
+                return Err(why);
             }
             adopt_headed(file, out)
         }

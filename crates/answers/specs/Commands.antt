@@ -1,12 +1,12 @@
 -- What each command says. A mistake in a word comes before the file's refusal, since such a line is no question; of several the leftmost word's is given.
 -- Assumes nothing.
-use Rattle.std.specs.Prelude.{List, [], ◌∷◌, ℕ}
+use Rattle.std.specs.Prelude.{List, [], ◌∷◌, ℕ, Err, Ok, Result}
 use Rattle.number.specs.Choice.{when◌then◌else◌}
 use Rattle.key.specs.Word.{same_word}
-use Rattle.words.specs.declared.Number.{Number}
-use Rattle.words.specs.declared.Number.TheVariants.{Is, NotDecimal, TooLarge}
-use Rattle.words.specs.declared.Hex.{Hex}
-use Rattle.words.specs.declared.Hex.TheVariants.{Whole, OtherLength, NotHex}
+use Rattle.words.specs.declared.NumberError.{NumberError}
+use Rattle.words.specs.declared.NumberError.TheVariants.{NotDecimal, TooLarge}
+use Rattle.words.specs.declared.HexError.{HexError}
+use Rattle.words.specs.declared.HexError.TheVariants.{OtherLength, NotHex}
 use Rattle.words.specs.Numbers.{number_of}
 use Rattle.words.specs.Digits.{hex_of, bytes_of}
 use Rattle.guids.specs.Forms.{plain_of}
@@ -33,16 +33,16 @@ abbrev pub plain : List ℕ
 plain = 112 ∷ 108 ∷ 97 ∷ 105 ∷ 110 ∷ []
 
 -- a word that is an index
-unfoldable pub with_index : Number → (ℕ → Saying) → Saying
-with_index (Is i) ask = ask i
-with_index NotDecimal ask = mistaken (not_decimal_mistake the_index)
-with_index TooLarge ask = mistaken (too_large_mistake the_index)
+unfoldable pub with_index : Result ℕ NumberError → (ℕ → Saying) → Saying
+with_index (Ok i) ask = ask i
+with_index (Err NotDecimal) ask = mistaken (not_decimal_mistake the_index)
+with_index (Err TooLarge) ask = mistaken (too_large_mistake the_index)
 
 -- a word that is a slot
-unfoldable pub with_slot : Number → (ℕ → Saying) → Saying
-with_slot (Is k) ask = ask k
-with_slot NotDecimal ask = mistaken (not_decimal_mistake the_slot)
-with_slot TooLarge ask = mistaken (too_large_mistake the_slot)
+unfoldable pub with_slot : Result ℕ NumberError → (ℕ → Saying) → Saying
+with_slot (Ok k) ask = ask k
+with_slot (Err NotDecimal) ask = mistaken (not_decimal_mistake the_slot)
+with_slot (Err TooLarge) ask = mistaken (too_large_mistake the_slot)
 
 -- a word that is a kind
 unfoldable pub with_kind : List ℕ → (Kind → Saying) → Saying
@@ -53,10 +53,10 @@ with_kind w ask =
     mistaken kind_mistake
 
 -- a word of hexadecimal digits in pairs; with another number of them than 32 it is a question, which is malformed
-unfoldable pub with_hex : Hex → Saying → Saying
-with_hex Whole asked = asked
-with_hex OtherLength asked = asked
-with_hex NotHex asked = mistaken iid_mistake
+unfoldable pub with_hex : Result Unit HexError → Saying → Saying
+with_hex (Ok tt) asked = asked
+with_hex (Err OtherLength) asked = asked
+with_hex (Err NotHex) asked = mistaken iid_mistake
 
 -- a word that is a namespace: `-` is the default, which has no bytes
 unfoldable pub space_of : List ℕ → List ℕ

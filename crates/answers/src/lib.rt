@@ -1,4 +1,4 @@
-// The line that answers each command about a file, at the front of a buffer.
+//! The line that answers each command about a file, at the front of a buffer.
 #![tactic(auto)]
 
 ghost use Rattle.said.specs.Saying.{Says};
@@ -9,17 +9,16 @@ ghost use Rattle.lookup.specs.Question.{ask_method, ask_slot};
 ghost use Rattle.words.specs.Numbers.{number_of};
 
 use lookup::Kind;
-use reading::Verdict;
 use said::{ANSWER_ROOM, Said};
-use words::{Hex, Number};
+use words::{HexError, NumberError};
 
-// The check of a file.
+/// The check of a file.
 pub fn check(file: &[u8], line: &mut [u8; ANSWER_ROOM]) -> Said
     ensures { Says (check_saying file.now) line.old result line.new }
 {
     match reader::check(file) {
-        Verdict::Accepted(n) => said::numbered(b"accepted ", n as u64, line),
-        Verdict::Refused(why) => said::refused(why, line),
+        Ok(n) => said::numbered(b"accepted ", n as u64, line),
+        Err(why) => said::refused(why, line),
     }
 }
 
@@ -29,13 +28,19 @@ fn of_digits(file: &[u8], hex: &[u8], line: &mut [u8; ANSWER_ROOM]) -> Said
 {
     let mut bytes = [0u8; 16];
     match words::iid_bytes(hex, &mut bytes) {
-        Hex::Whole => sayings::interface(lookup::interface_by_iid(file, &bytes), line),
-        Hex::OtherLength => sayings::interface(lookup::interface_by_iid(file, &hex[0..0]), line),
-        Hex::NotHex => said::mistake(b"error the IID is not hexadecimal digits in pairs\n", line),
+        Ok(()) => sayings::interface(lookup::interface_by_iid(file, &bytes), line),
+        Err(HexError::OtherLength) => sayings::interface(
+            lookup::interface_by_iid(file, &hex[0..0]),
+            line,
+        ),
+        Err(HexError::NotHex) => said::mistake(
+            b"error the IID is not hexadecimal digits in pairs\n",
+            line,
+        ),
     }
 }
 
-// Interface by IID: its digits, or these with hyphens, bare or in braces.
+/// Interface by IID: its digits, or these with hyphens, bare or in braces.
 pub fn iid(file: &[u8], hex: &[u8], line: &mut [u8; ANSWER_ROOM]) -> Said
     ensures { Says (iid_saying file.now hex.now) line.old result line.new }
 {
@@ -52,12 +57,15 @@ fn counted(file: &[u8], hex: &[u8], line: &mut [u8; ANSWER_ROOM]) -> Said
 {
     let mut bytes = [0u8; 16];
     match words::iid_bytes(hex, &mut bytes) {
-        Hex::Whole => sayings::counted(lookup::interface_by_iid_counted(file, &bytes), line),
-        Hex::OtherLength => sayings::counted(
+        Ok(()) => sayings::counted(lookup::interface_by_iid_counted(file, &bytes), line),
+        Err(HexError::OtherLength) => sayings::counted(
             lookup::interface_by_iid_counted(file, &hex[0..0]),
             line,
         ),
-        Hex::NotHex => said::mistake(b"error the IID is not hexadecimal digits in pairs\n", line),
+        Err(HexError::NotHex) => said::mistake(
+            b"error the IID is not hexadecimal digits in pairs\n",
+            line,
+        ),
     }
 }
 
@@ -71,7 +79,7 @@ pub fn looks(file: &[u8], hex: &[u8], line: &mut [u8; ANSWER_ROOM]) -> Said
     counted(file, hex, line)
 }
 
-// Interface by key; `-` is the default namespace, and so is an empty word.
+/// Interface by key; `-` is the default namespace, and so is an empty word.
 pub fn key(file: &[u8], space: &[u8], name: &[u8], line: &mut [u8; ANSWER_ROOM]) -> Said
     ensures { Says (key_saying file.now space.now name.now) line.old result line.new }
 {
@@ -103,7 +111,7 @@ fn of_kind(file: &[u8], index: u64, name: &[u8], kind: &[u8], line: &mut [u8; AN
     said::mistake(b"error the kind is not getter, setter or plain\n", line)
 }
 
-// Method by index, name and kind: `getter`, `setter` or `plain`.
+/// Method by index, name and kind: `getter`, `setter` or `plain`.
 pub fn method(
     file: &[u8],
     index: &[u8],
@@ -114,9 +122,9 @@ pub fn method(
     ensures { Says (method_saying file.now index.now name.now kind.now) line.old result line.new }
 {
     match words::number_of(index) {
-        Number::Is(i) => of_kind(file, i, name, kind, line),
-        Number::NotDecimal => said::index_not_decimal(line),
-        Number::TooLarge => said::index_too_large(line),
+        Ok(i) => of_kind(file, i, name, kind, line),
+        Err(NumberError::NotDecimal) => said::index_not_decimal(line),
+        Err(NumberError::TooLarge) => said::index_too_large(line),
     }
 }
 
@@ -125,30 +133,30 @@ fn in_slot(file: &[u8], index: u64, slot: &[u8], line: &mut [u8; ANSWER_ROOM]) -
     ensures { Says (with_slot (number_of slot.now) (λ k. say_method (ask_slot (decode file.now) index k))) line.old result line.new }
 {
     match words::number_of(slot) {
-        Number::Is(k) => sayings::method(lookup::method_by_slot(file, index, k), line),
-        Number::NotDecimal => said::mistake(b"error the slot is not decimal\n", line),
-        Number::TooLarge => said::mistake(b"error the slot does not fit 64 bits\n", line),
+        Ok(k) => sayings::method(lookup::method_by_slot(file, index, k), line),
+        Err(NumberError::NotDecimal) => said::mistake(b"error the slot is not decimal\n", line),
+        Err(NumberError::TooLarge) => said::mistake(b"error the slot does not fit 64 bits\n", line),
     }
 }
 
-// Method by index and slot.
+/// Method by index and slot.
 pub fn slot(file: &[u8], index: &[u8], slot: &[u8], line: &mut [u8; ANSWER_ROOM]) -> Said
     ensures { Says (slot_saying file.now index.now slot.now) line.old result line.new }
 {
     match words::number_of(index) {
-        Number::Is(i) => in_slot(file, i, slot, line),
-        Number::NotDecimal => said::index_not_decimal(line),
-        Number::TooLarge => said::index_too_large(line),
+        Ok(i) => in_slot(file, i, slot, line),
+        Err(NumberError::NotDecimal) => said::index_not_decimal(line),
+        Err(NumberError::TooLarge) => said::index_too_large(line),
     }
 }
 
-// Constant by index and name.
+/// Constant by index and name.
 pub fn constant(file: &[u8], index: &[u8], name: &[u8], line: &mut [u8; ANSWER_ROOM]) -> Said
     ensures { Says (constant_saying file.now index.now name.now) line.old result line.new }
 {
     match words::number_of(index) {
-        Number::Is(i) => sayings::constant(lookup::constant_by_name(file, i, name), line),
-        Number::NotDecimal => said::index_not_decimal(line),
-        Number::TooLarge => said::index_too_large(line),
+        Ok(i) => sayings::constant(lookup::constant_by_name(file, i, name), line),
+        Err(NumberError::NotDecimal) => said::index_not_decimal(line),
+        Err(NumberError::TooLarge) => said::index_too_large(line),
     }
 }

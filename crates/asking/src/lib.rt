@@ -1,4 +1,4 @@
-// What the arguments ask for: a command, a batch of them, or what is told without a file.
+//! What the arguments ask for: a command, a batch of them, or what is told without a file.
 #![tactic(auto)]
 
 ghost use Rattle.std.specs.Prelude.{◌≤◌};
@@ -17,7 +17,7 @@ fn put(text: &[u8; ROOM], n: usize)
     streams::write(&all[..n]);
 }
 
-// Whether there is a command to run or a batch of them, and the length of the command's words.
+/// Whether there is a command to run or a batch of them, and the length of the command's words.
 #[derive(Drop)]
 pub struct Work {
     pub is_asked: bool,
@@ -57,7 +57,7 @@ fn put_help_of(input: &[u8; INPUT_ROOM], k: usize, text: &mut [u8; ROOM]) -> usi
     manual::help_of(verbs::verb_of(&all[..k]), text)
 }
 
-// What the arguments ask for; what needs no file is answered here.
+/// What the arguments ask for; what needs no file is answered here.
 pub fn find_work(rt: &HostRuntime, input: &mut [u8; INPUT_ROOM], text: &mut [u8; ROOM]) -> Work
     ensures { result.length ≤ input_room }
 {

@@ -1,5 +1,6 @@
 -- What matches no question is none; what is told of a file that was read, and of one that cannot be.
 -- Assumes nothing.
+use Rattle.std.specs.Prelude.{None, Option, Some}
 use mathlib.Core.Path.{◌≡◌, refl, subst}
 use mathlib.Core.Bool.{Bool, true, false}
 use mathlib.Core.List.{List, []}
@@ -21,8 +22,6 @@ use Rattle.told.specs.declared.Told.{Told}
 use Rattle.streams.specs.Printed.{Printed, Front}
 use Rattle.told.specs.Tells.{Tells}
 use Rattle.told.proofs.PrintLaws.{Tells-as, told_or_gone}
-use Rattle.asks.specs.declared.Answered.{Answered}
-use Rattle.asks.specs.declared.Answered.TheVariants.{Here, Elsewhere}
 use Rattle.asks.specs.Asked.{is_question, is_asked, is_here, name_in, answer_text, Replied, unread, Took, TookIf}
 
 pub other_verb : (v : Verb) → ((q : Question) → v ≡ verb.Ask q → ⊥) → is_question v ≡ false
@@ -51,12 +50,12 @@ pub Unread-told : (line : List ℕ) (e d : ℤ) (t : Told) → d ≡ e → Unrea
 unfolding name_in
 Unread-told line e d t same u p = Tells-as (Printed (unread_text (name_in line) d)) (Replied line) t (λ q. unread e u (subst (λ (i : ℤ). Printed (unread_text (name_in line) i)) same q)) p
 
-pub Took-here : (line : List ℕ) (b : Bool) (r : Answered) (t : Told) → r ≡ Here t → (is_here r ≡ b) × Took line r → (true ≡ b) × TookIf line true
+pub Took-here : (line : List ℕ) (b : Bool) (r : Option Told) (t : Told) → r ≡ Some t → (is_here r ≡ b) × Took line r → (true ≡ b) × TookIf line true
 unfolding is_here
 Took-here line b r t e p =
-    let q = subst (λ (x : Answered). (is_here x ≡ b) × Took line x) e p in
+    let q = subst (λ (x : Option Told). (is_here x ≡ b) × Took line x) e p in
     (q.0, told_or_gone (Replied line) t q.1)
 
-pub Took-elsewhere : (line : List ℕ) (b : Bool) (r : Answered) → r ≡ Elsewhere → (is_here r ≡ b) × Took line r → (false ≡ b) × TookIf line false
+pub Took-elsewhere : (line : List ℕ) (b : Bool) (r : Option Told) → r ≡ None → (is_here r ≡ b) × Took line r → (false ≡ b) × TookIf line false
 unfolding is_here
-Took-elsewhere line b r e p = (subst (λ (x : Answered). is_here x ≡ b) e p.0, tt)
+Took-elsewhere line b r e p = (subst (λ (x : Option Told). is_here x ≡ b) e p.0, tt)

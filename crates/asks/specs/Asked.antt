@@ -1,6 +1,7 @@
 -- A question that the arguments ask, and what standard output gets for it.
 -- Assumes nothing.
-use Rattle.std.specs.Prelude.{◌≡◌, Bool, true, false, ◌⊎◌, List, [], ℕ, ℤ}
+use Rattle.told.specs.declared.Told.{Told}
+use Rattle.std.specs.Prelude.{◌≡◌, Bool, true, false, ◌⊎◌, List, [], ℕ, ℤ, None, Option, Some}
 use Rattle.words.specs.Words.{words_of}
 use Rattle.verbs.specs.declared.Question.{Question}
 use Rattle.verbs.specs.declared.Verb.{Verb}
@@ -14,8 +15,6 @@ use Rattle.number.specs.Limits.{file_most}
 use Rattle.input.specs.File.{Unread, FirstBytes}
 use Rattle.streams.specs.Printed.{Printed, OutputGone}
 use Rattle.told.specs.Tells.{Tells}
-use Rattle.asks.specs.declared.Answered.{Answered}
-use Rattle.asks.specs.declared.Answered.TheVariants.{Here, Elsewhere}
 
 -- room for a short file
 abbrev pub short_room : ℕ
@@ -43,9 +42,9 @@ is_asked (Pile n) = false
 is_asked (Types m q) = false
 
 -- `asks` took it, and no session is to
-unfoldable pub is_here : Answered → Bool
-is_here (Here t) = true
-is_here Elsewhere = false
+unfoldable pub is_here : Option Told → Bool
+is_here (Some t) = true
+is_here None = false
 
 -- the name of the file
 unfoldable pub name_in : List ℕ → List ℕ
@@ -61,9 +60,9 @@ pub data Replied (line : List ℕ) : Type 0 where
   unread : (e : ℤ) → Unread (name_in line) e → Printed (unread_text (name_in line) e) → Replied line
 
 -- a line that was taken was replied to, unless standard output took no more
-abbrev pub Took : List ℕ → Answered → Type 0
-Took line (Here t) = Tells (Replied line) t
-Took line Elsewhere = Unit {0}
+abbrev pub Took : List ℕ → Option Told → Type 0
+Took line (Some t) = Tells (Replied line) t
+Took line None = Unit {0}
 
 -- the same, where no more is known than whether it was taken
 abbrev pub TookIf : List ℕ → Bool → Type 0

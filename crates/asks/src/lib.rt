@@ -1,5 +1,5 @@
-// A question about one file, asked by the arguments, whose words are parted by zero bytes. It needs none of a session's buffers: to clear them takes longer than
-// to answer from a short file, which has a small one.
+//! A question about one file, asked by the arguments, whose words are parted by zero bytes. It needs none of a session's buffers: to clear them takes longer than
+//! to answer from a short file, which has a small one.
 #![tactic(auto)]
 
 ghost use Rattle.std.specs.Prelude.{◌≡◌, true, List, ℕ, ◌≤◌, length};
@@ -13,7 +13,7 @@ ghost use Rattle.told.specs.Tells.{Tells, is_open};
 ghost use Rattle.asks.specs.Asked.{short_room, Asks, is_asked, is_here, name_in, Replied, Took};
 
 use failures::ROOM;
-use input::{Begun, Came, Source};
+use input::{Begun, Source};
 use number::FILE_MOST;
 use said::{ANSWER_ROOM, Said, Why};
 use tasks::Task;
@@ -23,14 +23,7 @@ use verbs::{Question, Verb};
 // A file with fewer bytes is short, as nearly every typelib is.
 const SHORT: usize = 65536;
 
-// What standard output got, or that the line is no such question.
-#[derive(Drop)]
-pub enum Answered {
-    Here(Told),
-    Elsewhere,
-}
-
-// The line that answers it from the file's bytes: that of a session.
+/// The line that answers it from the file's bytes: that of a session.
 pub fn answer(line: &[u8], question: Question, file: &[u8], head: &mut [u8; ANSWER_ROOM]) -> Said
     requires { Asks question line.now }
     ensures { (second out : List ℕ) → Says (answer_of 0 line.now file.now second out).saying head.old result head.new }
@@ -100,8 +93,8 @@ fn answer_long(
     ensures { Tells (Replied line.now) result }
 {
     match input::go_on(source, front, long) {
-        Came::Failed(error) => say_unread(line, error, text),
-        Came::To(end) => {
+        Err(error) => say_unread(line, error, text),
+        Ok(end) => {
             let all: &[u8] = long;
             say_answer(line, question, &all[..end], head, text)
         }
@@ -139,13 +132,13 @@ fn answer_short(
     ensures { Tells (Replied line.now) result }
 {
     match input::begin(rt, path, short) {
-        Begun::Failed(error) => say_unread(line, error, text),
-        Begun::Full(source) => {
+        Err(error) => say_unread(line, error, text),
+        Ok(Begun::Full(source)) => {
             let told = ask_long(&source, line, question, short, text);
             input::close(source);
             told
         }
-        Begun::Whole(n) => {
+        Ok(Begun::Whole(n)) => {
             let all: &[u8] = short;
             say_answer(line, question, &all[..n], head, text)
         }
@@ -196,16 +189,16 @@ fn ask_file(rt: &HostRuntime, line: &[u8], question: Question, text: &mut [u8; R
     ask_named(rt, &line[from..end], line, question, text)
 }
 
-// The question of the line, where it is one.
-pub fn run(rt: &HostRuntime, line: &[u8], text: &mut [u8; ROOM]) -> Answered
+/// The question of the line, where it is one.
+pub fn run(rt: &HostRuntime, line: &[u8], text: &mut [u8; ROOM]) -> Option<Told>
     requires { length line.now ≤ word_limit }
     ensures { (is_here result ≡ is_asked (task_of 0 line.now)) × Took line.now result }
 {
     match tasks::task_of(line, 0) {
         Task::Run(verb) => match verb {
-            Verb::Ask(question) => Answered::Here(ask_file(rt, line, question, text)),
-            _ => Answered::Elsewhere,
+            Verb::Ask(question) => Some(ask_file(rt, line, question, text)),
+            _ => None,
         },
-        _ => Answered::Elsewhere,
+        _ => None,
     }
 }

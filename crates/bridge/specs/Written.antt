@@ -7,7 +7,7 @@ use Rattle.key.specs.Key.{Key}
 use Rattle.reader.specs.Values.{Descriptor, Entry, entry}
 use Rattle.reader.specs.Rules.{EntriesRule}
 use Rattle.meaning.specs.Meaning.{map_own}
-use Rattle.facts.specs.Equal.{same_descriptor}
+use Rattle.meaning.specs.Facts.Equal.{same_descriptor}
 use Rattle.rows.specs.Rows.{key_of_row, iid_of_row, descriptor_of_row, reference_in}
 use Rattle.iids.specs.Joined.{holder, joined}
 use Rattle.tables.specs.Tables.{Mates}

@@ -8,12 +8,11 @@ ghost use Rattle.method.specs.Method.{read_method};
 ghost use Rattle.broken.specs.Stop.{stop_of};
 ghost use Rattle.broken.specs.Rule.{position_rule, stop_rule, signature_rule, method_rule, member_rule, table_rule, descriptor_rule, own_rule};
 
-use method::walk::Fine;
 use number::OWN_LIMIT;
-use reading::{Context, Step};
+use reading::Context;
 
 // Where the reading of records in turn stops: how many are read, and the position of the first that is refused, or behind the last.
-#[derive(Drop)]
+#[derive(Clone, Copy, Debug, PartialEq, Eq)]
 pub struct Stop {
     pub read: usize,
     pub at: usize,
@@ -43,17 +42,14 @@ fn argument_stop(pool: &[u8], c: Context, n: usize, at: usize) -> Stop
     requires { (at ≤ length pool.now) × (c.base + length pool.now ≤ file_limit) }
     ensures { result ≡ stop_of (read_param false c pool.now) n at }
 {
-    let mut k: usize = 0;
     let mut p = at;
-    while k < n {
-        let r = method::params::read_param(pool, c, false, p);
-        let Step::End(e) = r else {
+    for k in 0..n {
+        let Ok(e) = method::params::read_param(pool, c, false, p) else {
             return Stop { read: k, at: p };
         };
         p = e;
-        k += 1;
     }
-    Stop { read: k, at: p }
+    Stop { read: n, at: p }
 }
 
 // Where the reading of n methods stops.
@@ -61,17 +57,14 @@ fn method_stop(pool: &[u8], c: Context, n: usize, at: usize) -> Stop
     requires { (at ≤ length pool.now) × (c.base + length pool.now ≤ file_limit) }
     ensures { result ≡ stop_of (read_method c pool.now) n at }
 {
-    let mut k: usize = 0;
     let mut p = at;
-    while k < n {
-        let r = method::read_method(pool, c, p);
-        let Step::End(e) = r else {
+    for k in 0..n {
+        let Ok(e) = method::read_method(pool, c, p) else {
             return Stop { read: k, at: p };
         };
         p = e;
-        k += 1;
     }
-    Stop { read: k, at: p }
+    Stop { read: n, at: p }
 }
 
 // The rule of the parameter that the reading of n arguments stops at.
@@ -98,19 +91,19 @@ fn signature_rule(pool: &[u8], c: Context, n: usize, at: usize) -> u8
 {
     let mut table = [0u8; 256];
     let a = method::params::read_arguments(pool, c, n, at, &mut table);
-    let Step::End(mid) = a else {
+    let Ok(mid) = a else {
         return 0;
     };
     let b = method::params::read_param(pool, c, true, mid);
-    let Step::End(end) = b else {
+    let Ok(end) = b else {
         return 0;
     };
     if method::walk::wrong_arguments(pool, c, n, at, &table) {
         return 4;
     }
     match method::walk::outer_numbers(pool, c, mid + 1, n, &table) {
-        Fine::To(e) => 5,
-        Fine::Broken => 4,
+        Some(e) => 5,
+        None => 4,
     }
 }
 
@@ -151,7 +144,7 @@ fn table_rule(pool: &[u8], c: Context, n: usize, at: usize) -> u8
     let mut flags = [0u8; OWN_LIMIT];
     let mut names = [0u32; OWN_LIMIT];
     let r = method::read_methods(pool, c, n, at, &mut flags, &mut names);
-    let Step::End(e) = r else {
+    let Ok(e) = r else {
         return 0;
     };
     if descriptor::many_constructors(&flags, n) {

@@ -1,13 +1,18 @@
-// Methods asked for by the number of their kind.
+//! Methods asked for by the number of their kind.
 ghost use Rattle.std.specs.Prelude.{◌≡◌, ◌<◌};
 ghost use Rattle.reader.specs.Reader.{decode};
 ghost use Rattle.cabi.specs.Kind.{ask_kind};
 
-use lookup::{Kind, MethodAnswer};
-use reading::{Refusal, Verdict};
+use lookup::{FoundMethod, Kind, Search};
+use reading::{Refusal, Rule};
 
-// 0 getter, 1 setter, 2 plain; a question with another kind is malformed.
-pub fn method_of_kind(file: &[u8], index: u64, name: &[u8], kind: u64) -> MethodAnswer
+/// 0 getter, 1 setter, 2 plain; a question with another kind is malformed.
+pub fn method_of_kind(
+    file: &[u8],
+    index: u64,
+    name: &[u8],
+    kind: u64,
+) -> Result<Search<FoundMethod>, Refusal>
     ensures { result ≡ ask_kind (decode file.now) index name.now kind }
 {
     match kind {
@@ -18,12 +23,15 @@ pub fn method_of_kind(file: &[u8], index: u64, name: &[u8], kind: u64) -> Method
     }
 }
 
-fn of_no_kind(file: &[u8], index: u64, name: &[u8], kind: u64) -> MethodAnswer
+fn of_no_kind(
+    file: &[u8],
+    index: u64,
+    name: &[u8],
+    kind: u64,
+) -> Result<Search<FoundMethod>, Refusal>
     requires { 2 < kind }
     ensures { result ≡ ask_kind (decode file.now) index name.now kind }
 {
-    match reader::check(file) {
-        Verdict::Accepted(n) => MethodAnswer::Refused(Refusal { no: 20, place: 0 }),
-        Verdict::Refused(why) => MethodAnswer::Refused(why),
-    }
+    reader::check(file)?;
+    Err(Rule::Question.at(0))
 }

@@ -1,4 +1,4 @@
-// A pile of files for callers in C and Rust, who keep its two numbers between the calls. Where `answer` has too little room, no buffer is written either.
+//! A pile of files for callers in C and Rust, who keep its two numbers between the calls. Where `answer` has too little room, no buffer is written either.
 ghost use Rattle.std.specs.Prelude.{◌≡◌, ◌≤◌, length};
 ghost use Rattle.std.proofs.lemmas.List.Edits.{sets};
 ghost use Rattle.numbers.specs.Call.{room, Called, where_room};
@@ -6,7 +6,6 @@ ghost use Rattle.pile.specs.Pile.{answer_in, first_in, second_in, added, ended};
 ghost use Rattle.cabi.specs.Piles.{pile_refusal_numbers, pile_numbers};
 
 use crate::{ANSWERED, TOO_SHORT};
-use link::Linked;
 use pile::{Added, Pile, PileRefusal};
 
 fn put_pile_refusal(x: PileRefusal, answer: &mut [u64])
@@ -15,7 +14,7 @@ fn put_pile_refusal(x: PileRefusal, answer: &mut [u64])
 {
     let why = x.why;
     let step = x.step as u64;
-    outcomes::put_linked(Linked::Refused(why), answer);
+    outcomes::put_linked(Err(why), answer);
     answer[4] = step;
 }
 
@@ -38,7 +37,7 @@ fn put_added(a: Added, answer: &mut [u64])
     }
 }
 
-// One more file. Grown: 0, the number of files and the length of what they left; refused: 3, which, number, place and the link; 1 where 256 files are there.
+/// One more file. Grown: 0, the number of files and the length of what they left; refused: 3, which, number, place and the link; 1 where 256 files are there.
 #[unsafe(no_mangle)]
 pub extern "C" fn saniotka_pile_add(
     files: u64,
@@ -62,7 +61,7 @@ pub extern "C" fn saniotka_pile_add(
     ANSWERED
 }
 
-// After the last file. Answered as above.
+/// After the last file. Answered as above.
 #[unsafe(no_mangle)]
 pub extern "C" fn saniotka_pile_end(
     files: u64,

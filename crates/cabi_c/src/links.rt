@@ -1,11 +1,11 @@
-// Normalising, adopting and linking for callers in C and Rust. Where `answer` has too little room, `out` is not written either.
+//! Normalising, adopting and linking for callers in C and Rust. Where `answer` has too little room, `out` is not written either.
 ghost use Rattle.std.specs.Prelude.{◌≡◌};
 ghost use Rattle.adopt.specs.Adopt.{adopt_answer, adopt_buffer};
 ghost use Rattle.link.specs.Outcome.{normalise_answer, normalise_buffer, link_answer, link_buffer};
 ghost use Rattle.numbers.specs.Call.{Called, where_room};
 ghost use Rattle.outcomes.specs.Numbers.{normal_numbers, link_numbers};
 
-// The normal form of a file into `out`. Written: 0 and its length; refused: 3, number and place.
+/// The normal form of a file into `out`. Written: 0 and its length; refused: 3, number and place.
 #[unsafe(no_mangle)]
 pub extern "C" fn saniotka_normal(file: &[u8], out: &mut [u8], answer: &mut [u64]) -> i32
     ensures { Called (normal_numbers (normalise_answer file.now out.old)) answer.old result answer.new × (out.new ≡ where_room answer.old out.old (normalise_buffer file.now out.old)) }
@@ -13,7 +13,7 @@ pub extern "C" fn saniotka_normal(file: &[u8], out: &mut [u8], answer: &mut [u64
     cabi::saniotka_normal(file, out, answer)
 }
 
-// A file whose directory offset counts from 1, in the published layout, into `out`. Written: 0 and its length; refused: 3, number and place.
+/// A file whose directory offset counts from 1, in the published layout, into `out`. Written: 0 and its length; refused: 3, number and place.
 #[unsafe(no_mangle)]
 pub extern "C" fn saniotka_adopt(file: &[u8], out: &mut [u8], answer: &mut [u64]) -> i32
     ensures { Called (normal_numbers (adopt_answer file.now out.old)) answer.old result answer.new × (out.new ≡ where_room answer.old out.old (adopt_buffer file.now out.old)) }
@@ -21,7 +21,7 @@ pub extern "C" fn saniotka_adopt(file: &[u8], out: &mut [u8], answer: &mut [u64]
     cabi::saniotka_adopt(file, out, answer)
 }
 
-// The normal form of the union of two files into `out`. Refused: 3, which (1 or 2 for a file's own refusal, else 0), number and place.
+/// The normal form of the union of two files into `out`. Refused: 3, which (1 or 2 for a file's own refusal, else 0), number and place.
 #[unsafe(no_mangle)]
 pub extern "C" fn saniotka_link(
     first: &[u8],

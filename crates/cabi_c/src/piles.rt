@@ -1,10 +1,10 @@
-// A pile of files for callers in C and Rust, who keep its two numbers between the calls. Where `answer` has too little room, no buffer is written either.
+//! A pile of files for callers in C and Rust, who keep its two numbers between the calls. Where `answer` has too little room, no buffer is written either.
 ghost use Rattle.std.specs.Prelude.{◌≡◌, length};
 ghost use Rattle.numbers.specs.Call.{Called, where_room};
 ghost use Rattle.pile.specs.Pile.{answer_in, first_in, second_in, added, ended};
 ghost use Rattle.cabi.specs.Piles.{pile_numbers};
 
-// One more file. Grown: 0, the number of files and the length of what they left; refused: 3, which, number, place and the link; 1 where 256 files are there.
+/// One more file. Grown: 0, the number of files and the length of what they left; refused: 3, which, number, place and the link; 1 where 256 files are there.
 #[unsafe(no_mangle)]
 pub extern "C" fn saniotka_pile_add(
     files: u64,
@@ -19,7 +19,7 @@ pub extern "C" fn saniotka_pile_add(
     cabi::saniotka_pile_add(files, length, file, one, other, answer)
 }
 
-// After the last file. Answered as above.
+/// After the last file. Answered as above.
 #[unsafe(no_mangle)]
 pub extern "C" fn saniotka_pile_end(
     files: u64,

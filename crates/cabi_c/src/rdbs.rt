@@ -1,9 +1,9 @@
-// A types.rdb for callers in C and Rust: its check, an entity and a constant by path, each by the number of the reading.
+//! A types.rdb for callers in C and Rust: its check, an entity and a constant by path, each by the number of the reading.
 ghost use Rattle.numbers.specs.Call.{Called};
 ghost use Rattle.numbers.specs.Numbers.{verdict_numbers};
 ghost use Rattle.rdb_numbers.specs.Numbers.{check_by, entity_by, constant_by, entity_numbers, constant_numbers};
 
-// The check: the refusal's number and its place, or 0 and the number of entries visited for an accepted file.
+/// The check: the refusal's number and its place, or 0 and the number of entries visited for an accepted file.
 #[unsafe(no_mangle)]
 pub extern "C" fn saniotka_rdb_check(file: &[u8], reading: u64, answer: &mut [u64]) -> i32
     ensures { Called (verdict_numbers (check_by reading file.now)) answer.old result answer.new }
@@ -11,7 +11,7 @@ pub extern "C" fn saniotka_rdb_check(file: &[u8], reading: u64, answer: &mut [u6
     cabi::saniotka_rdb_check(file, reading, answer)
 }
 
-// An entity by its dotted path. Found: its kind byte and offset.
+/// An entity by its dotted path. Found: its kind byte and offset.
 #[unsafe(no_mangle)]
 pub extern "C" fn saniotka_rdb_entity(
     file: &[u8],
@@ -24,7 +24,7 @@ pub extern "C" fn saniotka_rdb_entity(
     cabi::saniotka_rdb_entity(file, reading, path, answer)
 }
 
-// A constant by its dotted path. Found: its kind, 0 to 9, and the bits of its value, as stored.
+/// A constant by its dotted path. Found: its kind, 0 to 9, and the bits of its value, as stored.
 #[unsafe(no_mangle)]
 pub extern "C" fn saniotka_rdb_constant(
     file: &[u8],

@@ -1,7 +1,7 @@
-// Salvaging for callers in C and Rust. Where `answer` has too little room, neither `out` nor a list is written either.
+//! Salvaging for callers in C and Rust. Where `answer` has too little room, neither `out` nor a list is written either.
 ghost use Rattle.cabi.specs.Salvages.{SalvageCalled};
 
-// What is left of a damaged file into `out`, and of each entry that was changed index, number and place into the three lists. Written: 0, the length and how many entries were changed; refused: 3, number and place.
+/// What is left of a damaged file into `out`, and of each entry that was changed index, number and place into the three lists. Written: 0, the length and how many entries were changed; refused: 3, number and place.
 #[unsafe(no_mangle)]
 pub extern "C" fn saniotka_salvage(
     file: &[u8],

@@ -1,4 +1,4 @@
-// What was changed in what was salvaged, in words on standard error, by the report of a second salvage of the same file.
+//! What was changed in what was salvaged, in words on standard error, by the report of a second salvage of the same file.
 #![tactic(auto)]
 
 ghost use Rattle.std.specs.Prelude.{◌≤◌, length};
@@ -10,7 +10,6 @@ use failures::ROOM;
 use kept::{Kept, STORE_ROOM};
 use number::{ENTRY_LIMIT, FILE_LIMIT};
 use reading::Refusal;
-use salvage::Salvaged;
 use tasks::Task;
 use verbs::Verb;
 
@@ -59,7 +58,7 @@ fn say_reports(
     let mut numbers = [0u64; ENTRY_LIMIT];
     let mut places = [0u64; ENTRY_LIMIT];
     let salvaged = salvage::salvage_with(file, work, &mut indexes, &mut numbers, &mut places, out);
-    if let Salvaged::Written(left) = salvaged {
+    if let Ok(left) = salvaged {
         let n = left.changed;
         if n <= ENTRY_LIMIT {
             say_listed(name, file, &indexes, &numbers, &places, n, text);
@@ -67,7 +66,7 @@ fn say_reports(
     }
 }
 
-// What was changed in what was salvaged of the line's file, which leaves the same bytes in `out` again.
+/// What was changed in what was salvaged of the line's file, which leaves the same bytes in `out` again.
 pub fn say(
     line: &[u8],
     separator: u8,

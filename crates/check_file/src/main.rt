@@ -9,7 +9,6 @@ ghost use Rattle.text.specs.Line.{line_of};
 ghost use Rattle.number.specs.Limits.{file_most};
 ghost use Rattle.input.specs.File.{FirstBytes};
 
-use input::Came;
 use number::FILE_MOST;
 
 // The line of the file's verdict, made at the front of `line`; the answer is its length.
@@ -31,12 +30,12 @@ fn report(file: &[u8], line: &mut [u8; 64])
 // A failed read is no end of the input: nothing is judged then.
 fn run(rt: &HostRuntime, buf: &mut [u8; FILE_MOST]) {
     match input::read_input(rt, buf) {
-        Came::To(n) => {
+        Ok(n) => {
             let all: &[u8] = buf;
             let mut line = [0u8; 64];
             report(&all[..n], &mut line);
         }
-        Came::Failed(_) => {
+        Err(_) => {
             input::say_failed();
         }
     }

@@ -1,6 +1,6 @@
 -- The answer to a line: what standard output gets, every byte of the output buffer, and what of it is to be saved.
 -- Assumes nothing.
-use Rattle.std.specs.Prelude.{◌≡◌, Bool, List, [], ℕ}
+use Rattle.std.specs.Prelude.{◌≡◌, Bool, List, [], ℕ, None}
 use Rattle.words.specs.Words.{words_of, word_in}
 use Rattle.verbs.specs.declared.Verb.{Verb}
 use Rattle.verbs.specs.declared.Verb.TheVariants as verb
@@ -10,7 +10,6 @@ use Rattle.said.specs.Saying.{saying, mistaken}
 use Rattle.questions.specs.Lines.{asked_saying}
 use Rattle.rdb_questions.specs.Lines.{types_saying}
 use Rattle.link.specs.declared.Which.TheVariants.{First}
-use Rattle.made.specs.declared.Save.TheVariants.{Nothing}
 use Rattle.made.specs.declared.Made.{Made}
 use Rattle.made.specs.Made.{Answer, answered, normal_made, adopt_made, link_made, salvage_made}
 use Rattle.listed.specs.Text.{list_saying}
@@ -51,11 +50,11 @@ silence = record { length = 0; why = Answered }
 
 -- the reply of one line
 abbrev pub one_line : Said → Reply
-one_line said = record { said = said; rest = no_rest; whose = First; save = Nothing }
+one_line said = record { said = said; rest = no_rest; whose = First; save = None }
 
 -- the reply that begins with what was opened
 abbrev pub opened_reply : Begun → Reply
-opened_reply x = record { said = x.said; rest = x.rest; whose = First; save = Nothing }
+opened_reply x = record { said = x.said; rest = x.rest; whose = First; save = None }
 
 -- the reply of what was made
 abbrev pub made_reply : Made → Reply

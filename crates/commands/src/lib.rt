@@ -1,4 +1,4 @@
-// The answer to a line, from its bytes and those of the files that it names to the bytes of the text and of the output.
+//! The answer to a line, from its bytes and those of the files that it names to the bytes of the text and of the output.
 #![tactic(auto)]
 
 ghost use Rattle.std.specs.Prelude.{◌≡◌, List, ℕ};
@@ -8,20 +8,20 @@ ghost use Rattle.tasks.specs.Tasks.{in_batch};
 ghost use Rattle.commands.specs.Answer.{silence, one_line, opened_reply, made_reply, verb_answer, answer_of, Replies};
 
 use link::Which;
-use made::{Made, Save};
+use made::Made;
 use number::FILE_LIMIT;
 use said::{ANSWER_ROOM, Said, Why};
 use streamed::{Begun, Stream};
 use tasks::{Mistake, Task};
 use verbs::Verb;
 
-// What was put at the front of the text and why, what is left of the answer after it, of which file a refusal is, and what is to be saved.
+/// What was put at the front of the text and why, what is left of the answer after it, of which file a refusal is, and what is to be saved.
 #[derive(Drop)]
 pub struct Reply {
     pub said: Said,
     pub rest: Stream,
     pub whose: Which,
-    pub save: Save,
+    pub save: Option<usize>,
 }
 
 // Nothing is said.
@@ -42,7 +42,7 @@ fn answered(said: Said) -> Reply
         said,
         rest: streamed::no_rest(),
         whose: Which::First,
-        save: Save::Nothing,
+        save: None,
     }
 }
 
@@ -56,7 +56,7 @@ fn opened(begun: Begun) -> Reply
         said,
         rest,
         whose: Which::First,
-        save: Save::Nothing,
+        save: None,
     }
 }
 
@@ -126,7 +126,7 @@ fn run(
     }
 }
 
-// The answer to a line about the bytes of the file or files that it names, with room for a copy of one; a command that reads one file does not look at the second, and a pile is answered elsewhere (crate `piling`).
+/// The answer to a line about the bytes of the file or files that it names, with room for a copy of one; a command that reads one file does not look at the second, and a pile is answered elsewhere (crate `piling`).
 pub fn answer(
     line: &[u8],
     separator: u8,

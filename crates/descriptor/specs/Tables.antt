@@ -1,12 +1,12 @@
 -- The methods of an interface as tables, and the getters of each name.
 -- Assumes nothing.
-use Rattle.std.specs.Prelude.{◌≡◌, Bool, true, false, List, ℕ, zero, suc, ◌+◌, ◌-◌, ◌<◌, length, get_or}
+use Rattle.reading.specs.declared.Refusal.{Refusal}
+use Rattle.std.specs.Prelude.{◌≡◌, Bool, true, false, List, ℕ, zero, suc, ◌+◌, ◌-◌, ◌<◌, length, get_or, Result}
 use Rattle.number.specs.Limits.{own_limit}
 use Rattle.number.specs.Choice.{when◌then◌else◌, ◌≤?◌, ◌=?◌, ◌≠?◌}
 use Rattle.number.specs.Scan.{some, tally}
 use Rattle.reading.specs.Got.{got, step_of}
 use Rattle.reading.specs.declared.Context.{Context}
-use Rattle.reading.specs.declared.Step.{Step}
 use Rattle.key.specs.Word.{Leads, word_at, same_word}
 use Rattle.method.specs.Method.{Method, read_method}
 use Rattle.method.specs.Tables.{Kept}
@@ -80,7 +80,7 @@ pub record Led (s t : List ℕ) (n : ℕ) : Type 0 where
   pub each : (i : ℕ) → i < n → Leads s (get_or t i 0)
 
 -- a method count and that many methods were read, and two tables have their flags and name pointers
-pub record Tabled (c : Context) (s : List ℕ) (at : ℕ) (r : Step) (flags names : List ℕ) : Type 0 where
+pub record Tabled (c : Context) (s : List ℕ) (at : ℕ) (r : Result ℕ Refusal) (flags names : List ℕ) : Type 0 where
   pub step : r ≡ step_of (read_counted (read_method c s) c s at)
   pub kept : (ms : List (Method ℕ)) (e : ℕ) → read_counted (read_method c s) c s at ≡ got ms e → Kept s flags names ms (length ms)
   pub flags_long : own_limit ≡ length flags

@@ -1,4 +1,4 @@
-// Constants and interface descriptors.
+//! Constants and interface descriptors.
 #![tactic(auto)]
 
 mod constant;

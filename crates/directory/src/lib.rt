@@ -1,7 +1,7 @@
 // The directory.
 #![tactic(auto)]
 
-ghost use Rattle.std.specs.Prelude.{◌≡◌, ◌+◌, ◌*◌, ◌≤◌, length, drop};
+ghost use Rattle.std.specs.Prelude.{◌⊎◌, IfOk, ◌≡◌, ◌+◌, ◌*◌, ◌≤◌, length, drop};
 ghost use Rattle.number.specs.Limits.{file_limit, entry_width};
 ghost use Rattle.number.specs.Choice.{◌=?◌};
 ghost use Rattle.number.specs.Number.{be};
@@ -9,7 +9,7 @@ ghost use Rattle.reading.specs.Got.{step_of};
 ghost use Rattle.directory.specs.Directory.{falls, out_of_order, lacks_iid, read_row, read_directory};
 
 use number::ENTRY_WIDTH;
-use reading::{Refusal, Step};
+use reading::{Refusal, Rule};
 
 // Whether the IID at `at` is zero.
 pub fn zero_iid(file: &[u8], at: usize) -> bool
@@ -46,15 +46,16 @@ pub fn iid_falls(file: &[u8], p: usize, q: usize) -> bool
     true
 }
 
-// Whether entry k of the directory at d is out of order.
-fn out_of_order(file: &[u8], d: usize, k: usize) -> bool
-    requires { (d + entry_width * k + entry_width ≤ length file.now) × (length file.now ≤ file_limit) }
-    ensures { result ≡ out_of_order file.now d (d + entry_width * k) }
+// Whether the entry at p of the directory at d is out of order.
+#[tactic(auto, using(number::proofs::Choice::tests), unfolding(crate::specs::Directory::out_of_order))]
+fn out_of_order(file: &[u8], d: usize, p: usize) -> bool
+    requires start { (p ≡ d) ⊎ (d + entry_width ≤ p) }
+    requires within { p + entry_width ≤ length file.now }
+    ensures { result ≡ out_of_order file.now d p }
 {
-    if k == 0 {
+    if p == d {
         return false;
     }
-    let p = d + ENTRY_WIDTH * k;
     iid_falls(file, p - ENTRY_WIDTH, p)
 }
 
@@ -69,52 +70,45 @@ fn lacks_iid(file: &[u8], p: usize) -> bool
     zero_iid(file, p)
 }
 
-// Entry k of the directory at d.
-fn check_row(file: &[u8], pool: &[u8], d: usize, k: usize) -> Step
-    requires { (d + entry_width * k + entry_width ≤ length file.now) × (length file.now ≤ file_limit) }
-    ensures { result ≡ step_of (read_row file.now pool.now d (d + entry_width * k)) }
+// The entry at p of the directory at d.
+#[tactic(auto, using(reading::proofs::Steps::walks), unfolding(crate::specs::Directory::read_row, reading::specs::Got::next))]
+fn check_row(file: &[u8], pool: &[u8], d: usize, p: usize) -> Result<usize, Refusal>
+    requires start { (p ≡ d) ⊎ (d + entry_width ≤ p) }
+    requires within { p + entry_width ≤ length file.now }
+    ensures reads { result ≡ step_of (read_row file.now pool.now d p) }
+    ensures width { IfOk result (λ e. e ≡ p + entry_width) }
 {
-    let p = d + ENTRY_WIDTH * k;
-    if out_of_order(file, d, k) {
-        return Step::Refused(Refusal { no: 10, place: p });
+    if out_of_order(file, d, p) {
+        return Err(Rule::IidOrder.at(p));
     }
-    let q = number::u32_at(file, p + 16) as usize;
-    let name = name::follow_name(pool, p + 16, q);
-    let Step::End(a) = name else {
-        return name;
-    };
-    let v = number::u32_at(file, p + 20) as usize;
-    let space = name::follow_space(pool, p + 20, v);
-    let Step::End(b) = space else {
-        return space;
-    };
+    name::follow_name(pool, p + 16, number::u32_at(file, p + 16) as usize)?;
+    name::follow_space(pool, p + 20, number::u32_at(file, p + 20) as usize)?;
     if lacks_iid(file, p) {
-        return Step::Refused(Refusal {
-            no: 12,
-            place: p + 24,
-        });
+        return Err(Rule::Iid.at(p + 24));
     }
-    Step::End(p + ENTRY_WIDTH)
+    Ok(p + ENTRY_WIDTH)
 }
 
 // The n entries from d on.
-fn check_rows(file: &[u8], pool: &[u8], n: usize, d: usize) -> Step
+#[tactic(auto, using(reading::proofs::Loops::records), unfolding(crate::specs::Directory::read_directory))]
+fn check_rows(file: &[u8], pool: &[u8], n: usize, d: usize) -> Result<usize, Refusal>
     requires { (d + entry_width * n ≤ length file.now) × (length file.now ≤ file_limit) }
     ensures { result ≡ step_of (read_directory file.now pool.now n d) }
 {
-    let mut k: usize = 0;
-    while k < n {
-        let r = check_row(file, pool, d, k);
-        let Step::End(e) = r else {
-            return r;
-        };
-        k += 1;
+    let mut p = d;
+    for _ in 0..n {
+        p = check_row(file, pool, d, p)?;
     }
-    Step::End(d + ENTRY_WIDTH * n)
+    Ok(p)
 }
 
 // The same, with the pool as the part of the file from its offset on.
-pub fn check_directory(file: &[u8], n: usize, directory: usize, pool: usize) -> Step
+pub fn check_directory(
+    file: &[u8],
+    n: usize,
+    directory: usize,
+    pool: usize,
+) -> Result<usize, Refusal>
     requires { (directory + entry_width * n ≤ pool) × (pool ≤ length file.now) × (length file.now ≤ file_limit) }
     ensures { result ≡ step_of (read_directory file.now (drop pool file.now) n directory) }
 {

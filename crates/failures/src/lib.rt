@@ -1,4 +1,4 @@
-// Lines for people, each made whole at the front of a lent buffer: those that begin with `error`, and those for standard error that go with them.
+//! Lines for people, each made whole at the front of a lent buffer: those that begin with `error`, and those for standard error that go with them.
 #![tactic(auto)]
 
 mod reason;
@@ -11,12 +11,12 @@ ghost use Rattle.failures.specs.Lines.{question_words, verb_words, line_too_long
 
 use verbs::{Question, Verb};
 
-// Bytes of the buffer that a line is made in.
+/// Bytes of the buffer that a line is made in.
 pub const ROOM: usize = 66560;
 
 // ---- mistakes in the words
 
-// A line that is at hand.
+/// A line that is at hand.
 pub fn say(line: &[u8], text: &mut [u8; ROOM]) -> usize
     requires { length line.now ≤ 1024 }
     ensures { Made line.now text.old result text.new }
@@ -24,24 +24,28 @@ pub fn say(line: &[u8], text: &mut [u8; ROOM]) -> usize
     text::put_bytes(text, 0, line)
 }
 
+#[tactic(auto, unfolding(crate::specs::Lines::line_too_long_text))]
 pub fn line_too_long(text: &mut [u8; ROOM]) -> usize
     ensures { Made line_too_long_text text.old result text.new }
 {
     say(b"error the line has more than 65,535 bytes\n", text)
 }
 
+#[tactic(auto, unfolding(crate::specs::Lines::arguments_too_long_text))]
 pub fn arguments_too_long(text: &mut [u8; ROOM]) -> usize
     ensures { Made arguments_too_long_text text.old result text.new }
 {
     say(b"error the arguments have more than 65,536 bytes\n", text)
 }
 
+#[tactic(auto, unfolding(crate::specs::Lines::no_command_text))]
 pub fn no_command(text: &mut [u8; ROOM]) -> usize
     ensures { Made no_command_text text.old result text.new }
 {
     say(b"error no command\n", text)
 }
 
+#[tactic(auto, unfolding(crate::specs::Lines::input_in_batch_text))]
 pub fn input_in_batch(text: &mut [u8; ROOM]) -> usize
     ensures { Made input_in_batch_text text.old result text.new }
 {
@@ -52,6 +56,7 @@ pub fn input_in_batch(text: &mut [u8; ROOM]) -> usize
 }
 
 // The words of a command that is answered from one file, from `at` on.
+#[tactic(auto, using(crate::proofs::MadeLaws::writing, number::proofs::Choice::tests), unfolding(crate::specs::Lines::question_words))]
 fn put_question(question: Question, text: &mut [u8; ROOM], at: usize) -> usize
     requires { at + 64 ≤ room }
     ensures { Wrote text.old at (question_words question) result text.new × (result ≤ at + 64) }
@@ -71,7 +76,8 @@ fn put_question(question: Question, text: &mut [u8; ROOM], at: usize) -> usize
     }
 }
 
-// The words of a command, from `at` on.
+/// The words of a command, from `at` on.
+#[tactic(auto, using(crate::proofs::MadeLaws::writing, number::proofs::Choice::tests), unfolding(crate::specs::Lines::verb_words))]
 pub fn put_words(verb: Verb, text: &mut [u8; ROOM], at: usize) -> usize
     requires { at + 64 ≤ room }
     ensures { Wrote text.old at (verb_words verb) result text.new × (result ≤ at + 64) }
@@ -91,6 +97,7 @@ pub fn put_words(verb: Verb, text: &mut [u8; ROOM], at: usize) -> usize
 // ---- files that cannot be read or written
 
 // A byte as it is shown.
+#[tactic(auto, using(crate::proofs::MadeLaws::writing, number::proofs::Choice::tests), unfolding(crate::specs::Shown::shown_byte))]
 fn shown(b: u8) -> u8
     ensures { result ≡ shown_byte b }
 {
@@ -103,20 +110,18 @@ fn shown(b: u8) -> u8
     b
 }
 
-// A word as it is shown, from `at` on.
+/// A word as it is shown, from `at` on.
 pub fn put_shown(out: &mut [u8], at: usize, word: &[u8]) -> usize
     requires { at + length word.now ≤ length out.old }
     ensures { Wrote out.old at (shown_word word.now) result out.new × (result ≡ at + length word.now) }
 {
-    let mut i = 0;
-    while i < word.len() {
-        out[at + i] = shown(word[i]);
-        i += 1;
+    for (i, &b) in word.iter().enumerate() {
+        out[at + i] = shown(b);
     }
-    at + i
+    at + word.len()
 }
 
-// A label and a name, at the front.
+/// A label and a name, at the front.
 pub fn put_named(label: &[u8], name: &[u8], text: &mut [u8; ROOM]) -> usize
     requires { (length label.now ≤ 64) × (length name.now ≤ word_limit) }
     ensures { Wrote text.old 0 (label.now ++ shown_word name.now) result text.new × (result ≡ length label.now + length name.now) }
@@ -161,7 +166,7 @@ pub fn unwritten(name: &[u8], error: i32, text: &mut [u8; ROOM]) -> usize
     failed(b"error cannot write ", name, n, text)
 }
 
-// An output that is there already.
+/// An output that is there already.
 pub fn taken(name: &[u8], text: &mut [u8; ROOM]) -> usize
     requires { length name.now ≤ word_limit }
     ensures { Made (taken_text name.now) text.old result text.new }
@@ -174,7 +179,7 @@ pub fn taken(name: &[u8], text: &mut [u8; ROOM]) -> usize
     )
 }
 
-// An output that is a folder, a device or the like.
+/// An output that is a folder, a device or the like.
 pub fn no_file(name: &[u8], text: &mut [u8; ROOM]) -> usize
     requires { length name.now ≤ word_limit }
     ensures { Made (no_file_text name.now) text.old result text.new }
@@ -216,6 +221,7 @@ fn put_before(name: &[u8], line: &[u8], text: &mut [u8; ROOM], at: usize) -> usi
 }
 
 // A line without its `error `, from `at` on.
+#[tactic(auto, using(crate::proofs::MadeLaws::writing, number::proofs::Choice::tests), unfolding(crate::specs::Lines::without_error))]
 fn put_rest(line: &[u8], text: &mut [u8; ROOM], at: usize) -> usize
     requires { (at ≤ 65600) × (at + length line.now ≤ room + 5) }
     ensures { Wrote text.old at (without_error line.now) result text.new × (result ≤ room) }
@@ -226,7 +232,7 @@ fn put_rest(line: &[u8], text: &mut [u8; ROOM], at: usize) -> usize
     text::put_bytes(text, at, &line[6..])
 }
 
-// What stands on standard error beside an `error` line about a file.
+/// What stands on standard error beside an `error` line about a file.
 pub fn aside(name: &[u8], line: &[u8], text: &mut [u8; ROOM]) -> usize
     requires { length line.now ≤ room }
     ensures { Made (aside_text name.now line.now) text.old result text.new }
@@ -236,7 +242,8 @@ pub fn aside(name: &[u8], line: &[u8], text: &mut [u8; ROOM]) -> usize
     put_rest(line, text, rest)
 }
 
-// After a mistake in the words of a single command.
+/// After a mistake in the words of a single command.
+#[tactic(auto, unfolding(crate::specs::Lines::hint_text))]
 pub fn hint(text: &mut [u8; ROOM]) -> usize
     ensures { Made hint_text text.old result text.new }
 {
@@ -246,6 +253,7 @@ pub fn hint(text: &mut [u8; ROOM]) -> usize
     )
 }
 
+#[tactic(auto, unfolding(crate::specs::Lines::output_gone_text))]
 pub fn output_gone(text: &mut [u8; ROOM]) -> usize
     ensures { Made output_gone_text text.old result text.new }
 {

@@ -1,4 +1,4 @@
-// Why a call of the system failed, in words, from `at` on: by the number that it gave, over the whole table.
+//! Why a call of the system failed, in words, from `at` on: by the number that it gave, over the whole table.
 ghost use Rattle.std.specs.Prelude.{◌+◌, ◌≤◌};
 ghost use Rattle.text.specs.Writing.{Wrote};
 ghost use Rattle.failures.specs.Room.{room};
@@ -21,6 +21,7 @@ fn put_rare(n: u64, text: &mut [u8; ROOM], at: usize) -> usize
     }
 }
 
+#[tactic(auto, using(crate::proofs::MadeLaws::writing, number::proofs::Choice::tests), unfolding(crate::specs::Reasons::full_text))]
 fn put_full(n: u64, text: &mut [u8; ROOM], at: usize) -> usize
     requires { at + 64 ≤ room }
     ensures { Wrote text.old at (full_text n) result text.new × (result ≤ at + 64) }
@@ -37,6 +38,7 @@ fn put_full(n: u64, text: &mut [u8; ROOM], at: usize) -> usize
     }
 }
 
+#[tactic(auto, using(crate::proofs::MadeLaws::writing, number::proofs::Choice::tests), unfolding(crate::specs::Reasons::path_text))]
 fn put_path(n: u64, text: &mut [u8; ROOM], at: usize) -> usize
     requires { at + 64 ≤ room }
     ensures { Wrote text.old at (path_text n) result text.new × (result ≤ at + 64) }
@@ -53,6 +55,7 @@ fn put_path(n: u64, text: &mut [u8; ROOM], at: usize) -> usize
     }
 }
 
+#[tactic(auto, using(crate::proofs::MadeLaws::writing, number::proofs::Choice::tests), unfolding(crate::specs::Reasons::reason_text))]
 pub fn put_reason(n: u64, text: &mut [u8; ROOM], at: usize) -> usize
     requires { at + 64 ≤ room }
     ensures { Wrote text.old at (reason_text n) result text.new × (result ≤ at + 64) }

@@ -1,10 +1,9 @@
 -- #102: whether a file was cut or added to is told exactly, and 6 is never given.
 -- Assumes nothing.
-use Rattle.std.specs.Prelude.{◌≡◌, ◌↔◌, List, ℕ, ◌≤◌, ◌<◌, length, get_or}
+use Rattle.reading.specs.declared.Refusal.{Refusal}
+use Rattle.std.specs.Prelude.{◌≡◌, ◌↔◌, List, ℕ, ◌≤◌, ◌<◌, length, get_or, Err, Result}
 use Rattle.number.specs.Limits.{file_limit}
 use Rattle.number.specs.Number.{be}
-use Rattle.reading.specs.declared.Verdict.{Verdict}
-use Rattle.reading.specs.declared.Verdict.TheVariants.{Refused}
 use Rattle.head.specs.Header.{magic, newest}
 use Rattle.reader.specs.Reader.{check_of}
 
@@ -16,8 +15,8 @@ pub record Versioned (s : List ℕ) : Type 0 where
   pub major : get_or s 16 0 ≡ 1
   pub minor : get_or s 17 0 ≤ newest
 
-abbrev pub refused : ℕ → ℕ → Verdict
-refused n q = Refused (record { no = n; place = q })
+abbrev pub refused : ℕ → ℕ → Result ℕ Refusal
+refused n q = Err (record { no = n; place = q })
 
 -- 29 exactly where fewer bytes are given than the length field says, and 30 exactly where more, both at 20, whatever the rest of the file holds
 pub record LengthsTold : Type 0 where

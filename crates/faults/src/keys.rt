@@ -7,9 +7,8 @@ ghost use Rattle.ascii.specs.Ascii.{ascii};
 ghost use Rattle.head.specs.Says.{HeaderAt};
 ghost use Rattle.faults.specs.Key.{Written, pointed_key, key_as, read_key, text_of};
 
-use head::{Head, Header};
+use head::Header;
 use number::ENTRY_WIDTH;
-use reading::Step;
 
 // The bytes of the pool from one position up to another, from `at` on.
 fn put_part(pool: &[u8], from: usize, to: usize, out: &mut [u8], at: usize) -> usize
@@ -35,11 +34,11 @@ fn put_key(pool: &[u8], p: usize, q: usize, v: usize, out: &mut [u8; 512]) -> us
     ensures { Written out.old (text_of (pointed_key pool.now p q v)) result out.new }
 {
     let name = name::follow_name(pool, p + 16, q);
-    let Step::End(e) = name else {
+    let Ok(e) = name else {
         return 0;
     };
     let space = name::follow_space(pool, p + 20, v);
-    let Step::End(f) = space else {
+    let Ok(f) = space else {
         return 0;
     };
     if v == 0 {
@@ -73,7 +72,7 @@ pub fn key_of(file: &[u8], i: usize, out: &mut [u8; 512]) -> usize
     ensures { Written out.old (text_of (read_key file.now i)) result out.new }
 {
     match head::read_header(file) {
-        Head::Read(h) => key_as(file, h, i, out),
-        Head::Refused(why) => 0,
+        Ok(h) => key_as(file, h, i, out),
+        Err(why) => 0,
     }
 }

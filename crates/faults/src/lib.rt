@@ -8,7 +8,7 @@ ghost use Rattle.typelib.specs.Directory.{Lies};
 ghost use Rattle.typelib.specs.Typelib.{pool_of, context_of};
 ghost use Rattle.faults.specs.Fault.{first_refused, own_fault, entry_at, fault_with, fault_of, fault_at};
 
-use head::{Head, Header};
+use head::Header;
 use number::ENTRY_WIDTH;
 use reading::{Context, Refusal};
 
@@ -117,8 +117,8 @@ pub fn fault_of(file: &[u8], why: Refusal) -> Fault
         return Fault { entry: 0, rule: 0 };
     }
     match head::read_header(file) {
-        Head::Read(h) => fault_with(file, h, why),
-        Head::Refused(x) => Fault { entry: 0, rule: 0 },
+        Ok(h) => fault_with(file, h, why),
+        Err(x) => Fault { entry: 0, rule: 0 },
     }
 }
 
@@ -147,7 +147,7 @@ pub fn fault_at(file: &[u8], i: usize, why: Refusal) -> Fault
         return Fault { entry: 0, rule: 0 };
     }
     match head::read_header(file) {
-        Head::Read(h) => own_with(file, h, why, i - 1),
-        Head::Refused(x) => Fault { entry: 0, rule: 0 },
+        Ok(h) => own_with(file, h, why, i - 1),
+        Err(x) => Fault { entry: 0, rule: 0 },
     }
 }

@@ -9,7 +9,7 @@ ghost use Rattle.broken.specs.Stop.{is_bad};
 ghost use Rattle.faults.specs.Fault.{refused_own, first_refused};
 
 use number::ENTRY_WIDTH;
-use reading::{Context, Step};
+use reading::Context;
 
 // Whether the descriptor of the entry at p is refused.
 fn bad_own(file: &[u8], pool: &[u8], c: Context, p: usize) -> bool
@@ -24,7 +24,7 @@ fn bad_own(file: &[u8], pool: &[u8], c: Context, p: usize) -> bool
         return true;
     }
     let r = descriptor::read_descriptor(pool, c, q - 1);
-    let Step::End(e) = r else {
+    let Ok(e) = r else {
         return true;
     };
     false

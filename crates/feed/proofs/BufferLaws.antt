@@ -1,7 +1,8 @@
 -- What is moved to the front of the buffer, and what is read behind it.
 -- Assumes nothing.
 use mathlib.Core.Path.{◌≡◌, refl, sym, ap, ◌∙◌}
-use mathlib.Core.Bool.{Bool, false}
+use mathlib.Core.Bool.{Bool, true, false, not}
+use Rattle.std.specs.Prelude.{None, Option, Some, is_some, is_none}
 use mathlib.Core.Logic.{◌⊎◌, inl, inr}
 use mathlib.Core.List.{List, ◌++◌, append_assoc}
 use Prim.Native.Nat.{ℕ, zero, suc, ◌+◌, ◌-◌, ◌≤◌, ◌<◌}
@@ -16,8 +17,7 @@ use Rattle.number.proofs.Scans.{below}
 use Rattle.feed.specs.Lines.{Item, input_room, items_of, behind_newline}
 use Rattle.feed.specs.declared.Feed.{Feed}
 use Rattle.feed.specs.declared.Came.{Came}
-use Rattle.feed.specs.declared.Arrived.{Arrived}
-use Rattle.feed.specs.Input.{between, Fed, unread, ahead, Reads, new_bytes, Adds, MovedDown, ReadBehind}
+use Rattle.feed.specs.Input.{between, Fed, unread, ahead, Reads, new_bytes, Adds, MovedDown, count_of, ReadBehind}
 use Rattle.feed.proofs.InputLaws.{length-between}
 
 -- ---- moving to the front
@@ -68,12 +68,22 @@ count_none (suc n) k m e = ne_eqb (suc n) 0 (λ z. omega arith) ∙ sym (not_eq 
 ahead_same : (p : Bool) (x y : List ℕ) → x ≡ y → (when p then behind_newline x else x) ≡ (when p then behind_newline y else y)
 ahead_same p x y e = ap (λ (t : List ℕ). when p then behind_newline t else t) e
 
-module _ (s t u : List ℕ) (f : Feed) (kept : ℕ) (a : Arrived) (d : Fed s f) (m : MovedDown s f.from f.end kept t) (r : ReadBehind t kept a u) where
+-- the read failed where `is_none` says so
+pub none_told : (a : Option ℕ) (b : Bool) → is_some a ≡ not b → b ≡ is_none a
+none_told a true e = sym (ap not e)
+none_told a false e = sym (ap not e)
+
+-- none came then
+none_came : (a : Option ℕ) → is_none a ≡ true → count_of a ≡ 0
+none_came None e = refl
+none_came (Some n) e = absurd (let z : ◌≡◌ {A = ℕ} 0 1 = cc in omega arith)
+
+module _ (s t u : List ℕ) (f : Feed) (kept : ℕ) (a : Option ℕ) (d : Fed s f) (m : MovedDown s f.from f.end kept t) (r : ReadBehind t kept a u) where
   abbrev after : Feed
-  after = record { from = 0; seen = f.seen - f.from; end = kept + a.count; is_passing = f.is_passing; is_over = eqb a.count 0 }
+  after = record { from = 0; seen = f.seen - f.from; end = kept + count_of a; is_passing = f.is_passing; is_over = eqb (count_of a) 0 }
 
   abbrev came : Came
-  came = record { feed = after; is_failed = a.is_failed }
+  came = record { feed = after; is_failed = is_none a }
 
   front : take kept u ≡ unread s f
   front = r.before ∙ m.whole
@@ -81,9 +91,9 @@ module _ (s t u : List ℕ) (f : Feed) (kept : ℕ) (a : Arrived) (d : Fed s f) 
   unread_more : unread u after ≡ unread s f ++ new_bytes f came u
   unread_more =
       let e : f.end - f.from ≡ kept = sym m.length in
-      let z : (kept + a.count) - 0 ≡ kept + a.count = omega arith in
-      let w : (kept + a.count) - kept ≡ a.count = omega arith in
-      rw (z, take-add kept a.count u, front, e, w)
+      let z : (kept + count_of a) - 0 ≡ kept + count_of a = omega arith in
+      let w : (kept + count_of a) - kept ≡ count_of a = omega arith in
+      rw (z, take-add kept (count_of a) u, front, e, w)
 
   read_adds : f.is_over ≡ false → (past : List ℕ) (handed : List Item) → Reads past handed f s → Reads (past ++ new_bytes f came u) handed after u
   unfolding ahead
@@ -106,6 +116,6 @@ module _ (s t u : List ℕ) (f : Feed) (kept : ℕ) (a : Arrived) (d : Fed s f) 
       none = record { each = λ k x y z. d.none.each (f.from + k) (omega arith) (omega (arith, d.ordered)) (sym (byte_kept k (omega (arith, m.length, d.before))) ∙ z) };
     };
     adds = read_adds o;
-    over = count_none a.count kept (f.end - f.from) m.length;
-    failed = λ e. eq-eqb a.count 0 (r.failed e);
+    over = count_none (count_of a) kept (f.end - f.from) m.length;
+    failed = λ e. eq-eqb (count_of a) 0 (none_came a e);
   }

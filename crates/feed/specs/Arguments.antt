@@ -1,12 +1,10 @@
 -- The program's arguments as one line, a zero byte between two.
 -- Assumes nothing.
-use Rattle.std.specs.Prelude.{◌≡◌, Bool, true, false, List, ℕ, ◌+◌, ◌-◌, ◌≤◌, take, drop}
+use Rattle.std.specs.Prelude.{◌≡◌, Bool, true, false, List, ℕ, ◌+◌, ◌-◌, ◌≤◌, take, drop, None, Option, Some}
 use Rattle.number.specs.Choice.{when◌then◌else◌, ◌≤?◌, ◌≠?◌}
 use Rattle.ascii.specs.Ascii.{ascii}
 use Rattle.key.specs.Word.{same_word}
 use Rattle.feed.specs.Lines.{input_room}
-use Rattle.feed.specs.declared.arguments.Ended.{Ended}
-use Rattle.feed.specs.declared.arguments.Ended.TheVariants as ended
 use Rattle.feed.specs.declared.arguments.First.{First}
 use Rattle.feed.specs.declared.arguments.First.TheVariants as first
 use Rattle.feed.specs.declared.arguments.Gathered.{Gathered}
@@ -37,12 +35,12 @@ asks_help count n e line =
     is_help_flag (take (e - (n + 1)) (drop (n + 1) line))
 
 -- the line ends from `from` on, and within n bytes
-abbrev pub EndsIn : ℕ → ℕ → Ended → Type 0
-EndsIn from n (ended.At e) = (from ≤ e) × (e ≤ n)
-EndsIn from n ended.TooLong = Unit {0}
+abbrev pub EndsIn : ℕ → ℕ → Option ℕ → Type 0
+EndsIn from n (Some e) = (from ≤ e) × (e ≤ n)
+EndsIn from n None = Unit {0}
 
 -- the line goes on from `from`; what stands before it is as it was
-pub record Extends (n : ℕ) (before : List ℕ) (from : ℕ) (r : Ended) (after : List ℕ) : Type 0 where
+pub record Extends (n : ℕ) (before : List ℕ) (from : ℕ) (r : Option ℕ) (after : List ℕ) : Type 0 where
   pub ends : EndsIn from n r
   pub front : take from after ≡ take from before
 

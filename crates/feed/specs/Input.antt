@@ -1,12 +1,11 @@
 -- The lines of standard input, as they come.
 -- Assumes nothing.
-use Rattle.std.specs.Prelude.{◌≡◌, Bool, true, false, List, [], ◌∷◌, ◌++◌, ℕ, ◌+◌, ◌-◌, ◌≤◌, ◌<◌, length, get_or, take, drop}
+use Rattle.std.specs.Prelude.{◌≡◌, Bool, true, false, List, [], ◌∷◌, ◌++◌, ℕ, ◌+◌, ◌-◌, ◌≤◌, ◌<◌, length, get_or, take, drop, Option, unwrap_or}
 use Rattle.number.specs.Choice.{when◌then◌else◌, ◌=?◌}
 use Rattle.feed.specs.Lines.{Item, line, too_long, input_room, items_of, behind_newline}
 use Rattle.feed.specs.declared.Feed.{Feed}
 use Rattle.feed.specs.declared.Taken.{Taken}
 use Rattle.feed.specs.declared.Came.{Came}
-use Rattle.feed.specs.declared.Arrived.{Arrived}
 use Rattle.feed.specs.declared.Coming.{Coming}
 use Rattle.feed.specs.declared.Coming.TheVariants as coming
 
@@ -117,11 +116,14 @@ pub record MovedDown (s : List ℕ) (from end n : ℕ) (t : List ℕ) : Type 0 w
   pub length : n ≡ end - from
   pub whole : take n t ≡ between s from end
 
+-- how many bytes came; none where the read failed
+abbrev pub count_of : Option ℕ → ℕ
+count_of a = unwrap_or a 0
+
 -- bytes came behind the first `at`, which are as they were; none where the read failed
-pub record ReadBehind (s : List ℕ) (at : ℕ) (a : Arrived) (t : List ℕ) : Type 0 where
-  pub inside : at + a.count ≤ length s
+pub record ReadBehind (s : List ℕ) (at : ℕ) (a : Option ℕ) (t : List ℕ) : Type 0 where
+  pub inside : at + count_of a ≤ length s
   pub before : take at t ≡ take at s
-  pub failed : a.is_failed ≡ true → a.count ≡ 0
 
 -- the feed from `at` on
 abbrev pub feed_from : Feed → ℕ → Bool → Feed

@@ -1,4 +1,4 @@
-// The program's arguments, as one line.
+//! The program's arguments, as one line.
 ghost use Rattle.std.specs.Prelude.{◌≡◌, ◌≤◌, length, take};
 ghost use Rattle.feed.specs.Lines.{input_room};
 ghost use Rattle.feed.specs.Arguments.{is_help_flag, is_help, first_asks, asks_help, Extends, CommandIn, AskedIn, GatheredIn};
@@ -7,9 +7,10 @@ use crate::INPUT_ROOM;
 use std::env::FillError;
 use std::rt::Env;
 
-// No argument; more than the line has room for; `help`; `--version`; `batch` alone; a command with `-h` or `--help` alone, by the length of its name;
-// or the length of the words of another command.
-#[derive(Clone, Copy)]
+/// No argument; more than the line has room for; `help`; `--version`; `batch` alone; a command with `-h` or `--help`
+/// alone, by the length of its name; or the length of the words of another command. An enum of its own: each is told in
+/// its own words, and none passed on.
+#[derive(Clone, Copy, Debug, PartialEq, Eq)]
 pub enum Gathered {
     Nothing,
     TooLong,
@@ -21,7 +22,7 @@ pub enum Gathered {
 }
 
 // What the first word asks for.
-#[derive(Clone, Copy)]
+#[derive(Clone, Copy, Debug, PartialEq, Eq)]
 enum First {
     Help,
     Version,
@@ -29,77 +30,63 @@ enum First {
     Command,
 }
 
-// Where the line ends, or that it has no room.
-#[derive(Clone, Copy)]
-enum Ended {
-    At(usize),
-    TooLong,
-}
-
 // Argument i into the line, from `from` on.
-fn gather_at(rt: &HostRuntime, i: usize, from: usize, line: &mut [u8]) -> Ended
+fn gather_at(rt: &HostRuntime, i: usize, from: usize, line: &mut [u8]) -> Option<usize>
     requires { from ≤ length line.old }
     ensures { Extends (length line.old) line.old from result line.new }
 {
     match rt.arg(i, &mut line[from..]) {
-        Err(_) => Ended::TooLong,
-        Ok(got) => Ended::At(from + got),
+        Err(_) => None,
+        Ok(got) => Some(from + got),
     }
 }
 
 // Argument i after a zero byte, behind the line that ends at `end`.
-fn gather_one(rt: &HostRuntime, i: usize, end: usize, line: &mut [u8]) -> Ended
+fn gather_one(rt: &HostRuntime, i: usize, end: usize, line: &mut [u8]) -> Option<usize>
     ensures { Extends (length line.old) line.old end result line.new }
 {
     if line.len() <= end {
-        return Ended::TooLong;
+        return None;
     }
     line[end] = 0;
     gather_at(rt, i, end + 1, line)
 }
 
 // The arguments from the second on, behind the first.
-fn gather_more(rt: &HostRuntime, count: usize, first: usize, line: &mut [u8; INPUT_ROOM]) -> Ended
+fn gather_more(
+    rt: &HostRuntime,
+    count: usize,
+    first: usize,
+    line: &mut [u8; INPUT_ROOM],
+) -> Option<usize>
     requires { first ≤ input_room }
     ensures { Extends input_room line.old first result line.new }
 {
     let mut end = first;
-    let mut i: usize = 2;
-    while i < count {
-        match gather_one(rt, i, end, line) {
-            Ended::At(next) => {
-                end = next;
-            }
-            Ended::TooLong => {
-                return Ended::TooLong;
-            }
-        }
-        i += 1;
+    for i in 2..count {
+        end = gather_one(rt, i, end, line)?;
     }
-    Ended::At(end)
+    Some(end)
 }
 
 // Whether the word is `-h` or `--help`.
+#[tactic(auto, using(number::proofs::Choice::tests), unfolding(crate::specs::Arguments::is_help_flag))]
 fn is_help_flag(word: &[u8]) -> bool
     ensures { result ≡ is_help_flag word.now }
 {
-    if words::is_same(word, b"--help") {
-        return true;
-    }
-    words::is_same(word, b"-h")
+    words::is_same(word, b"--help") || words::is_same(word, b"-h")
 }
 
 // Whether the first word asks for help.
+#[tactic(auto, using(number::proofs::Choice::tests), unfolding(crate::specs::Arguments::is_help))]
 fn is_help(word: &[u8]) -> bool
     ensures { result ≡ is_help word.now }
 {
-    if words::is_same(word, b"help") {
-        return true;
-    }
-    is_help_flag(word)
+    words::is_same(word, b"help") || is_help_flag(word)
 }
 
 // What the first word and the number of arguments ask for.
+#[tactic(auto, using(number::proofs::Choice::tests), unfolding(crate::specs::Arguments::first_asks))]
 fn first_asks(count: usize, word: &[u8]) -> First
     ensures { result ≡ first_asks count word.now }
 {
@@ -119,6 +106,7 @@ fn first_asks(count: usize, word: &[u8]) -> First
 }
 
 // Whether the only word behind the first, which is `first` bytes long, asks for help; the line ends at `end`.
+#[tactic(auto, using(number::proofs::Choice::tests), unfolding(crate::specs::Arguments::asks_help))]
 fn asks_help(count: usize, first: usize, end: usize, line: &[u8]) -> bool
     requires { end ≤ length line.now }
     ensures { result ≡ asks_help count first end line.now }
@@ -143,13 +131,13 @@ fn gather_command(
     ensures { CommandIn count first line.new result × (take first line.new ≡ take first line.old) }
 {
     match gather_more(rt, count, first, line) {
-        Ended::At(end) => {
+        Some(end) => {
             if asks_help(count, first, end, line) {
                 return Gathered::HelpOf(first);
             }
             Gathered::Words(end)
         }
-        Ended::TooLong => Gathered::TooLong,
+        None => Gathered::TooLong,
     }
 }
 
@@ -183,7 +171,7 @@ fn arg_count(rt: &HostRuntime) -> usize {
     usize::MAX
 }
 
-// The arguments into `line`, a zero byte between two.
+/// The arguments into `line`, a zero byte between two.
 pub fn gather(rt: &HostRuntime, line: &mut [u8; INPUT_ROOM]) -> Gathered
     ensures { GatheredIn line.new result }
 {

@@ -1,4 +1,5 @@
-// What the program is fed: its arguments, and standard input line by line. Only `read_more` and `arguments::gather` call the system.
+//! What the program is fed: its arguments, and standard input line by line. Only `read_more` and `arguments::gather`
+//! call the system.
 #![tactic(auto)]
 
 pub mod arguments;
@@ -9,11 +10,12 @@ ghost use Rattle.feed.specs.Lines.{input_room};
 
 use std::io::Read;
 
-// Bytes of the buffer: those of the longest line, and its newline.
+/// Bytes of the buffer: those of the longest line, and its newline.
 pub const INPUT_ROOM: usize = 65536;
 
-// The input that is in the buffer: from `from` to `end`, with no newline before `seen`. The rest of a line that was too long is passed over.
-#[derive(Clone, Copy)]
+/// The input that is in the buffer: from `from` to `end`, with no newline before `seen`. The rest of a line that was
+/// too long is passed over.
+#[derive(Clone, Copy, Debug, PartialEq, Eq)]
 pub struct Feed {
     from: usize,
     seen: usize,
@@ -22,16 +24,17 @@ pub struct Feed {
     is_over: bool,
 }
 
-// A line in the buffer, without its newline, and the feed after it.
-#[derive(Clone, Copy)]
+/// A line in the buffer, without its newline, and the feed after it.
+#[derive(Clone, Copy, Debug, PartialEq, Eq)]
 pub struct Taken {
     pub from: usize,
     pub end: usize,
     pub feed: Feed,
 }
 
-// A line; that one was too long; more is to be read; or all lines were handed on.
-#[derive(Clone, Copy)]
+/// A line; that one was too long; more is to be read; or all lines were handed on. An enum of its own: each is a turn of
+/// the session, and none an error to pass on.
+#[derive(Clone, Copy, Debug, PartialEq, Eq)]
 pub enum Coming {
     Line(Taken),
     TooLong(Feed),
@@ -39,21 +42,15 @@ pub enum Coming {
     Over,
 }
 
-// The feed after a read, and whether the read failed: the input is over then, too.
-#[derive(Clone, Copy)]
+/// The feed after a read, and whether the read failed: the input is over then, too. A flag: the feed is there either
+/// way.
+#[derive(Clone, Copy, Debug, PartialEq, Eq)]
 pub struct Came {
     pub feed: Feed,
     pub is_failed: bool,
 }
 
-// How many bytes came, none where the read failed.
-#[derive(Clone, Copy)]
-struct Arrived {
-    count: usize,
-    is_failed: bool,
-}
-
-// Nothing was read.
+/// Nothing was read.
 pub fn start() -> Feed
     ensures { Starts result }
 {
@@ -71,12 +68,10 @@ fn newline_from(input: &[u8], from: usize, end: usize) -> usize
     requires { (from ≤ end) × (end ≤ length input.now) }
     ensures { FirstNewline input.now from end result }
 {
-    let mut i = from;
-    while i < end {
+    for i in from..end {
         if input[i] == b'\n' {
             return i;
         }
-        i += 1;
     }
     end
 }
@@ -160,7 +155,7 @@ fn next_line(feed: Feed, input: &[u8]) -> Coming
     without_newline(feed, input)
 }
 
-// What comes next. Each byte is looked at once: a search starts where the last one ended.
+/// What comes next. Each byte is looked at once: a search starts where the last one ended.
 pub fn next(feed: Feed, input: &[u8; INPUT_ROOM]) -> Coming
     requires { Fed input.now feed }
     ensures { Comes input.now feed result }
@@ -184,16 +179,15 @@ fn move_down(from: usize, end: usize, input: &mut [u8]) -> usize
     if from == 0 {
         return end;
     }
-    let mut i: usize = 0;
-    while from + i < end {
+    for i in 0..end - from {
         input[i] = input[from + i];
-        i += 1;
     }
-    i
+    end - from
 }
 
-// Standard input into the buffer from `at` on. There is room for one byte, so that none means the end. A failure is said on standard error.
-fn read_at(rt: &HostRuntime, at: usize, input: &mut [u8]) -> Arrived
+// Standard input into the buffer from `at` on: how many bytes came. There is room for one byte, so that none means the
+// end. A failure is said on standard error.
+fn read_at(rt: &HostRuntime, at: usize, input: &mut [u8]) -> Option<usize>
     requires { at < length input.old }
     ensures { ReadBehind input.old at result input.new }
 {
@@ -201,33 +195,28 @@ fn read_at(rt: &HostRuntime, at: usize, input: &mut [u8]) -> Arrived
     match rt.stdin().read(part) {
         Err(_) => {
             io::write_all(2, b"xpt: standard input cannot be read any further\n");
-            Arrived {
-                count: 0,
-                is_failed: true,
-            }
+            None
         }
-        Ok(count) => Arrived {
-            count,
-            is_failed: false,
-        },
+        Ok(count) => Some(count),
     }
 }
 
-// More input behind what is unread, which does not fill the buffer.
+/// More input behind what is unread, which does not fill the buffer.
 pub fn read_more(rt: &HostRuntime, feed: Feed, input: &mut [u8; INPUT_ROOM]) -> Came
     requires { Fed input.old feed × ((feed.end - feed.from < input_room) × (feed.is_over ≡ false)) }
     ensures { Adds input.old feed result input.new }
 {
     let kept = move_down(feed.from, feed.end, input);
     let arrived = read_at(rt, kept, input);
+    let count = arrived.unwrap_or(0);
     Came {
         feed: Feed {
             from: 0,
             seen: feed.seen - feed.from,
-            end: kept + arrived.count,
+            end: kept + count,
             is_passing: feed.is_passing,
-            is_over: arrived.count == 0,
+            is_over: count == 0,
         },
-        is_failed: arrived.is_failed,
+        is_failed: arrived.is_none(),
     }
 }

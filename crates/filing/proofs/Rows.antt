@@ -11,15 +11,15 @@ use Rattle.number.proofs.Choice.{is_eq, no_eq}
 use Rattle.decimal.proofs.Stores.{chain}
 use Rattle.key.specs.Key.{key}
 use Rattle.reader.specs.Values.{Entry, entry, entry_key, entry_iid, entry_descriptor, no_entry}
-use Rattle.normal.specs.BigEndian.{bytes_of}
-use Rattle.normal.specs.Normal.{space_pointer, own_pointer}
-use Rattle.normal.proofs.Numbers.{bytes_add}
-use Rattle.normal.proofs.Lengths.{length_bytes}
+use Rattle.meaning.specs.Normal.BigEndian.{bytes_of}
+use Rattle.meaning.specs.Normal.Normal.{space_pointer, own_pointer}
+use Rattle.meaning.proofs.Normal.Numbers.{bytes_add}
+use Rattle.meaning.proofs.Normal.Lengths.{length_bytes}
 use Rattle.iids.specs.Cells.{cell}
 use Rattle.iids.specs.Numbers.{wide, number_in}
-use Rattle.stock.specs.Uses.{space_words, key_words, entry_words, words_of, at_first}
-use Rattle.stock.specs.Pool.{entry_pieces, pool_size}
-use Rattle.stock.specs.Form.{entry_with, directory_with}
+use Rattle.meaning.specs.Stock.Uses.{space_words, key_words, entry_words, words_of, at_first}
+use Rattle.meaning.specs.Stock.Pool.{entry_pieces, pool_size}
+use Rattle.meaning.specs.Stock.Form.{entry_with, directory_with}
 use Rattle.places.specs.Noted.{start_use, body_use}
 use Rattle.writing.proofs.Lent.{rest, back, lent_after}
 use Rattle.pooling.specs.Tabled.{own_of, own_place, own_at}

@@ -4,7 +4,7 @@ use Rattle.std.specs.Prelude.{◌≡◌, List, ◌++◌, ℕ, ◌+◌, ◌*◌, 
 use Rattle.number.specs.Limits.{entry_width, row_limit}
 use Rattle.number.specs.Choice.{when◌then◌else◌, ◌=?◌}
 use Rattle.reader.specs.Values.{Entry, entry_iid, no_entry}
-use Rattle.normal.specs.BigEndian.{bytes_of}
+use Rattle.meaning.specs.Normal.BigEndian.{bytes_of}
 use Rattle.iids.specs.Cells.{cell}
 use Rattle.iids.specs.Numbers.{number_in}
 use Rattle.names.specs.Uses.{use_limit}

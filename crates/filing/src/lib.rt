@@ -1,4 +1,4 @@
-// Writes the directory of a normal form that stores each name once, by tables.
+//! Writes the directory of a normal form that stores each name once, by tables.
 #![tactic(auto)]
 
 ghost use Rattle.std.specs.Prelude.{◌≡◌, List, ℕ, ◌+◌, ◌≤◌, length};
@@ -8,8 +8,8 @@ ghost use Rattle.reader.specs.Values.{Entry};
 ghost use Rattle.iids.specs.Cells.{cell};
 ghost use Rattle.iids.specs.Numbers.{wide};
 ghost use Rattle.names.specs.Uses.{use_limit};
-ghost use Rattle.stock.specs.Uses.{words_of, at_first};
-ghost use Rattle.stock.specs.Form.{directory_with};
+ghost use Rattle.meaning.specs.Stock.Uses.{words_of, at_first};
+ghost use Rattle.meaning.specs.Stock.Form.{directory_with};
 ghost use Rattle.filing.specs.Listed.{space_of, row_of, Listed, ListFits};
 
 use iids::index;
@@ -39,7 +39,7 @@ fn put_entry(high: u64, low: u64, name: u32, space: u32, own: u32, out: &mut [u8
     put_u32(out, 24, own);
 }
 
-// The directory of c entries, whose IIDs stand where t tells.
+/// The directory of c entries, whose IIDs stand where t tells.
 pub fn put_directory(
     high: &[u64; ROW_LIMIT],
     low: &[u64; ROW_LIMIT],
@@ -54,8 +54,7 @@ pub fn put_directory(
     requires { ListFits high.now low.now t.now starts.now before.now owns.now c (length out.old) }
     ensures { (us : List (Entry ℕ)) → Listed high.now low.now t.now starts.now before.now owns.now c us → out.new ≡ sets out.old 0 (directory_with (cell places.now) (at_first (words_of us)) 0 1 us) }
 {
-    let mut q: usize = 0;
-    while q < c {
+    for q in 0..c {
         let r = index(t[q]);
         let u = pointer(starts[q]);
         let space = space_place(places, u, pointer(before[q]));
@@ -67,6 +66,5 @@ pub fn put_directory(
             owns[q],
             &mut out[ENTRY_WIDTH * q..],
         );
-        q += 1;
     }
 }

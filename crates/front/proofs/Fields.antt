@@ -9,9 +9,9 @@ use lib.Seq.{sets}
 use Rattle.number.proofs.Choice.{is_eq, no_eq}
 use Rattle.decimal.proofs.Stores.{snoc, chain}
 use Rattle.reader.specs.Records.{magic}
-use Rattle.normal.specs.BigEndian.{bytes_of}
-use Rattle.normal.specs.Normal.{header_bytes, note_bytes}
-use Rattle.normal.proofs.Lengths.{length_bytes, length_header}
+use Rattle.meaning.specs.Normal.BigEndian.{bytes_of}
+use Rattle.meaning.specs.Normal.Normal.{header_bytes, note_bytes}
+use Rattle.meaning.proofs.Normal.Lengths.{length_bytes, length_header}
 use Rattle.front.specs.Front.{directory_at, front_header, front_bytes}
 
 pub directory_none : (c : ℕ) → c ≡ 0 → 0 ≡ directory_at c

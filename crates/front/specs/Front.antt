@@ -4,7 +4,7 @@ use Rattle.std.specs.Prelude.{List, ◌++◌, ℕ, ◌+◌, ◌*◌}
 use Rattle.number.specs.Limits.{entry_width}
 use Rattle.number.specs.Choice.{when◌then◌else◌, ◌=?◌}
 use Rattle.reader.specs.Values.{Header}
-use Rattle.normal.specs.Normal.{header_bytes, note_bytes}
+use Rattle.meaning.specs.Normal.Normal.{header_bytes, note_bytes}
 
 unfoldable pub directory_at : ℕ → ℕ
 directory_at c = when c =? 0 then 0 else 36

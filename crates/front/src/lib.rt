@@ -1,4 +1,4 @@
-// What stands before the directory.
+//! What stands before the directory.
 #![tactic(auto)]
 
 ghost use Rattle.std.specs.Prelude.{◌≡◌, ◌≤◌, length};
@@ -18,7 +18,7 @@ fn directory_at(c: usize) -> u32
     36
 }
 
-// Header and annotation of a file of this minor, c entries and `len` bytes.
+/// Header and annotation of a file of this minor, c entries and `len` bytes.
 pub fn put_front(minor: u8, c: usize, len: usize, out: &mut [u8])
     requires { (c ≤ entry_limit) × ((len ≤ file_limit) × (36 ≤ length out.old)) }
     ensures { out.new ≡ sets out.old 0 (front_bytes minor c len) }

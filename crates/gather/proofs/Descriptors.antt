@@ -10,8 +10,8 @@ use Rattle.number.specs.Number.{be}
 use Rattle.reader.specs.Values.{Method, method_name, Constant, constant_name, Descriptor, descriptor}
 use Rattle.reader.specs.Records.{ShowsMethod, ShowsConstant, ShowsDescriptor}
 use Rattle.reader.specs.Layout.{Stands, Rows}
-use Rattle.normal.specs.Size.{descriptor_size}
-use Rattle.stock.specs.Uses.{names_of}
+use Rattle.meaning.specs.Normal.Size.{descriptor_size}
+use Rattle.meaning.specs.Stock.Uses.{names_of}
 use Rattle.writing.specs.Source.{Known}
 use Rattle.writing.specs.Wrote.{Room}
 use Rattle.writing.proofs.Sources.{Rows-Known}

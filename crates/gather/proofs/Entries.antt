@@ -6,8 +6,8 @@ use Prim.Native.Nat.{ℕ, zero, suc, ◌+◌, ◌-◌, ◌*◌, ◌≤◌, ◌<�
 use native.Mathlib.Omega.{arith}
 use lib.ListN.{length, get_or, take, length-append}
 use Rattle.reader.specs.Values.{Entry, entry, entry_key, entry_descriptor, no_entry}
-use Rattle.normal.specs.Size.{sum}
-use Rattle.stock.specs.Uses.{own_words, key_words, entry_words, words_of, own_body, body_length}
+use Rattle.meaning.specs.Normal.Size.{sum}
+use Rattle.meaning.specs.Stock.Uses.{own_words, key_words, entry_words, words_of, own_body, body_length}
 use Rattle.places.specs.Noted.{start_use, body_use, body_size}
 
 pub entry_words_lem : (e : Entry ℕ) → key_words (entry_key e) ++ own_words (entry_descriptor e) ≡ entry_words e

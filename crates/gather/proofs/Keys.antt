@@ -14,7 +14,7 @@ use Rattle.key.specs.Key.{Key, key, key_space, key_name}
 use Rattle.key.specs.Pointer.{no_bytes}
 use Rattle.key.proofs.Walks.{Leads-in, space_word, space_none}
 use Rattle.names.proofs.Words.{word_here, word_there}
-use Rattle.stock.specs.Uses.{space_words, key_words}
+use Rattle.meaning.specs.Stock.Uses.{space_words, key_words}
 use Rattle.gather.specs.Words.{Means, PutWords}
 use Rattle.gather.specs.Leading.{SpaceLed, KeyLed}
 use Rattle.gather.proofs.Words.{put_one, put_then}

@@ -8,7 +8,7 @@ use Rattle.reader.specs.Rules.{InDirectory, MethodRule, ConstantRule, Descriptor
 use Rattle.meaning.specs.Refs.{AllRefs}
 use Rattle.meaning.proofs.Alls.{All-then}
 use Rattle.meaning.proofs.Refs.{refs_then}
-use Rattle.normal.proofs.Apart.{refs_in}
+use Rattle.meaning.proofs.Normal.Apart.{refs_in}
 use Rattle.writing.specs.Source.{InTable}
 use Rattle.gather.specs.Words.{Named, NamedDescriptor}
 

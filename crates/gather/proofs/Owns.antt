@@ -12,10 +12,10 @@ use Rattle.reader.specs.Values.{method_name, constant_name, Descriptor, descript
 use Rattle.reader.specs.Records.{ShowsDescriptor}
 use Rattle.meaning.specs.Meaning.{map_method, map_descriptor}
 use Rattle.meaning.proofs.Maps.{map-list}
-use Rattle.normal.specs.Size.{descriptor_size}
-use Rattle.normal.proofs.Mapped.{name_mapped, descriptor_size_lem}
+use Rattle.meaning.specs.Normal.Size.{descriptor_size}
+use Rattle.meaning.proofs.Normal.Mapped.{name_mapped, descriptor_size_lem}
 use Rattle.names.specs.Uses.{use_limit}
-use Rattle.stock.specs.Uses.{names_of, own_words, own_body}
+use Rattle.meaning.specs.Stock.Uses.{names_of, own_words, own_body}
 use Rattle.writing.specs.Source.{Known}
 use Rattle.writing.specs.Wrote.{Room}
 use Rattle.writing.proofs.Sizes as sizes

@@ -1,5 +1,6 @@
 -- Rows noted one by one.
 -- Assumes nothing.
+use Rattle.std.specs.Prelude.{Some}
 use mathlib.Core.Path.{◌≡◌, refl, sym, ap, ◌∙◌}
 use mathlib.Core.List.{List, ◌++◌}
 use mathlib.Core.Logic.{inl, inr}
@@ -12,15 +13,14 @@ use Rattle.number.specs.Limits.{file_limit, row_limit}
 use Rattle.number.proofs.Scans.{below}
 use Rattle.key.specs.Key.{Key}
 use Rattle.reader.specs.Values.{Descriptor, Entry, entry_key, entry_descriptor, no_entry}
-use Rattle.normal.specs.Size.{sum}
+use Rattle.meaning.specs.Normal.Size.{sum}
 use Rattle.names.specs.Uses.{word_of, spelt}
-use Rattle.stock.specs.Uses.{own_words, key_words, entry_words, words_of, body_length}
-use Rattle.stock.proofs.Few.{few_uses}
+use Rattle.meaning.specs.Stock.Uses.{own_words, key_words, entry_words, words_of, body_length}
+use Rattle.meaning.proofs.Stock.Few.{few_uses}
 use Rattle.places.specs.Noted.{start_use, body_use, body_size, Noted}
 use Rattle.places.proofs.Once.{in_order}
 use Rattle.rows.specs.Files.{Given}
 use Rattle.gather.specs.declared.Passed.{Passed}
-use Rattle.gather.specs.declared.Outcome.TheVariants.{Uses}
 use Rattle.gather.specs.Words.{Means, PutWords}
 use Rattle.gather.specs.Leading.{KeyLed, OwnLed, OwnStands, PutOwn, Leading, LedEntries, Answered}
 use Rattle.gather.proofs.Words.{put_none, put_then, put_same}
@@ -145,7 +145,7 @@ module _ (pool other names spaces bodies : List ℕ) (c : ℕ) where
       }
 
   module _ (t : List ℕ) (q u total : ℕ) (words starts before sizes : List ℕ) (g : Gone t q u total words starts before sizes) (l : c ≤ q) where
-    pub gone_done : (n : ℕ) (us : List (Entry ℕ)) → Leading pool other n names spaces bodies us c → Answered us pool other words starts before sizes c (Uses u)
+    pub gone_done : (n : ℕ) (us : List (Entry ℕ)) → Leading pool other n names spaces bodies us c → Answered us pool other words starts before sizes c (Some u)
     unfolding spelt
     gone_done n us i =
         let d = g.each n us i in

@@ -18,7 +18,7 @@ use Rattle.reader.specs.Rules.{DescriptorRule, EntryRule}
 use Rattle.reader.specs.Layout.{Lies, Spells, SpellsSpace}
 use Rattle.meaning.specs.Meaning.{map_own}
 use Rattle.meaning.proofs.Alls.{All-at}
-use Rattle.stock.specs.Uses.{names_of}
+use Rattle.meaning.specs.Stock.Uses.{names_of}
 use Rattle.iids.specs.Cells.{cell}
 use Rattle.rows.specs.Rows.{descriptor_of_row, reference_in}
 use Rattle.rows.specs.Notes.{Noted, NameOf, SpaceOf, OwnOf}

@@ -1,6 +1,6 @@
 -- Tables of pointers that lead to the keys and the descriptors of entries: into one pool or, with `file_limit` more, into the other.
 -- Assumes nothing.
-use Rattle.std.specs.Prelude.{◌≡◌, ◌⊎◌, List, [], ℕ, ◌+◌, ◌-◌, ◌≤◌, ◌<◌, length, get_or}
+use Rattle.std.specs.Prelude.{◌≡◌, ◌⊎◌, List, [], ℕ, ◌+◌, ◌-◌, ◌≤◌, ◌<◌, length, get_or, None, Option as Maybe, Some}
 use Rattle.std.proofs.Math.Option.{Option, none, some}
 use Rattle.number.specs.Limits.{file_limit, own_limit, row_limit}
 use Rattle.number.specs.Choice.{when◌then◌else◌, ◌<?◌, ◌=?◌}
@@ -8,17 +8,15 @@ use Rattle.key.specs.Key.{Key, key_space, key_name}
 use Rattle.reader.specs.Values.{Descriptor, Entry, entry_key, entry_descriptor, no_entry}
 use Rattle.reader.specs.Records.{ShowsDescriptor}
 use Rattle.meaning.specs.Meaning.{map_descriptor}
-use Rattle.normal.specs.Size.{sum}
+use Rattle.meaning.specs.Normal.Size.{sum}
 use Rattle.meaning.specs.Refs.{AllRefs}
 use Rattle.writing.specs.Source.{Known, InTable}
 use Rattle.names.specs.Uses.{Spelt}
-use Rattle.stock.specs.Uses.{names_of, own_words, own_body, body_length}
+use Rattle.meaning.specs.Stock.Uses.{names_of, own_words, own_body, body_length}
 use Rattle.places.specs.Places.{InOrder}
 use Rattle.places.specs.Noted.{start_use, Noted}
 use Rattle.iids.specs.Cells.{cell}
 use Rattle.gather.specs.declared.Passed.{Passed}
-use Rattle.gather.specs.declared.Outcome.{Outcome}
-use Rattle.gather.specs.declared.Outcome.TheVariants.{Over, Uses}
 use Rattle.gather.specs.Words.{NamedDescriptor, Means, PutWords}
 
 -- ---- keys
@@ -90,9 +88,9 @@ pub record Gathered (us : List (Entry ℕ)) (pool other words starts before size
   pub starting : (i : ℕ) → i < c → get_or starts i 0 ≡ start_use us i
 
 -- they do, or the entries are longer than a file may be even without their names
-abbrev pub Answered : List (Entry ℕ) → List ℕ → List ℕ → List ℕ → List ℕ → List ℕ → List ℕ → ℕ → Outcome → Type 0
-Answered us pool other words starts before sizes c Over = file_limit < 36 + sum body_length us
-Answered us pool other words starts before sizes c (Uses n) = Gathered us pool other words starts before sizes n c
+abbrev pub Answered : List (Entry ℕ) → List ℕ → List ℕ → List ℕ → List ℕ → List ℕ → List ℕ → ℕ → Maybe ℕ → Type 0
+Answered us pool other words starts before sizes c None = file_limit < 36 + sum body_length us
+Answered us pool other words starts before sizes c (Some n) = Gathered us pool other words starts before sizes n c
 
 -- ---- pointers of rows, of which the first n are the first file's
 

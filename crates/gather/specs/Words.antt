@@ -4,8 +4,8 @@ use Rattle.std.specs.Prelude.{◌≡◌, List, [], map, ℕ, ◌+◌, ◌<◌, l
 use Rattle.reader.specs.Layout.{Spells, Ends, Rows}
 use Rattle.reader.specs.Values.{method_name, constant_name, Descriptor, descriptor}
 use Rattle.reader.specs.Rules.{Identifier, All}
-use Rattle.normal.specs.Size.{descriptor_size}
-use Rattle.stock.specs.Uses.{names_of}
+use Rattle.meaning.specs.Normal.Size.{descriptor_size}
+use Rattle.meaning.specs.Stock.Uses.{names_of}
 use Rattle.names.specs.Uses.{word_of, Led}
 use Rattle.gather.specs.declared.Passed.{Passed}
 

@@ -1,5 +1,5 @@
-// What is known of the rows of a union before anything is written: the words of their uses of names, where their descriptors
-// lie, and what these take. A pointer leads into the pool of the first file or, with FILE_LIMIT more, into that of the second.
+//! What is known of the rows of a union before anything is written: the words of their uses of names, where their descriptors
+//! lie, and what these take. A pointer leads into the pool of the first file or, with FILE_LIMIT more, into that of the second.
 #![tactic(auto)]
 
 ghost use Rattle.std.specs.Prelude.{◌≡◌, List, ℕ, ◌+◌, ◌-◌, ◌≤◌, ◌<◌, length};
@@ -12,7 +12,7 @@ ghost use Rattle.reader.specs.Values.{method_name, constant_name, Descriptor, En
 ghost use Rattle.reader.specs.Records.{ShowsMethod, ShowsConstant, ShowsDescriptor};
 ghost use Rattle.reader.specs.Layout.{Stands, Rows};
 ghost use Rattle.names.specs.Uses.{use_limit};
-ghost use Rattle.stock.specs.Uses.{names_of, key_words};
+ghost use Rattle.meaning.specs.Stock.Uses.{names_of, key_words};
 ghost use Rattle.rows.specs.Files.{Given};
 ghost use Rattle.writing.specs.Source.{Known};
 ghost use Rattle.writing.specs.Wrote.{Room};
@@ -23,19 +23,11 @@ use iids::index;
 use names::{USE_LIMIT, pointer};
 use number::{ENTRY_WIDTH, FILE_LIMIT, ROW_LIMIT};
 
-// After a descriptor: the use that is next, and the bytes of the descriptor without its names.
-#[derive(Drop)]
+/// After a descriptor: the use that is next, and the bytes of the descriptor without its names.
+#[derive(Clone, Copy, Debug, PartialEq, Eq)]
 pub struct Passed {
     pub next: usize,
     pub size: usize,
-}
-
-#[derive(Drop)]
-pub enum Outcome {
-    // Directory and descriptors alone are longer than a file may be.
-    Over,
-    // So many uses.
-    Uses(usize),
 }
 
 // ---- descriptors
@@ -52,12 +44,10 @@ fn note_methods(
     requires { Stands (Rows (Known (ShowsMethod pool.now) (Named method_name)) n at) × ((length pool.now ≤ file_limit) × ((base ≤ file_limit) × ((u + n ≤ use_limit) × (use_limit ≡ length words.old)))) }
     ensures { PutNames (Known (ShowsMethod pool.now) (Named method_name)) method_name n at pool.now base words.old words.new u result }
 {
-    let mut k: usize = 0;
     let mut p = at;
-    while k < n {
+    for k in 0..n {
         words[u + k] = (base + reader::record::method_name(pool, p)) as u32;
         p = reader::record::method_end(pool, p);
-        k += 1;
     }
     p
 }
@@ -74,12 +64,10 @@ fn note_constants(
     requires { Stands (Rows (Known (ShowsConstant pool.now) (Named constant_name)) n at) × ((length pool.now ≤ file_limit) × ((base ≤ file_limit) × ((u + n ≤ use_limit) × (use_limit ≡ length words.old)))) }
     ensures { PutNames (Known (ShowsConstant pool.now) (Named constant_name)) constant_name n at pool.now base words.old words.new u result }
 {
-    let mut k: usize = 0;
     let mut p = at;
-    while k < n {
+    for k in 0..n {
         words[u + k] = (base + reader::record::constant_name(pool, p)) as u32;
         p = reader::record::constant_end(pool, p);
-        k += 1;
     }
     p
 }
@@ -155,9 +143,9 @@ fn note_body(pool: &[u8], other: &[u8], b: usize, words: &mut [u32; USE_LIMIT], 
     note_descriptor(other, b - FILE_LIMIT - 1, FILE_LIMIT, words, u)
 }
 
-// Of c rows, whose names, namespaces and descriptors three tables lead to: the words of their uses, how many of these stand
-// before each descriptor, and what each takes; the first use of each row takes the place of its name.
-// It stops where a file of the rows would be too long even without names.
+/// Of c rows, whose names, namespaces and descriptors three tables lead to: the words of their uses, how many of these stand
+/// before each descriptor, and what each takes; the first use of each row takes the place of its name.
+/// It stops where a file of the rows would be too long even without names.
 pub fn note_rows(
     pool: &[u8],
     other: &[u8],
@@ -168,14 +156,13 @@ pub fn note_rows(
     words: &mut [u32; USE_LIMIT],
     before: &mut [u32; ROW_LIMIT],
     sizes: &mut [u32; ROW_LIMIT],
-) -> Outcome
+) -> Option<usize>
     requires { LedEntries pool.now other.now names.old spaces.now bodies.now c × ((row_limit ≡ length names.old) × ((use_limit ≡ length words.old) × ((row_limit ≡ length before.old) × (row_limit ≡ length sizes.old)))) }
     ensures { ((n : ℕ) (us : List (Entry ℕ)) → Leading pool.now other.now n names.old spaces.now bodies.now us c → Answered us pool.now other.now words.new names.new before.new sizes.new c result) × (row_limit ≡ length sizes.new) }
 {
     let mut total = 36 + ENTRY_WIDTH * c;
     let mut u: usize = 0;
-    let mut q: usize = 0;
-    while q < c {
+    for q in 0..c {
         let e = note_key(pool, other, names[q], spaces[q], words, u);
         names[q] = u as u32;
         let b = bodies[q];
@@ -185,11 +172,10 @@ pub fn note_rows(
         u = x.next;
         total += x.size;
         if FILE_LIMIT < total {
-            return Outcome::Over;
+            return None;
         }
-        q += 1;
     }
-    Outcome::Uses(u)
+    Some(u)
 }
 
 // ---- tables of rows that lead
@@ -208,7 +194,7 @@ fn lead(n: usize, r: usize, p: u32) -> u32
     FILE_LIMIT as u32 + p
 }
 
-// Of the first c rows of t, what `pointers` tells of each.
+/// Of the first c rows of t, what `pointers` tells of each.
 pub fn lead_rows(
     pointers: &[u32; ROW_LIMIT],
     n: usize,
@@ -219,11 +205,9 @@ pub fn lead_rows(
     requires { PointersIn pointers.now t.now c × ((row_limit ≡ length pointers.now) × ((row_limit ≡ length t.now) × (row_limit ≡ length led.old))) }
     ensures { Filled led.new c (led_row n pointers.now t.now) × (row_limit ≡ length led.new) }
 {
-    let mut q: usize = 0;
-    while q < c {
+    for q in 0..c {
         let r = index(t[q]);
         led[q] = lead(n, r, pointers[r]);
-        q += 1;
     }
 }
 
@@ -238,7 +222,7 @@ fn lead_held(own: &[u32; ROW_LIMIT], n: usize, h: usize) -> u32
     lead(n, h - 1, own[h - 1])
 }
 
-// Of the first c rows of t, what `own` tells of the rows that `holders` tells for them, counted from 1.
+/// Of the first c rows of t, what `own` tells of the rows that `holders` tells for them, counted from 1.
 pub fn lead_bodies(
     own: &[u32; ROW_LIMIT],
     n: usize,
@@ -250,11 +234,9 @@ pub fn lead_bodies(
     requires { HoldersIn own.now t.now holders.now c × ((row_limit ≡ length own.now) × ((row_limit ≡ length t.now) × ((row_limit ≡ length holders.now) × (row_limit ≡ length led.old)))) }
     ensures { Filled led.new c (led_body n own.now t.now holders.now) × (row_limit ≡ length led.new) }
 {
-    let mut q: usize = 0;
-    while q < c {
+    for q in 0..c {
         let r = index(t[q]);
         let h = index(holders[r]);
         led[q] = lead_held(own, n, h);
-        q += 1;
     }
 }

@@ -8,9 +8,7 @@ ghost use Rattle.directory.specs.Directory.{read_directory};
 ghost use Rattle.genuine.specs.Headed.{Headed};
 ghost use Rattle.genuine.specs.Genuine.{passes, lists_genuine, is_genuine};
 
-use head::Head;
 use number::ENTRY_WIDTH;
-use reading::Step;
 
 // Whether the annotations, which end at or before `limit`, are accepted.
 fn passes_annotations(file: &[u8], limit: usize) -> bool
@@ -18,8 +16,8 @@ fn passes_annotations(file: &[u8], limit: usize) -> bool
     ensures { result ≡ passes (read_annotations limit file.now) }
 {
     match head::read_annotations(file, limit) {
-        Step::End(_) => true,
-        Step::Refused(_) => false,
+        Ok(_) => true,
+        Err(_) => false,
     }
 }
 
@@ -29,8 +27,8 @@ fn passes_directory(file: &[u8], n: usize, start: usize, pool: usize) -> bool
     ensures { result ≡ passes (read_directory file.now (drop pool file.now) n start) }
 {
     match directory::check_directory(file, n, start, pool) {
-        Step::End(_) => true,
-        Step::Refused(_) => false,
+        Ok(_) => true,
+        Err(_) => false,
     }
 }
 
@@ -63,8 +61,8 @@ pub fn is_genuine(file: &[u8]) -> bool
     ensures { result ≡ is_genuine file.now }
 {
     match head::read_header(file) {
-        Head::Read(h) => false,
-        Head::Refused(why) => {
+        Ok(h) => false,
+        Err(why) => {
             if why.no != 8 {
                 return false;
             }

@@ -1,4 +1,4 @@
-// An IID as people write it, with hyphens and in braces.
+//! An IID as people write it, with hyphens and in braces.
 #![tactic(auto)]
 
 ghost use Rattle.std.specs.Prelude.{◌≡◌, length};
@@ -56,7 +56,7 @@ fn is_braced(word: &[u8]) -> bool
     word[37] == 125
 }
 
-// Whether the word is in one of these forms, and then its bytes without hyphens and braces into `out`, which else stays as it was.
+/// Whether the word is in one of these forms, and then its bytes without hyphens and braces into `out`, which else stays as it was.
 pub fn plain(word: &[u8], out: &mut [u8; 32]) -> bool
     ensures { Spells (unbraced word.now) out.old result out.new }
 {

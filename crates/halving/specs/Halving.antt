@@ -1,10 +1,10 @@
 -- Request #104: an IID is looked for in the sorted directory by halving it, zero IIDs included, and the entries looked at are counted.
 -- Assumes nothing.
+use Rattle.std.specs.declared.cmp.Ordering.TheVariants.{Equal, Greater, Less}
+use Rattle.std.specs.declared.cmp.Ordering.{Ordering}
 use Rattle.std.specs.Prelude.{List, ℕ, zero, suc, ◌+◌, ◌-◌, ◌/◌, length}
 use Rattle.std.proofs.Math.Option.{Option, none, some}
 use Rattle.number.specs.Choice.{when◌then◌else◌, ◌<?◌, ◌=?◌}
-use Rattle.key.specs.declared.Order.{Order}
-use Rattle.key.specs.declared.Order.TheVariants.{Before, Same, After}
 use Rattle.reader.specs.Values.{Entry}
 use Rattle.reader.specs.Rules.{iid_of}
 use Rattle.halving.specs.declared.Looked.{Looked}
@@ -49,8 +49,8 @@ index_in (Found i k) = some i
 index_in (None k) = none
 
 -- a before b, after it, or the same
-unfoldable pub compare_numbers : ℕ → ℕ → Order
+unfoldable pub compare_numbers : ℕ → ℕ → Ordering
 compare_numbers a b =
-    when a <? b then Before else
-    when b <? a then After else
-    Same
+    when a <? b then Less else
+    when b <? a then Greater else
+    Equal

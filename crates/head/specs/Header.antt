@@ -1,14 +1,13 @@
 -- Document 01, "Header" and "Positions": refusals 1 to 8, in number order; 29 and 30 stand where 6 stood.
 -- Assumes nothing.
-use Rattle.std.specs.Prelude.{Bool, true, List, [], ◌∷◌, ℕ, ◌+◌, ◌*◌, ◌%◌, length, get_or}
+use Rattle.reading.specs.declared.Refusal.{Refusal}
+use Rattle.std.specs.Prelude.{Bool, true, List, [], ◌∷◌, ℕ, ◌+◌, ◌*◌, ◌%◌, length, get_or, Err, Ok, Result}
 use Rattle.number.specs.Limits.{file_limit, entry_limit, entry_width}
 use Rattle.number.specs.Choice.{when◌then◌else◌, ◌<?◌, ◌=?◌, ◌≠?◌}
 use Rattle.number.specs.Number.{be}
 use Rattle.number.specs.Scan.{scan}
 use Rattle.reading.specs.Got.{Got, got, bad}
 use Rattle.head.specs.declared.Header.{Header}
-use Rattle.head.specs.declared.Head.{Head}
-use Rattle.head.specs.declared.Head.TheVariants.{Read, Refused}
 
 -- XPCOM, a line feed, TypeLib, 0d 0a 1a
 abbrev pub magic : List ℕ
@@ -73,6 +72,6 @@ read_header s =
     read_fields s
 
 -- the answer of the code that reads a header
-unfoldable pub head_of : Got Header → Head
-head_of (got h e) = Read h
-head_of (bad n q) = Refused (record { no = n; place = q })
+unfoldable pub head_of : Got Header → Result Header Refusal
+head_of (got h e) = Ok h
+head_of (bad n q) = Err (record { no = n; place = q })

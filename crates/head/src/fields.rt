@@ -1,61 +1,36 @@
-// The fields of the header: refusals 1 to 8, with 29 and 30 for 6.
+//! The fields of the header: refusals 1 to 8, with 29 and 30 for 6.
 ghost use Rattle.std.specs.Prelude.{◌≡◌, ◌≤◌, length};
-ghost use Rattle.head.specs.Header.{magic_end, unknown_minor, length_fault, misplaced_pool, misplaced_directory, read_positions, read_fields, read_header, head_of};
+ghost use Rattle.head.specs.Header.{magic_end, misplaced_pool, misplaced_directory, read_positions, read_fields, read_header, head_of};
 
-use super::{Head, Header, NEWEST};
+use super::{Header, NEWEST};
 use number::{ENTRY_LIMIT, ENTRY_WIDTH, FILE_LIMIT};
-use reading::Refusal;
+use reading::{Refusal, Rule};
 
-const MAGIC: [u8; 16] = [
-    0x58, 0x50, 0x43, 0x4f, 0x4d, 0x0a, 0x54, 0x79, 0x70, 0x65, 0x4c, 0x69, 0x62, 0x0d, 0x0a, 0x1a,
-];
+const MAGIC: [u8; 16] = *b"XPCOM\nTypeLib\r\n\x1a";
 
-// The first byte that differs from the magic, or 16.
+/// The first byte that differs from the magic, or 16.
 fn magic_end(file: &[u8]) -> usize
     requires { 32 ≤ length file.now }
     ensures { result ≡ magic_end file.now }
 {
-    let mut i: usize = 0;
-    while i < 16 {
+    for i in 0..16 {
         if file[i] != MAGIC[i] {
             return i;
         }
-        i += 1;
     }
-    i
+    16
 }
 
-// Whether a minor version is not allowed.
-fn unknown_minor(m: u8) -> bool
-    ensures { result ≡ unknown_minor m }
-{
-    NEWEST < m
-}
-
-// The refusal of a file of `given` bytes whose length field says `said`, or 0.
-fn length_fault(given: usize, said: usize) -> u8
-    ensures { result ≡ length_fault given said }
-{
-    if given < said {
-        return 29;
-    }
-    if said < given {
-        return 30;
-    }
-    0
-}
-
-// Whether the pool offset is wrong in a file of `len` bytes.
+/// Whether the pool offset is wrong in a file of `len` bytes.
+#[tactic(auto, using(number::proofs::Choice::tests), unfolding(crate::specs::Header::misplaced_pool))]
 fn misplaced_pool(pool: usize, len: usize) -> bool
     ensures { result ≡ misplaced_pool pool len }
 {
-    if pool < 33 {
-        return true;
-    }
-    len < pool
+    pool < 33 || len < pool
 }
 
-// Whether the directory offset is wrong for n entries.
+/// Whether the directory offset is wrong for n entries.
+#[tactic(auto, using(number::proofs::Choice::tests), unfolding(crate::specs::Header::misplaced_directory))]
 fn misplaced_directory(n: usize, directory: usize, pool: usize) -> bool
     requires { (n ≤ 65535) × (directory ≤ 4294967295) }
     ensures { result ≡ misplaced_directory n directory pool }
@@ -63,30 +38,25 @@ fn misplaced_directory(n: usize, directory: usize, pool: usize) -> bool
     if n == 0 {
         return directory != 0;
     }
-    if directory % 4 != 0 {
-        return true;
-    }
-    if directory < 33 {
-        return true;
-    }
-    pool < directory + ENTRY_WIDTH * n
+    directory % 4 != 0 || directory < 33 || pool < directory + ENTRY_WIDTH * n
 }
 
-// Refusal 8.
-fn read_positions(file: &[u8]) -> Head
+/// Refusal 8.
+#[tactic(auto, using(crate::proofs::HeadSteps::walks), unfolding(crate::specs::Header::read_positions))]
+fn read_positions(file: &[u8]) -> Result<Header, Refusal>
     requires { 32 ≤ length file.now }
     ensures { result ≡ head_of (read_positions file.now) }
 {
-    let count = number::u16_at(file, 18) as usize;
+    let count = usize::from(number::u16_at(file, 18));
     let directory = number::u32_at(file, 24) as usize;
     let pool = number::u32_at(file, 28) as usize;
     if misplaced_pool(pool, file.len()) {
-        return Head::Refused(Refusal { no: 8, place: 28 });
+        return Err(Rule::Positions.at(28));
     }
     if misplaced_directory(count, directory, pool) {
-        return Head::Refused(Refusal { no: 8, place: 24 });
+        return Err(Rule::Positions.at(24));
     }
-    Head::Read(Header {
+    Ok(Header {
         minor: file[17],
         count,
         directory,
@@ -94,49 +64,46 @@ fn read_positions(file: &[u8]) -> Head
     })
 }
 
-// Refusals 4 to 8.
-fn read_fields(file: &[u8]) -> Head
+/// Refusals 4 to 8.
+#[tactic(auto, using(crate::proofs::HeadSteps::walks), unfolding(crate::specs::Header::read_fields, crate::specs::Header::unknown_minor, crate::specs::Header::length_fault))]
+fn read_fields(file: &[u8]) -> Result<Header, Refusal>
     requires { 32 ≤ length file.now }
     ensures { result ≡ head_of (read_fields file.now) }
 {
     if file[16] != 1 {
-        return Head::Refused(Refusal { no: 4, place: 16 });
+        return Err(Rule::Major.at(16));
     }
-    if unknown_minor(file[17]) {
-        return Head::Refused(Refusal { no: 5, place: 17 });
+    if NEWEST < file[17] {
+        return Err(Rule::Minor.at(17));
     }
-    let count = number::u16_at(file, 18);
     let said = number::u32_at(file, 20) as usize;
-    let fault = length_fault(file.len(), said);
-    if fault != 0 {
-        return Head::Refused(Refusal {
-            no: fault,
-            place: 20,
-        });
+    if file.len() < said {
+        return Err(Rule::Cut.at(20));
     }
-    if ENTRY_LIMIT < count as usize {
-        return Head::Refused(Refusal { no: 7, place: 18 });
+    if said < file.len() {
+        return Err(Rule::Added.at(20));
+    }
+    if ENTRY_LIMIT < usize::from(number::u16_at(file, 18)) {
+        return Err(Rule::Entries.at(18));
     }
     read_positions(file)
 }
 
-// The header of a file: refusals 1 to 8, in number order.
-pub fn read_header(file: &[u8]) -> Head
+/// The header of a file: refusals 1 to 8, in number order.
+#[tactic(auto, using(crate::proofs::HeadSteps::walks), unfolding(crate::specs::Header::read_header))]
+pub fn read_header(file: &[u8]) -> Result<Header, Refusal>
     ensures { result ≡ head_of (read_header file.now) }
 {
     let len = file.len();
     if len < 32 {
-        return Head::Refused(Refusal { no: 1, place: len });
+        return Err(Rule::Short.at(len));
     }
     if FILE_LIMIT < len {
-        return Head::Refused(Refusal {
-            no: 2,
-            place: FILE_LIMIT,
-        });
+        return Err(Rule::Long.at(FILE_LIMIT));
     }
-    let m = magic_end(file);
-    if m < 16 {
-        return Head::Refused(Refusal { no: 3, place: m });
+    let end = magic_end(file);
+    if end < 16 {
+        return Err(Rule::Magic.at(end));
     }
     read_fields(file)
 }

@@ -1,4 +1,4 @@
-// Numbers of sixteen bytes, by rows: IIDs. A table has the high eight bytes of each, another the low eight.
+//! Numbers of sixteen bytes, by rows: IIDs. A table has the high eight bytes of each, another the low eight.
 #![tactic(auto)]
 
 ghost use Rattle.std.specs.Prelude.{◌≡◌, ℕ, ◌≤◌, ◌<◌, length, get_or};
@@ -19,40 +19,32 @@ pub fn index(x: u16) -> usize
 }
 
 // Whether the number of a and b is that of c and d.
+#[tactic(auto, using(crate::proofs::NumberLaws::pairs))]
 fn same_pair(a: u64, b: u64, c: u64, d: u64) -> bool
     ensures { result ≡ (wide a b =? wide c d) }
 {
-    if a == c {
-        return b == d;
-    }
-    false
+    a == c && b == d
 }
 
 // Whether it is at most that.
+#[tactic(auto, using(crate::proofs::NumberLaws::pairs))]
 fn pair_most(a: u64, b: u64, c: u64, d: u64) -> bool
     ensures { result ≡ (wide a b ≤? wide c d) }
 {
-    if a < c {
-        return true;
-    }
-    if a == c {
-        return b <= d;
-    }
-    false
+    a < c || a == c && b <= d
 }
 
 // Whether row i has the number 0.
+#[tactic(auto, using(crate::proofs::NumberLaws::pairs), unfolding(crate::specs::Numbers::number_in))]
 fn zero_number(high: &[u64; ROW_LIMIT], low: &[u64; ROW_LIMIT], i: usize) -> bool
     requires { (i < row_limit) × (row_limit ≡ length high.now) × (row_limit ≡ length low.now) }
     ensures { result ≡ (number_in high.now low.now i =? 0) }
 {
-    if high[i] == 0 {
-        return low[i] == 0;
-    }
-    false
+    high[i] == 0 && low[i] == 0
 }
 
 // Whether rows i and j have one number.
+#[tactic(auto, unfolding(crate::specs::Numbers::number_in))]
 fn same_number(high: &[u64; ROW_LIMIT], low: &[u64; ROW_LIMIT], i: usize, j: usize) -> bool
     requires { (i < row_limit) × (j < row_limit) × (row_limit ≡ length high.now) × (row_limit ≡ length low.now) }
     ensures { result ≡ (number_in high.now low.now i =? number_in high.now low.now j) }
@@ -60,7 +52,8 @@ fn same_number(high: &[u64; ROW_LIMIT], low: &[u64; ROW_LIMIT], i: usize, j: usi
     same_pair(high[i], low[i], high[j], low[j])
 }
 
-// Whether the number of row i is at most that of row j.
+/// Whether the number of row i is at most that of row j.
+#[tactic(auto, unfolding(crate::specs::Numbers::number_in))]
 pub fn at_most(high: &[u64; ROW_LIMIT], low: &[u64; ROW_LIMIT], i: usize, j: usize) -> bool
     requires { (i < row_limit) × (j < row_limit) × (row_limit ≡ length high.now) × (row_limit ≡ length low.now) }
     ensures { result ≡ (number_in high.now low.now i ≤? number_in high.now low.now j) }
@@ -69,6 +62,7 @@ pub fn at_most(high: &[u64; ROW_LIMIT], low: &[u64; ROW_LIMIT], i: usize, j: usi
 }
 
 // Whether row i and its mate have two nonzero numbers.
+#[tactic(auto, using(number::proofs::Choice::tests), unfolding(crate::specs::Joined::two_numbers, crate::specs::Cells::cell))]
 fn two_numbers(
     high: &[u64; ROW_LIMIT],
     low: &[u64; ROW_LIMIT],
@@ -79,22 +73,13 @@ fn two_numbers(
     ensures { result ≡ two_numbers (number_in high.now low.now) (cell mates.now) i }
 {
     let k = index(mates[i]);
-    if k == 0 {
-        return false;
-    }
-    if zero_number(high, low, i) {
-        return false;
-    }
-    if zero_number(high, low, k - 1) {
-        return false;
-    }
-    if same_number(high, low, i, k - 1) {
-        return false;
-    }
-    true
+    k != 0
+        && !zero_number(high, low, i)
+        && !zero_number(high, low, k - 1)
+        && !same_number(high, low, i, k - 1)
 }
 
-// The lowest of the first n rows that has, with its mate, two nonzero numbers, or n.
+/// The lowest of the first n rows that has, with its mate, two nonzero numbers, or n.
 pub fn first_two_numbers(
     high: &[u64; ROW_LIMIT],
     low: &[u64; ROW_LIMIT],
@@ -105,17 +90,16 @@ pub fn first_two_numbers(
     requires { (n ≤ entry_limit) × (n ≤ total) × (total ≤ row_limit) × (row_limit ≡ length high.now) × (row_limit ≡ length low.now) × (entry_limit ≡ length mates.now) × AtMost mates.now n total }
     ensures { (g : ℕ → ℕ) → Wide high.now low.now total g → result ≡ scan (two_numbers g (cell mates.now)) n 0 }
 {
-    let mut i: usize = 0;
-    while i < n {
+    for i in 0..n {
         if two_numbers(high, low, mates, i) {
             return i;
         }
-        i += 1;
     }
-    i
+    n
 }
 
 // The row that has the number which row i and its mate have together.
+#[tactic(auto, using(number::proofs::Choice::tests), unfolding(crate::specs::Numbers::number_row, crate::specs::Cells::cell))]
 fn number_row(
     high: &[u64; ROW_LIMIT],
     low: &[u64; ROW_LIMIT],
@@ -135,7 +119,7 @@ fn number_row(
     i
 }
 
-// To each row the number that it and its mate have together.
+/// To each row the number that it and its mate have together.
 pub fn join_numbers(
     mates: &[u16; ENTRY_LIMIT],
     n: usize,
@@ -146,16 +130,15 @@ pub fn join_numbers(
     requires { (n ≤ entry_limit) × (n ≤ total) × (total ≤ row_limit) × (entry_limit ≡ length mates.now) × (row_limit ≡ length high.old) × (row_limit ≡ length low.old) × Across mates.now n total }
     ensures { ((g : ℕ → ℕ) → Wide high.old low.old total g → Wide high.new low.new total (joined g (cell mates.now) n)) × (row_limit ≡ length high.new) × (row_limit ≡ length low.new) × Past n high.old high.new × Past n low.old low.new }
 {
-    let mut i: usize = 0;
-    while i < n {
+    for i in 0..n {
         let r = number_row(high, low, mates, i);
         high[i] = high[r];
         low[i] = low[r];
-        i += 1;
     }
 }
 
 // Whether row r is the first of its key, another than i, and has the number of i.
+#[tactic(auto, using(number::proofs::Choice::tests), unfolding(crate::specs::Joined::shares_row, crate::specs::Cells::cell))]
 fn shares_row(
     first: &[u16; ROW_LIMIT],
     high: &[u64; ROW_LIMIT],
@@ -166,16 +149,11 @@ fn shares_row(
     requires { (i < row_limit) × (r < row_limit) × (row_limit ≡ length first.now) × (row_limit ≡ length high.now) × (row_limit ≡ length low.now) }
     ensures { result ≡ shares_row (cell first.now) (number_in high.now low.now) i r }
 {
-    if index(first[r]) != r {
-        return false;
-    }
-    if r == i {
-        return false;
-    }
-    same_number(high, low, r, i)
+    index(first[r]) == r && r != i && same_number(high, low, r, i)
 }
 
 // Whether one of the rows does so.
+#[tactic(auto, using(number::proofs::Scans::misses))]
 fn some_share(
     first: &[u16; ROW_LIMIT],
     high: &[u64; ROW_LIMIT],
@@ -186,17 +164,16 @@ fn some_share(
     requires { (i < row_limit) × (total ≤ row_limit) × (row_limit ≡ length first.now) × (row_limit ≡ length high.now) × (row_limit ≡ length low.now) }
     ensures { result ≡ some (shares_row (cell first.now) (number_in high.now low.now) i) total }
 {
-    let mut r: usize = 0;
-    while r < total {
+    for r in 0..total {
         if shares_row(first, high, low, i, r) {
             return true;
         }
-        r += 1;
     }
     false
 }
 
 // Whether another key has the nonzero number of row i.
+#[tactic(auto, using(number::proofs::Choice::tests), unfolding(crate::specs::Joined::shared_number))]
 fn shared_number(
     first: &[u16; ROW_LIMIT],
     high: &[u64; ROW_LIMIT],
@@ -207,13 +184,10 @@ fn shared_number(
     requires { (i < row_limit) × (total ≤ row_limit) × (row_limit ≡ length first.now) × (row_limit ≡ length high.now) × (row_limit ≡ length low.now) }
     ensures { result ≡ shared_number (cell first.now) (number_in high.now low.now) total i }
 {
-    if zero_number(high, low, i) {
-        return false;
-    }
-    some_share(first, high, low, total, i)
+    !zero_number(high, low, i) && some_share(first, high, low, total, i)
 }
 
-// The lowest of the first n rows whose nonzero number another key has, or n.
+/// The lowest of the first n rows whose nonzero number another key has, or n.
 pub fn first_shared(
     first: &[u16; ROW_LIMIT],
     high: &[u64; ROW_LIMIT],
@@ -224,12 +198,10 @@ pub fn first_shared(
     requires { (n ≤ total) × (total ≤ row_limit) × (row_limit ≡ length first.now) × (row_limit ≡ length high.now) × (row_limit ≡ length low.now) }
     ensures { (f g : ℕ → ℕ) → Filled first.now total f → Wide high.now low.now total g → result ≡ scan (shared_number f g total) n 0 }
 {
-    let mut i: usize = 0;
-    while i < n {
+    for i in 0..n {
         if shared_number(first, high, low, total, i) {
             return i;
         }
-        i += 1;
     }
-    i
+    n
 }

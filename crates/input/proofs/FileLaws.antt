@@ -1,5 +1,6 @@
 -- Bytes that came into a part of a buffer; a file's first bytes in another room.
 -- Assumes nothing.
+use Rattle.std.specs.Prelude.{Err, Ok, Result, ℕ, ℤ}
 use mathlib.Core.Path.{◌≡◌, sym, ap, subst, ◌∙◌}
 use mathlib.Core.List.{List, ◌++◌}
 use Prim.Native.Nat.{ℕ, ◌+◌, ◌≤◌, ◌<◌}
@@ -8,8 +9,6 @@ use lib.IntN.{ℤ}
 use lib.ListN.{length, take, drop}
 use lib.Seq.{sets, take-add, length-take-le, take-append_seam}
 use Rattle.decimal.proofs.Stores.{front}
-use Rattle.input.specs.declared.Came.{Came}
-use Rattle.input.specs.declared.Came.TheVariants.{To, Failed}
 use Rattle.input.specs.Came.{CameIn}
 use Rattle.input.specs.File.{StandsBehind, Comes, FirstBytes, ReadIn}
 
@@ -28,11 +27,11 @@ put_first buf bytes after n room long put =
     ∙ front buf bytes room
 
 -- calls of `read` until the file ended or the buffer was full give its first bytes
-pub read_first : (name : List ℕ) (fd : ℤ) (from : ℕ) (r : Came) (buf : List ℕ) → CameIn from (length buf) r → Comes name fd r buf → ReadIn name r buf
-read_first name fd from (To n) buf h s =
+pub read_first : (name : List ℕ) (fd : ℤ) (from : ℕ) (r : Result ℕ ℤ) (buf : List ℕ) → CameIn from (length buf) r → Comes name fd r buf → ReadIn name r buf
+read_first name fd from (Ok n) buf h s =
     let e = length-take-le n buf h.1 in
     (h.1, record { within = subst (λ (k : ℕ). k ≤ length buf) (sym e) h.1; came = (fd, s.0); whole = λ g. s.1 (subst (λ (k : ℕ). k < length buf) e g) })
-read_first name fd from (Failed e) buf h s = s
+read_first name fd from (Err e) buf h s = s
 
 -- a full buffer holds as many of its first bytes as there was room for
 pub full_first : (name : List ℕ) (fd : ℤ) (bytes : List ℕ) → StandsBehind name fd bytes → FirstBytes name (length bytes) bytes

@@ -1,4 +1,5 @@
-// Files by name, read into a lent buffer until they end or the buffer is full. The name `-` is standard input's. A failed call is told.
+//! Files by name, read into a lent buffer until they end or the buffer is full. The name `-` is standard input's. A
+//! failed call is told.
 #![tactic(auto)]
 
 ghost use Rattle.std.specs.Prelude.{◌≡◌, true, List, [], ℕ, ◌≤◌, ◌<◌, length, take, IfOk};
@@ -9,64 +10,47 @@ use std::fs;
 use std::fs::File;
 use std::io::{Read, Stdin};
 
-// Standard input, or a file that is open and is closed where it is dropped.
+/// Standard input, or a file that is open and is closed where it is dropped.
 #[derive(Drop)]
 pub enum Source {
     Input(Stdin),
     File(File),
 }
 
-// Where what was read ends in the buffer, or errno's number.
-#[derive(Clone, Copy)]
-pub enum Came {
-    To(usize),
-    Failed(i32),
-}
-
-// What is open, or errno's number.
-#[derive(Drop)]
-enum Opened {
-    At(Source),
-    Failed(i32),
-}
-
-// The whole file was read, of so many bytes, and is closed again; or the buffer is full, and the file is open yet; or errno's number.
+/// The whole file was read, of so many bytes, and is closed again; or the buffer is full, and the file is open yet.
 #[derive(Drop)]
 pub enum Begun {
     Whole(usize),
     Full(Source),
-    Failed(i32),
 }
 
+/// Whether the name is standard input's.
 pub fn is_input(name: &[u8]) -> bool
     ensures { result ≡ is_input name.now }
 {
     words::is_same(name, b"-")
 }
 
-// Standard input, of which nothing was read.
+/// Standard input, of which nothing was read.
 pub fn standard_input(rt: &HostRuntime) -> Source
     ensures { (name : List ℕ) → is_input name ≡ true → StandsBehind name (number_of result) [] }
 {
     Source::Input(rt.stdin())
 }
 
-fn open(rt: &HostRuntime, name: &[u8]) -> Opened
+fn open(rt: &HostRuntime, name: &[u8]) -> Result<Source, i32>
     ensures { Opens name.now result }
 {
     if is_input(name) {
-        return Opened::At(standard_input(rt));
+        return Ok(standard_input(rt));
     }
-    match paths::text_of(name) {
-        Err(error) => Opened::Failed(error),
-        Ok(path) => match fs::open(rt, path) {
-            Err(error) => Opened::Failed(paths::errno(error.raw_os_error())),
-            Ok(file) => Opened::At(Source::File(file)),
-        },
+    match fs::open(rt, paths::text_of(name)?) {
+        Err(error) => Err(paths::errno(error.raw_os_error())),
+        Ok(file) => Ok(Source::File(file)),
     }
 }
 
-// Standard input stays open.
+/// Standard input stays open.
 pub fn close(source: Source) {
     drop(source);
 }
@@ -88,69 +72,57 @@ fn read_once(source: &Source, part: &mut [u8]) -> std::io::Result<usize>
 }
 
 // Some bytes from `from` on, where there is room: where they end, which is `from` at the file's end.
-fn read_some(source: &Source, from: usize, buf: &mut [u8]) -> Came
+fn read_some(source: &Source, from: usize, buf: &mut [u8]) -> Result<usize, i32>
     requires { from < length buf.old }
     ensures within { CameIn from (length buf.new) result }
     ensures bytes { (name : List ℕ) → StandsBehind name (number_of source.now) (take from buf.old) → Goes name (number_of source.now) from result buf.new }
 {
     let part = &mut buf[from..];
     match read_once(source, part) {
-        Err(error) => Came::Failed(paths::errno(error.raw_os_error())),
-        Ok(got) => Came::To(from + got),
+        Err(error) => Err(paths::errno(error.raw_os_error())),
+        Ok(got) => Ok(from + got),
     }
 }
 
 // All bytes from `from` on, as many as the buffer has room for.
-fn read_all(source: &Source, from: usize, buf: &mut [u8]) -> Came
+fn read_all(source: &Source, from: usize, buf: &mut [u8]) -> Result<usize, i32>
     requires { from ≤ length buf.old }
     ensures within { CameIn from (length buf.new) result }
     ensures bytes { (name : List ℕ) → StandsBehind name (number_of source.now) (take from buf.old) → Comes name (number_of source.now) result buf.new }
 {
     let mut end = from;
+    // No count: a call may give fewer bytes than there is room for.
     while end < buf.len() {
-        let came = read_some(source, end, buf);
-        let Came::To(next) = came else {
-            return came;
-        };
+        let next = read_some(source, end, buf)?;
         if next == end {
             break;
         }
         end = next;
     }
-    Came::To(end)
+    Ok(end)
 }
 
-fn begin_at(source: Source, name: &[u8], buf: &mut [u8]) -> Begun
+fn begin_at(source: Source, name: &[u8], buf: &mut [u8]) -> Result<Begun, i32>
     requires { StandsBehind name.now (number_of source) [] }
     ensures { Begins name.now result buf.new }
 {
-    match read_all(&source, 0, buf) {
-        Came::Failed(error) => {
-            close(source);
-            Begun::Failed(error)
-        }
-        Came::To(n) => {
-            if n == buf.len() {
-                return Begun::Full(source);
-            }
-            close(source);
-            Begun::Whole(n)
-        }
+    let n = read_all(&source, 0, buf)?;
+    if n == buf.len() {
+        return Ok(Begun::Full(source));
     }
+    close(source);
+    Ok(Begun::Whole(n))
 }
 
-// The file of this name, from its first byte on.
-pub fn begin(rt: &HostRuntime, name: &[u8], buf: &mut [u8]) -> Begun
+/// The file of this name, from its first byte on; or errno's number.
+pub fn begin(rt: &HostRuntime, name: &[u8], buf: &mut [u8]) -> Result<Begun, i32>
     ensures { Begins name.now result buf.new }
 {
-    match open(rt, name) {
-        Opened::Failed(error) => Begun::Failed(error),
-        Opened::At(source) => begin_at(source, name, buf),
-    }
+    begin_at(open(rt, name)?, name, buf)
 }
 
-// An open file whose first bytes were read elsewhere: those, and the others behind them.
-pub fn go_on(source: &Source, front: &[u8], buf: &mut [u8]) -> Came
+/// An open file whose first bytes were read elsewhere: those, and the others behind them.
+pub fn go_on(source: &Source, front: &[u8], buf: &mut [u8]) -> Result<usize, i32>
     requires { length front.now ≤ length buf.old }
     ensures { (name : List ℕ) → StandsBehind name (number_of source.now) front.now → ReadIn name result buf.new }
 {
@@ -158,14 +130,14 @@ pub fn go_on(source: &Source, front: &[u8], buf: &mut [u8]) -> Came
     read_all(source, n, buf)
 }
 
-// Standard input, from where it stands.
-pub fn read_input(rt: &HostRuntime, buf: &mut [u8]) -> Came
+/// Standard input, from where it stands.
+pub fn read_input(rt: &HostRuntime, buf: &mut [u8]) -> Result<usize, i32>
     ensures { (name : List ℕ) → is_input name ≡ true → ReadIn name result buf.new }
 {
     go_on(&standard_input(rt), b"", buf)
 }
 
-// Standard input failed; it is said on standard output, in place of an answer.
+/// Standard input failed; it is said on standard output, in place of an answer.
 pub fn say_failed() -> bool {
     io::write_all(1, b"error standard input cannot be read\n")
 }

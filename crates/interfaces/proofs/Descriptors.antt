@@ -17,13 +17,13 @@ use Rattle.reader.specs.Values.{Method, methods_of, Constant, Descriptor, descri
 use Rattle.reader.specs.Records.{ShowsMethod, ShowsConstant, ShowsDescriptor}
 use Rattle.reader.specs.Layout.{Stands, Ends, Tells, Rows}
 use Rattle.meaning.specs.Refs.{ParentRefs}
-use Rattle.normal.specs.BigEndian.{bytes_of}
-use Rattle.normal.specs.Size.{sum, method_size, constant_size, descriptor_size}
-use Rattle.normal.specs.Record.{parent_number}
-use Rattle.normal.proofs.Lengths.{length_bytes}
-use Rattle.stock.specs.Uses.{names_of}
-use Rattle.stock.specs.Form.{methods_with, constants_with, descriptor_with}
-use Rattle.stock.proofs.Lengths.{length_methods, length_constants}
+use Rattle.meaning.specs.Normal.BigEndian.{bytes_of}
+use Rattle.meaning.specs.Normal.Size.{sum, method_size, constant_size, descriptor_size}
+use Rattle.meaning.specs.Normal.Record.{parent_number}
+use Rattle.meaning.proofs.Normal.Lengths.{length_bytes}
+use Rattle.meaning.specs.Stock.Uses.{names_of}
+use Rattle.meaning.specs.Stock.Form.{methods_with, constants_with, descriptor_with}
+use Rattle.meaning.proofs.Stock.Lengths.{length_methods, length_constants}
 use Rattle.writing.specs.Source.{Known, MethodFit, InTable, renumber}
 use Rattle.interfaces.specs.Source.{DescriptorFit, renumber_parent, Tail, tail_of, TailAt, ShowsTail, TailFit, tail_size, tail_with}
 use Rattle.writing.specs.Wrote.{Room, Wrote}

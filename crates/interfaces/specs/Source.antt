@@ -6,10 +6,10 @@ use Rattle.names.specs.Uses.{use_limit}
 use Rattle.reader.specs.Values.{Constant, Descriptor, descriptor}
 use Rattle.reader.specs.Records.{ShowsByte, ShowsField, Run, ShowsConstant, ShowsDescriptor}
 use Rattle.meaning.specs.Refs.{AllRefs}
-use Rattle.normal.specs.BigEndian.{bytes_of}
-use Rattle.normal.specs.Size.{sum, constant_size}
-use Rattle.stock.specs.Uses.{names_of}
-use Rattle.stock.specs.Form.{constants_with}
+use Rattle.meaning.specs.Normal.BigEndian.{bytes_of}
+use Rattle.meaning.specs.Normal.Size.{sum, constant_size}
+use Rattle.meaning.specs.Stock.Uses.{names_of}
+use Rattle.meaning.specs.Stock.Form.{constants_with}
 use Rattle.writing.specs.Source.{renumber, InTable}
 
 -- the index that a parent's index r becomes; 0 is none

@@ -1,4 +1,4 @@
-// Writes descriptors, whose names lie where a table of places says, and tells their sizes without writing.
+//! Writes descriptors, whose names lie where a table of places says, and tells their sizes without writing.
 #![tactic(auto)]
 
 ghost use Rattle.std.specs.Prelude.{◌≡◌, ◌⊎◌, ◌≤◌, length};
@@ -6,8 +6,8 @@ ghost use Rattle.number.specs.Limits.{file_limit, row_limit};
 ghost use Rattle.iids.specs.Cells.{cell};
 ghost use Rattle.reader.specs.Records.{ShowsDescriptor};
 ghost use Rattle.reader.specs.Layout.{Stands, Tells};
-ghost use Rattle.normal.specs.Size.{descriptor_size};
-ghost use Rattle.stock.specs.Form.{descriptor_with};
+ghost use Rattle.meaning.specs.Normal.Size.{descriptor_size};
+ghost use Rattle.meaning.specs.Stock.Form.{descriptor_with};
 ghost use Rattle.writing.specs.Source.{Known, InTable, renumber};
 ghost use Rattle.interfaces.specs.Source.{DescriptorFit, renumber_parent, ShowsTail, TailAt, TailFit, tail_size, tail_with};
 ghost use Rattle.writing.specs.Wrote.{Room, Wrote};
@@ -40,7 +40,7 @@ fn put_tail(pool: &[u8], at: usize, u: usize, places: &[u32; USE_LIMIT], out: &m
     w + copy(pool, at + w, 1, &mut out[w..])
 }
 
-// The descriptor at `at`, whose first name is use u: parent, method count, methods, constant count, constants, flags.
+/// The descriptor at `at`, whose first name is use u: parent, method count, methods, constant count, constants, flags.
 pub fn put_descriptor(
     pool: &[u8],
     at: usize,
@@ -70,7 +70,7 @@ fn tail_at(pool: &[u8], at: usize) -> usize
     reader::record::methods_end(pool, reader::record::method_count(pool, at), at + 4)
 }
 
-// The bytes of the descriptor at `at`.
+/// The bytes of the descriptor at `at`.
 pub fn descriptor_size(pool: &[u8], at: usize) -> usize
     requires { Stands (ShowsDescriptor pool.now at) × (length pool.now ≤ file_limit) }
     ensures { Tells (ShowsDescriptor pool.now at) descriptor_size result }

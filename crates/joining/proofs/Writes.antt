@@ -1,5 +1,6 @@
 -- The last stage of a link: 25 to 27, or the normal form of the union in the buffer.
 -- Assumes nothing.
+use Rattle.std.specs.Prelude.{Err, Ok, Result, ℕ}
 use mathlib.Core.Path.{◌≡◌, refl, sym, ap, ◌∙◌}
 use mathlib.Core.List.{List, ◌++◌}
 use Prim.Native.Nat.{ℕ, ◌+◌, ◌≤◌, ◌<◌}
@@ -13,12 +14,12 @@ use Rattle.key.specs.Key.{Key}
 use Rattle.reader.specs.declared.Layout.{Layout}
 use Rattle.reader.specs.Values.{Entry, entry, entry_iid, no_entry}
 use Rattle.meaning.specs.Meaning.{meaning}
-use Rattle.facts.specs.Union.{union}
-use Rattle.facts.specs.Link.{Linked, stopped, joined as linked}
-use Rattle.normal.specs.Minor.{minor_of}
-use Rattle.stock.specs.Uses.{normal_length}
-use Rattle.stock.specs.Form.{file_bytes, normal_form}
-use Rattle.stock.proofs.Lengths.{length_normal}
+use Rattle.meaning.specs.Facts.Union.{union}
+use Rattle.meaning.specs.Facts.Link.{Linked, stopped, joined as linked}
+use Rattle.meaning.specs.Normal.Minor.{minor_of}
+use Rattle.meaning.specs.Stock.Uses.{normal_length}
+use Rattle.meaning.specs.Stock.Form.{file_bytes, normal_form}
+use Rattle.meaning.proofs.Stock.Lengths.{length_normal}
 use Rattle.rows.specs.Rows.{key_of_row, iid_of_row}
 use Rattle.iids.specs.Joined.{joined}
 use Rattle.iids.specs.Cells.{cell}
@@ -31,11 +32,9 @@ use Rattle.bridge.proofs.Links.{link_25, link_26, link_joined}
 use Rattle.rows.specs.Files.{Pair, HoldBoth, Given, Gives}
 use Rattle.gather.specs.View.{row_key, row_own, entry_of, view_entry, view_entries, Viewed}
 use Rattle.gather.specs.Leading.{Leading}
-use Rattle.output.specs.declared.Stored.{Stored}
-use Rattle.output.specs.declared.Stored.TheVariants.{Long, Short, Done}
+use Rattle.output.specs.declared.Unstored.{Unstored}
+use Rattle.output.specs.declared.Unstored.TheVariants.{Long, Short}
 use Rattle.output.specs.Stores.{Ready, place_of, Stores}
-use Rattle.joining.specs.declared.Normalised.{Normalised}
-use Rattle.joining.specs.declared.Normalised.TheVariants.{Written, Refused}
 use Rattle.joining.specs.Outcome.{Outcome, refused, written, refusal, encoded, in_room, after, normalised_as}
 use Rattle.stages.specs.Stages.{Known, link_pair, Arranged}
 use Rattle.joining.specs.Joins.{union_in, Joins}
@@ -164,11 +163,11 @@ module _ (s pool : List ℕ) (l : Layout) (s2 pool2 : List ℕ) (l2 : Layout) wh
               newest = (newest (number_in high low)).each x h;
             }
 
-        module _ (out left : List ℕ) (r : Stored) (told : (x : Pair) → Both x → Stores place (view x) out left r) where
+        module _ (out left : List ℕ) (r : Result ℕ Unstored) (told : (x : Pair) → Both x → Stores place (view x) out left r) where
           -- 26
-          pub ends_26 : r ≡ Long → {a : Normalised} → a ≡ Refused (refusal 26 0) → Joins Both out a left
+          pub ends_26 : r ≡ Err Long → {a : Refusal} → a ≡ record { no = 26; place = 0 } → Joins Both out (Err a) left
           ends_26 e b =
-              let f : (x : Pair) → Both x → Stores place (view x) out left Long = λ x h. rw e at (told x h) in
+              let f : (x : Pair) → Both x → Stores place (view x) out left (Err Long) = λ x h. rw e at (told x h) in
               let j = stops 26 0 out b (record { each = λ x h. long_own x h (own_counts x h) few (f x h).0 }) in
               record { answer = j.answer; buffer = λ x h. (f x h).1 ∙ j.buffer x h }
 
@@ -177,25 +176,25 @@ module _ (s pool : List ℕ) (l : Layout) (s2 pool2 : List ℕ) (l2 : Layout) wh
             joined_form x h e b = joined_own x h (own_counts x h) few (omega arith)
 
             -- 27
-            pub ends_27 : r ≡ Short len → {a : Normalised} → a ≡ Refused (refusal 27 len) → Joins Both out a left
-            unfolding normalised_as after
+            pub ends_27 : r ≡ Err (Short len) → {a : Refusal} → a ≡ record { no = 27; place = len } → Joins Both out (Err a) left
+            unfolding normalised_as after refusal
             ends_27 e b =
-                let f : (x : Pair) → Both x → Stores place (view x) out left (Short len) = λ x h. rw e at (told x h) in
+                let f : (x : Pair) → Both x → Stores place (view x) out left (Err (Short len)) = λ x h. rw e at (told x h) in
                 let g : (x : Pair) → Both x → len ≡ length (normal_form (union (meaning x.first ++ meaning x.second))) = λ x h. (f x h).0 ∙ length_own x h (own_counts x h) in
                 let j : (x : Pair) → Both x → linked (union (meaning x.first ++ meaning x.second)) ≡ link_pair x = λ x h. joined_form x h (f x h).0 (f x h).1.0 in
                 record {
-                  answer = λ x h. b ∙ ap (λ (i : ℕ). Refused (refusal 27 i)) (g x h) ∙ ap normalised_as (short_in x _ (j x h) (length out) (omega (arith, g x h, (f x h).1.1.0)));
+                  answer = λ x h. ap (λ (f : Refusal). Err f) b ∙ ap (λ (i : ℕ). Err (refusal 27 i)) (g x h) ∙ ap normalised_as (short_in x _ (j x h) (length out) (omega (arith, g x h, (f x h).1.1.0)));
                   buffer = λ x h. (f x h).1.1.1 ∙ ap (λ (o : Outcome Refusal). after o out) (short_in x _ (j x h) (length out) (omega (arith, g x h, (f x h).1.1.0)));
                 }
 
-            pub ends_written : r ≡ Done len → Joins Both out (Written len) left
+            pub ends_written : r ≡ Ok len → Joins Both out (Ok len) left
             unfolding normalised_as after
             ends_written e =
-                let f : (x : Pair) → Both x → Stores place (view x) out left (Done len) = λ x h. rw e at (told x h) in
+                let f : (x : Pair) → Both x → Stores place (view x) out left (Ok len) = λ x h. rw e at (told x h) in
                 let g : (x : Pair) → Both x → len ≡ length (normal_form (union (meaning x.first ++ meaning x.second))) = λ x h. (f x h).0 ∙ length_own x h (own_counts x h) in
                 let j : (x : Pair) → Both x → linked (union (meaning x.first ++ meaning x.second)) ≡ link_pair x = λ x h. joined_form x h (f x h).0 (f x h).1.0 in
                 record {
-                  answer = λ x h. ap (λ (i : ℕ). Written i) (g x h) ∙ ap normalised_as (written_in_lem x _ (j x h) (length out) (omega (arith, g x h, (f x h).1.1.0)));
+                  answer = λ x h. ap (λ (i : ℕ). Ok i) (g x h) ∙ ap normalised_as (written_in_lem x _ (j x h) (length out) (omega (arith, g x h, (f x h).1.1.0)));
                   buffer = λ x h.
                       (f x h).1.1.1 ∙ ap (sets out 0) (bytes_own x h (own_counts x h)) ∙ ap (λ (o : Outcome Refusal). after o out) (written_in_lem x _ (j x h) (length out) (omega (arith, g x h, (f x h).1.1.0)));
                 }

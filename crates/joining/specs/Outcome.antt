@@ -1,14 +1,12 @@
 -- Document 01, what writing a union gives: a refusal, or the bytes that are written; and every byte of the output buffer.
 -- Assumes nothing.
-use Rattle.std.specs.Prelude.{List, ℕ, length}
+use Rattle.std.specs.Prelude.{List, ℕ, length, Err, Ok, Result}
 use Rattle.std.proofs.lemmas.List.Edits.{sets}
 use Rattle.number.specs.Choice.{when◌then◌else◌, ◌<?◌}
 use Rattle.reading.specs.declared.Refusal.{Refusal}
-use Rattle.facts.specs.Link as facts
-use Rattle.facts.specs.Link.{stopped, joined}
-use Rattle.stock.specs.Form.{normal_form}
-use Rattle.joining.specs.declared.Normalised.{Normalised}
-use Rattle.joining.specs.declared.Normalised.TheVariants as normalised
+use Rattle.meaning.specs.Facts.Link as facts
+use Rattle.meaning.specs.Facts.Link.{stopped, joined}
+use Rattle.meaning.specs.Stock.Form.{normal_form}
 
 -- a refusal of kind X, or the bytes that are written
 pub data Outcome (X : Type 0) : Type 0 where
@@ -35,6 +33,6 @@ after (refused x) out = out
 after (written bytes) out = sets out 0 bytes
 
 -- the answer
-unfoldable pub normalised_as : Outcome Refusal → Normalised
-normalised_as (refused x) = normalised.Refused x
-normalised_as (written bytes) = normalised.Written (length bytes)
+unfoldable pub normalised_as : Outcome Refusal → Result ℕ Refusal
+normalised_as (refused x) = Err x
+normalised_as (written bytes) = Ok (length bytes)

@@ -1,29 +1,19 @@
-// The stages of a link: each owns a table or two, lends them to the next, and gives the refusals that they show.
-// The files are s and t, their pools p and q, and their layouts l and k.
-ghost use Rattle.std.specs.Prelude.{◌≡◌, ◌+◌, length, drop};
+//! The stages of a link: each owns a table or two, lends them to the next, and gives the refusals that they show.
+//! The files are s and t, their pools p and q, and their layouts l and k.
+ghost use Rattle.std.specs.Prelude.{◌≡◌, ◌+◌, length, drop, Err};
 ghost use Rattle.number.specs.Limits.{entry_limit, row_limit};
 ghost use Rattle.rows.specs.Files.{Given, HoldBoth};
-ghost use Rattle.joining.specs.declared.Normalised.TheVariants.{Refused};
-ghost use Rattle.joining.specs.Outcome.{refusal};
 ghost use Rattle.stages.specs.Stages.{Known, Keyed, Mated, Iids, Numbered, Resolved, Ended, Arranged};
 ghost use Rattle.joining.specs.Joins.{Joins};
 
-use crate::Normalised;
 use minor::view_minor;
 use number::{ENTRY_LIMIT, ROW_LIMIT};
-use output::Stored;
+use output::Unstored;
 use output::file::put_file;
 use output::leads::lead_view;
 use reader::Layout;
-use reading::Refusal;
+use reading::{Refusal, Rule};
 use stages::descriptors::first_two_descriptors;
-
-// A refusal.
-fn stop(no: u8, place: usize) -> Normalised
-    ensures { result ≡ Refused (refusal no place) }
-{
-    Normalised::Refused(Refusal { no, place })
-}
 
 // 25 to 27, or the normal form of the union.
 fn write_union(
@@ -40,12 +30,12 @@ fn write_union(
     place: &[u16; ROW_LIMIT],
     c: usize,
     out: &mut [u8],
-) -> Normalised
+) -> Result<usize, Refusal>
     requires { Given (HoldBoth s.now p.now l t.now q.now k) × Known (HoldBoth s.now p.now l t.now q.now k) (Arranged order.now holders.now high.now low.now place.now c l.count (l.count + k.count)) × (row_limit ≡ length order.now) × (row_limit ≡ length holders.now) × (row_limit ≡ length high.now) × (row_limit ≡ length low.now) × (row_limit ≡ length place.now) }
     ensures { Joins (HoldBoth s.now p.now l t.now q.now k) out.old result out.new }
 {
     if ENTRY_LIMIT < c {
-        return stop(25, 0);
+        return Err(Rule::UnionEntries.at(0));
     }
     let mut names = [0u32; ROW_LIMIT];
     let mut spaces = [0u32; ROW_LIMIT];
@@ -67,9 +57,9 @@ fn write_union(
     match put_file(
         p, q, n, &mut names, &spaces, &bodies, c, high, low, order, place, minor, out,
     ) {
-        Stored::Long => stop(26, 0),
-        Stored::Short(size) => stop(27, size),
-        Stored::Done(size) => Normalised::Written(size),
+        Ok(size) => Ok(size),
+        Err(Unstored::Long) => Err(Rule::OutputLimit.at(0)),
+        Err(Unstored::Short(size)) => Err(Rule::Room.at(size)),
     }
 }
 
@@ -88,7 +78,7 @@ fn join_order(
     low: &[u64; ROW_LIMIT],
     holders: &[u16; ROW_LIMIT],
     out: &mut [u8],
-) -> Normalised
+) -> Result<usize, Refusal>
     requires { Given (HoldBoth s.now p.now l t.now q.now k) × Known (HoldBoth s.now p.now l t.now q.now k) (Ended keys.now first.now high.now low.now holders.now c l.count (l.count + k.count)) × (row_limit ≡ length keys.now) × (row_limit ≡ length first.now) × (row_limit ≡ length high.now) × (row_limit ≡ length low.now) × (row_limit ≡ length holders.now) }
     ensures { Joins (HoldBoth s.now p.now l t.now q.now k) out.old result out.new }
 {
@@ -115,7 +105,7 @@ fn join_chains(
     low: &[u64; ROW_LIMIT],
     holders: &[u16; ROW_LIMIT],
     out: &mut [u8],
-) -> Normalised
+) -> Result<usize, Refusal>
     requires { Given (HoldBoth s.now p.now l t.now q.now k) × Known (HoldBoth s.now p.now l t.now q.now k) (Resolved keys.now first.now high.now low.now holders.now c l.count (l.count + k.count)) × (row_limit ≡ length keys.now) × (row_limit ≡ length first.now) × (row_limit ≡ length high.now) × (row_limit ≡ length low.now) × (row_limit ≡ length holders.now) }
     ensures { Joins (HoldBoth s.now p.now l t.now q.now k) out.old result out.new }
 {
@@ -125,7 +115,7 @@ fn join_chains(
     rows::note_up(s, l, t, k, first, holders, &mut up);
     let i = tables::chains::first_endless(&up, n, total);
     if i < n {
-        return stop(24, i + 1);
+        return Err(Rule::UnionCycle.at(i + 1));
     }
     join_order(s, p, l, t, q, k, keys, first, c, high, low, holders, out)
 }
@@ -145,7 +135,7 @@ fn join_descriptors(
     high: &[u64; ROW_LIMIT],
     low: &[u64; ROW_LIMIT],
     out: &mut [u8],
-) -> Normalised
+) -> Result<usize, Refusal>
     requires { Given (HoldBoth s.now p.now l t.now q.now k) × Known (HoldBoth s.now p.now l t.now q.now k) (Numbered keys.now first.now mates.now high.now low.now c l.count (l.count + k.count)) × (row_limit ≡ length keys.now) × (row_limit ≡ length first.now) × (entry_limit ≡ length mates.now) × (row_limit ≡ length high.now) × (row_limit ≡ length low.now) }
     ensures { Joins (HoldBoth s.now p.now l t.now q.now k) out.old result out.new }
 {
@@ -156,7 +146,7 @@ fn join_descriptors(
     stages::note_descriptors(s, p, l, t, q, k, &mut own);
     let i = first_two_descriptors(s, p, l, t, q, k, first, mates, &own);
     if i < n {
-        return stop(23, i + 1);
+        return Err(Rule::TwoDescriptors.at(i + 1));
     }
     tables::mates::note_holders(&own, mates, n, total, &mut holders);
     join_chains(s, p, l, t, q, k, keys, first, c, high, low, &holders, out)
@@ -177,7 +167,7 @@ fn join_numbers(
     high: &mut [u64; ROW_LIMIT],
     low: &mut [u64; ROW_LIMIT],
     out: &mut [u8],
-) -> Normalised
+) -> Result<usize, Refusal>
     requires { Given (HoldBoth s.now p.now l t.now q.now k) × Known (HoldBoth s.now p.now l t.now q.now k) (Mated keys.now first.now mates.now c l.count (l.count + k.count)) × Known (HoldBoth s.now p.now l t.now q.now k) (Iids high.old low.old (l.count + k.count)) × (row_limit ≡ length keys.now) × (row_limit ≡ length first.now) × (entry_limit ≡ length mates.now) × (row_limit ≡ length high.old) × (row_limit ≡ length low.old) }
     ensures { Joins (HoldBoth s.now p.now l t.now q.now k) out.old result out.new }
 {
@@ -185,12 +175,12 @@ fn join_numbers(
     let total = n + k.count;
     let i = iids::first_two_numbers(high, low, mates, n, total);
     if i < n {
-        return stop(21, i + 1);
+        return Err(Rule::TwoIids.at(i + 1));
     }
     iids::join_numbers(mates, n, total, high, low);
     let j = iids::first_shared(first, high, low, n, total);
     if j < n {
-        return stop(22, j + 1);
+        return Err(Rule::TwoKeys.at(j + 1));
     }
     join_descriptors(s, p, l, t, q, k, keys, first, c, mates, high, low, out)
 }
@@ -208,7 +198,7 @@ fn join_iids(
     c: usize,
     mates: &[u16; ENTRY_LIMIT],
     out: &mut [u8],
-) -> Normalised
+) -> Result<usize, Refusal>
     requires { Given (HoldBoth s.now p.now l t.now q.now k) × Known (HoldBoth s.now p.now l t.now q.now k) (Mated keys.now first.now mates.now c l.count (l.count + k.count)) × (row_limit ≡ length keys.now) × (row_limit ≡ length first.now) × (entry_limit ≡ length mates.now) }
     ensures { Joins (HoldBoth s.now p.now l t.now q.now k) out.old result out.new }
 {
@@ -232,7 +222,7 @@ fn join_mates(
     first: &[u16; ROW_LIMIT],
     c: usize,
     out: &mut [u8],
-) -> Normalised
+) -> Result<usize, Refusal>
     requires { Given (HoldBoth s.now p.now l t.now q.now k) × Known (HoldBoth s.now p.now l t.now q.now k) (Keyed keys.now first.now c (l.count + k.count)) × (row_limit ≡ length keys.now) × (row_limit ≡ length first.now) }
     ensures { Joins (HoldBoth s.now p.now l t.now q.now k) out.old result out.new }
 {
@@ -252,7 +242,7 @@ fn join_keys(
     q: &[u8],
     k: Layout,
     out: &mut [u8],
-) -> Normalised
+) -> Result<usize, Refusal>
     requires { Given (HoldBoth s.now p.now l t.now q.now k) }
     ensures { Joins (HoldBoth s.now p.now l t.now q.now k) out.old result out.new }
 {
@@ -262,8 +252,14 @@ fn join_keys(
     join_mates(s, p, l, t, q, k, &keys, &first, c, out)
 }
 
-// The normal form of the union of two files of these layouts.
-pub fn join_files(s: &[u8], l: Layout, t: &[u8], k: Layout, out: &mut [u8]) -> Normalised
+/// The normal form of the union of two files of these layouts.
+pub fn join_files(
+    s: &[u8],
+    l: Layout,
+    t: &[u8],
+    k: Layout,
+    out: &mut [u8],
+) -> Result<usize, Refusal>
     requires { Given (HoldBoth s.now (drop l.pool s.now) l t.now (drop k.pool t.now) k) }
     ensures { Joins (HoldBoth s.now (drop l.pool s.now) l t.now (drop k.pool t.now) k) out.old result out.new }
 {

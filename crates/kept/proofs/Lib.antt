@@ -1,6 +1,5 @@
 pub mod RowLaws
 pub mod NameLaws
-pub mod RoomLaws
 pub mod FileLaws
 pub mod WrittenLaws
 pub mod AddLaws

@@ -117,3 +117,5 @@ module _ (state : ℕ) (file : Span) (kept : Kept) (rows : List ℕ) where
     pub Tidy-put : (t : List ℕ) → t ≡ row_set rows (4 * kept.rows) kept.used file.from file.end state → Tidy rows kept → kept.rows < 64 → kept.used ≤ file.from → file.from ≤ file.end → file.end ≤ store_bytes → Tidy t (record { rows = kept.rows + 1; used = file.end })
     unfolding row_added one_more
     Tidy-put t e d few u f l = rw e (Tidy-added d few u f l)
+
+pub ruleset emptied = (Tidy-nothing)

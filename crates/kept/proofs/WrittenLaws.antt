@@ -3,18 +3,17 @@
 use mathlib.Core.Path.{◌≡◌, refl, sym, ap, ◌∙◌}
 use mathlib.Core.Bool.{Bool, true, false}
 use mathlib.Core.List.{List}
-use Prim.Native.Nat.{ℕ, zero, suc, ◌+◌, ◌-◌, ◌*◌, ◌≤◌, ◌<◌}
+use Prim.Native.Nat.{ℕ, zero, suc, ◌+◌, ◌-◌, ◌*◌, ◌<◌}
 use native.Mathlib.Omega.{arith}
 use native.Mathlib.Numerals.{add-one}
 use lib.ListN.{length, get_or, take, drop, set, length-set}
 use lib.Seq.{get_or-set_other}
-use Rattle.number.proofs.Choice.{is_eq, no_eq, is_true, is_false, both}
+use Rattle.number.proofs.Choice.{is_true, is_false, both}
 use Rattle.number.proofs.Parts.{part_rest}
 use Rattle.key.specs.Word.{same_word}
 use Rattle.kept.specs.declared.Kept.{Kept}
 use Rattle.kept.specs.Table.{Tidy}
-use Rattle.kept.specs.Names.{link_state, forgotten_state, name_in, state_in}
-use Rattle.kept.proofs.NameLaws.{lent_name}
+use Rattle.kept.specs.Names.{forgotten_state, name_in, state_in}
 use Rattle.paths.specs.Path.{last_part, ending}
 use Rattle.kept.specs.Written.{same_ending, may_lead, forgotten}
 
@@ -24,15 +23,6 @@ unfolding same_ending ending
 endings path name i j e f g = rw (← e, ← f, ← part_rest path i, ← part_rest name j) g
 
 module _ (path rows store : List ℕ) where
-  module _ (k : ℕ) where
-    pub leads_link : get_or rows (4 * k + 3) 0 ≡ link_state → true ≡ may_lead path rows store k
-    unfolding may_lead state_in
-    leads_link e = is_eq _ _ _ _ e refl
-
-    pub leads_named : (get_or rows (4 * k + 3) 0 ≡ link_state → ⊥) → get_or rows (4 * k) 0 ≤ get_or rows (4 * k + 1) 0 → get_or rows (4 * k + 1) 0 ≤ length store → {r : Bool} → r ≡ same_ending path (take (get_or rows (4 * k + 1) 0 - get_or rows (4 * k) 0) (drop (get_or rows (4 * k) 0) store)) → r ≡ may_lead path rows store k
-    unfolding may_lead state_in
-    leads_named f h l e = no_eq _ _ _ _ f (e ∙ ap (same_ending path) (lent_name rows store k h l))
-
   -- ---- the table, number by number
 
   pub forgotten-length : (n : ℕ) → length (forgotten path rows store n) ≡ length rows
@@ -88,3 +78,5 @@ module _ (path rows store : List ℕ) where
     pub forget_none : r ≡ false → t ≡ forgotten path rows store (k + 1)
     unfolding forgotten
     forget_none h = rw (add-one k) (is_false _ _ _ (sym leads ∙ h) e)
+
+pub ruleset forgets = (forget_start, forget_row, forget_none)

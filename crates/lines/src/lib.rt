@@ -1,4 +1,4 @@
-// The listing of a typelib and the table of an interface, made piece by piece into a lent buffer: they can be far longer than the file.
+//! The listing of a typelib and the table of an interface, made piece by piece into a lent buffer: they can be far longer than the file.
 #![tactic(auto)]
 
 mod base;
@@ -13,11 +13,11 @@ ghost use Rattle.lines.specs.Cursor.{Begun, is_done, Filling, only_line, Startin
 
 use lookup::Slot;
 use printed::LINE_ROOM;
-use reader::{Layout, Verdict};
+use reader::Layout;
 use slots::TableAt;
 
-// Where the methods of an entry, counted from 0, go on: how many are left, the place of the next in the pool, and its slot; with the entry's total of slots.
-#[derive(Clone, Copy)]
+/// Where the methods of an entry, counted from 0, go on: how many are left, the place of the next in the pool, and its slot; with the entry's total of slots.
+#[derive(Clone, Copy, Debug, PartialEq, Eq)]
 pub struct MethodsAt {
     pub entry: usize,
     pub left: usize,
@@ -26,16 +26,16 @@ pub struct MethodsAt {
     pub total: Slot,
 }
 
-// Where its constants go on.
-#[derive(Clone, Copy)]
+/// Where its constants go on.
+#[derive(Clone, Copy, Debug, PartialEq, Eq)]
 pub struct ConstantsAt {
     pub entry: usize,
     pub left: usize,
     pub at: usize,
 }
 
-// What is to be printed next: nothing, the entry of this number, counted from 0, what stands under one, or the rest of a table.
-#[derive(Clone, Copy)]
+/// What is to be printed next: nothing, the entry of this number, counted from 0, what stands under one, or the rest of a table.
+#[derive(Clone, Copy, Debug, PartialEq, Eq)]
 pub enum Cursor {
     Done,
     AtEntry(usize),
@@ -44,21 +44,21 @@ pub enum Cursor {
     AtTable(TableAt),
 }
 
-// The place after what was written, and what is to be printed next.
-#[derive(Drop)]
+/// The place after what was written, and what is to be printed next.
+#[derive(Clone, Copy, Debug, PartialEq, Eq)]
 pub struct Piece {
     pub at: usize,
     pub cursor: Cursor,
 }
 
-// How many bytes of the buffer were filled, and what is to be printed next.
-#[derive(Drop)]
+/// How many bytes of the buffer were filled, and what is to be printed next.
+#[derive(Clone, Copy, Debug, PartialEq, Eq)]
 pub struct Filled {
     pub length: usize,
     pub cursor: Cursor,
 }
 
-// The length of the first line, the layout of the file, and what is to be printed next.
+/// The length of the first line, the layout of the file, and what is to be printed next.
 #[derive(Drop)]
 pub struct Started {
     pub length: usize,
@@ -66,7 +66,7 @@ pub struct Started {
     pub cursor: Cursor,
 }
 
-// Whether all was printed.
+/// Whether all was printed.
 pub fn is_done(c: Cursor) -> bool
     ensures { result ≡ is_done c }
 {
@@ -103,7 +103,7 @@ fn fill_from(file: &[u8], pool: &[u8], l: Layout, first: Cursor, out: &mut [u8])
     }
 }
 
-// The next lines, as many as are sure to fit.
+/// The next lines, as many as are sure to fit.
 pub fn fill(file: &[u8], l: Layout, c: Cursor, out: &mut [u8]) -> Filled
     requires { Begun file.now l c × (line_room ≤ length out.old) }
     ensures { Filling file.now l c out.old result out.new }
@@ -129,23 +129,23 @@ fn only_line(length: usize) -> Started
     }
 }
 
-// The first line of the listing of a file of any length, and where the rest starts; nothing is left of a file that was refused.
+/// The first line of the listing of a file of any length, and where the rest starts; nothing is left of a file that was refused.
 pub fn start(file: &[u8], line: &mut [u8; 64]) -> Started
     ensures { Starting file.now (listing_of (decode file.now)) line.old result line.new }
 {
     let v = reader::check(file);
     let length = text::put_verdict(v, line);
     match v {
-        Verdict::Accepted(_) => Started {
+        Ok(_) => Started {
             length,
             layout: reader::layout_of(file),
             cursor: Cursor::AtEntry(0),
         },
-        Verdict::Refused(_) => only_line(length),
+        Err(_) => only_line(length),
     }
 }
 
-// The same for the program, which lists no more than 65,536 bytes.
+/// The same for the program, which lists no more than 65,536 bytes.
 pub fn begin(file: &[u8], line: &mut [u8; 64]) -> Started
     ensures { Starting file.now (printed_of file.now) line.old result line.new }
 {

@@ -1,4 +1,4 @@
-// One piece of a listing or of a table: at most one line.
+//! One piece of a listing or of a table: at most one line.
 ghost use Rattle.std.specs.Prelude.{◌≡◌, List, ◌++◌, ℕ, ◌+◌, ◌<◌, drop};
 ghost use Rattle.reader.specs.Values.{Entry, descriptor_in};
 ghost use Rattle.reader.specs.Layout.{LaidOut, Lies};
@@ -148,7 +148,7 @@ fn table_piece(file: &[u8], pool: &[u8], l: Layout, t: TableAt, out: &mut [u8], 
     }
 }
 
-// What is to be printed next, at most one line of it.
+/// What is to be printed next, at most one line of it.
 pub fn put_piece(file: &[u8], pool: &[u8], l: Layout, c: Cursor, out: &mut [u8], at: usize) -> Piece
     requires { Begun file.now l c × ((pool.now ≡ drop l.pool file.now) × Room out.old at line_room) }
     ensures { Moved file.now l c out.old at result out.new }

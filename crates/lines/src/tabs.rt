@@ -1,4 +1,4 @@
-// A listing within one line, for an answer in a batch.
+//! A listing within one line, for an answer in a batch.
 ghost use Rattle.std.specs.Prelude.{◌≡◌};
 ghost use Rattle.lines.specs.Tabs.{tab, tabbed};
 
@@ -12,13 +12,11 @@ fn tab_byte(b: u8) -> u8
     b
 }
 
-// Each newline of the text as a tab.
+/// Each newline of the text as a tab.
 pub fn tab_newlines(text: &mut [u8])
     ensures { text.new ≡ tabbed text.old }
 {
-    let mut i: usize = 0;
-    while i < text.len() {
+    for i in 0..text.len() {
         text[i] = tab_byte(text[i]);
-        i += 1;
     }
 }

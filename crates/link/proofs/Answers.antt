@@ -1,5 +1,6 @@
 -- Answers and buffers from what the entries of two files join to.
 -- Assumes nothing.
+use Rattle.std.specs.Prelude.{ℕ, Err, Ok, Result}
 use mathlib.Core.Path.{◌≡◌, refl, sym, ap, ◌∙◌}
 use mathlib.Core.List.{List, ◌++◌}
 use mathlib.Core.Option.{Option, none, some}
@@ -12,16 +13,14 @@ use Rattle.decimal.proofs.Stores.{front}
 use Rattle.reading.specs.declared.Refusal.{Refusal}
 use Rattle.key.specs.Key.{Key}
 use Rattle.reader.specs.Values.{Entry}
-use Rattle.facts.specs.Link.{Linked, stopped, joined, link_entries, normal_entries, number_only, joined_of, and_then}
-use Rattle.facts.proofs.Links.{stopped_equal, joined_equal, not_both}
-use Rattle.facts.proofs.Algebra.{joined_exactly, normal_exactly, Closed-Valid, Closed-both}
-use Rattle.stock.specs.Uses.{normal_length}
-use Rattle.stock.specs.Form.{normal_form}
-use Rattle.stock.specs.Readable.{Readable}
-use Rattle.stock.proofs.Lengths.{length_normal}
+use Rattle.meaning.specs.Facts.Link.{Linked, stopped, joined, link_entries, normal_entries, number_only, joined_of, and_then}
+use Rattle.meaning.proofs.Facts.Links.{stopped_equal, joined_equal, not_both}
+use Rattle.meaning.proofs.Facts.Algebra.{joined_exactly, normal_exactly, Closed-Valid, Closed-both}
+use Rattle.meaning.specs.Stock.Uses.{normal_length}
+use Rattle.meaning.specs.Stock.Form.{normal_form}
+use Rattle.meaning.specs.Stock.Readable.{Readable}
+use Rattle.meaning.proofs.Stock.Lengths.{length_normal}
 use Rattle.link.specs.declared.Which.TheVariants.{Union}
-use Rattle.link.specs.declared.Linked as link
-use Rattle.link.specs.declared.Linked.TheVariants as linked
 use Rattle.link.specs.declared.LinkRefusal.{LinkRefusal}
 use Rattle.joining.specs.Outcome.{Outcome, refusal, encoded, in_room, after, normalised_as}
 use Rattle.link.specs.Outcome.{refusal_of, normalise_in, normalise_answer, normalise_buffer, link_in, linked_as, link_answer, link_buffer}
@@ -30,7 +29,7 @@ use Rattle.link.proofs.Files.{accepted_Valid, accepted_Sound, normal_of_lem, lin
 use Rattle.link.proofs.Unions.{Fine-Readable, Valid-Fine, Sound-both}
 
 -- what a link that ended so answers, and leaves in its buffer
-abbrev pub answer_of : Linked → link.Linked
+abbrev pub answer_of : Linked → Result ℕ LinkRefusal
 answer_of r = linked_as (encoded (refusal_of Union) r)
 
 abbrev pub buffer_of : Linked → List ℕ → List ℕ
@@ -97,10 +96,10 @@ module _ (a : List ℕ) (A : List (Entry Key)) (m : Means a A) where
 
 pub placeless_same : (r s : Linked) → number_only r ≡ number_only s → placeless (answer_of r) ≡ placeless (answer_of s)
 unfolding number_only placeless linked_as encoded refusal_of refusal
-placeless_same (stopped n q) (stopped k p) e = ap (λ (x : ℕ × ℕ). linked.Refused (refusal_of Union x.0 0)) (stopped_equal e)
+placeless_same (stopped n q) (stopped k p) e = ap (λ (x : ℕ × ℕ). Err (refusal_of Union x.0 0)) (stopped_equal e)
 placeless_same (stopped n q) (joined U) e = not_both e
 placeless_same (joined U) (stopped k p) e = not_both (sym e)
-placeless_same (joined U) (joined W) e = ap (λ (us : List (Entry Key)). linked.Written (length (normal_form us))) (joined_equal e)
+placeless_same (joined U) (joined W) e = ap (λ (us : List (Entry Key)). Ok (length (normal_form us))) (joined_equal e)
 
 pub joined_same : (r s : Linked) → number_only r ≡ number_only s → joined_of r ≡ joined_of s
 unfolding number_only joined_of

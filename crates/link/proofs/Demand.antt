@@ -1,18 +1,18 @@
 -- Demand 3 holds.
 -- Assumes nothing.
+use Rattle.std.specs.Prelude.{Ok}
 use mathlib.Core.Path.{◌≡◌, refl, sym, ap, ◌∙◌}
 use mathlib.Core.List.{List, [], ◌++◌}
 use Prim.Native.Nat.{ℕ}
 use native.Mathlib.Omega.{arith}
 use Rattle.key.specs.Key.{Key}
 use Rattle.reader.specs.Values.{Entry}
-use Rattle.facts.specs.Conditions.{Fine}
-use Rattle.facts.specs.Link.{Linked, stopped, joined, link_entries, normal_entries, joined_of, and_then}
-use Rattle.facts.proofs.Algebra as algebra
-use Rattle.facts.proofs.Algebra.{joined_exactly, stopped_exactly}
-use Rattle.stock.specs.Uses.{normal_length}
-use Rattle.stock.proofs.Grows.{normal_Grows}
-use Rattle.link.specs.declared.Linked.TheVariants as linked
+use Rattle.meaning.specs.Facts.Conditions.{Fine}
+use Rattle.meaning.specs.Facts.Link.{Linked, stopped, joined, link_entries, normal_entries, joined_of, and_then}
+use Rattle.meaning.proofs.Facts.Algebra as algebra
+use Rattle.meaning.proofs.Facts.Algebra.{joined_exactly, stopped_exactly}
+use Rattle.meaning.specs.Stock.Uses.{normal_length}
+use Rattle.meaning.proofs.Stock.Grows.{normal_Grows}
 use Rattle.joining.specs.Outcome.{encoded, after}
 use Rattle.link.specs.Outcome.{linked_as, link_answer, link_buffer}
 use Rattle.link.specs.Demand.{Means, Buffer, left_by, placeless, as_link, AsNormal, Writes, Refuses, Demand3}
@@ -38,12 +38,12 @@ module _ (a b : List ℕ) (A B : List (Entry Key)) (out : List ℕ) (m : Means a
   unfolding encoded linked_as after
   written f = let e = (joined_exactly normal_length A B (accepted_Valid b B n) _).1 (f, refl) in record { answer = answer_of_lem _ e; buffer = buffer_of_lem _ e }
 
-  only_Fine : (k : ℕ) → link_answer a b out ≡ linked.Written k → Fine normal_length (A ++ B)
+  only_Fine : (k : ℕ) → link_answer a b out ≡ Ok k → Fine normal_length (A ++ B)
   unfolding encoded linked_as
   only_Fine k h = go linking refl
     where
       go : (r : Linked) → linking ≡ r → Fine normal_length (A ++ B)
-      go (stopped i q) e = let x : answer_of (stopped i q) ≡ linked.Written k = sym (answer_of_lem (stopped i q) e) ∙ h in absurd (let z : ◌≡◌ {A = ℕ} 0 1 = cc in omega arith)
+      go (stopped i q) e = let x : answer_of (stopped i q) ≡ Ok k = sym (answer_of_lem (stopped i q) e) ∙ h in absurd (let z : ◌≡◌ {A = ℕ} 0 1 = cc in omega arith)
       go (joined U) e = Fine-of U e
 
   refused : (Fine normal_length (A ++ B) → ⊥) → Refuses a b A B out

@@ -7,10 +7,10 @@ use Rattle.reading.specs.Got.{got}
 use Rattle.reader.specs.Values.{entries_in}
 use Rattle.reader.specs.Reader.{decode}
 use Rattle.reader.specs.Reader.Marked.{P3, P3newer, says3, says3newer, decodes3, decodes3newer}
-use Rattle.stock.specs.Form.{normal_form}
-use Rattle.normal.proofs.Examples.{with_string}
-use Rattle.normal.proofs.Cases.{string_minor, readable_string}
-use Rattle.stock.proofs.Back.{plain_readable, minor_byte}
+use Rattle.meaning.specs.Stock.Form.{normal_form}
+use Rattle.meaning.proofs.Normal.Examples.{with_string}
+use Rattle.meaning.proofs.Normal.Cases.{string_minor, readable_string}
+use Rattle.meaning.proofs.Stock.Back.{plain_readable, minor_byte}
 use Rattle.joining.specs.Outcome.{written}
 use Rattle.link.specs.Outcome.{normal_of}
 use Rattle.link.specs.Demand.{Means}

@@ -1,5 +1,6 @@
 -- What the functions of this crate give for files, from what their stages give for entries.
 -- Assumes nothing.
+use Rattle.std.specs.Prelude.{Err, Ok, Result, ℕ}
 use mathlib.Core.Path.{◌≡◌, refl, sym, ap, ◌∙◌}
 use mathlib.Core.Bool.{Bool, true, false}
 use mathlib.Core.List.{List, []}
@@ -9,24 +10,20 @@ use lib.ListN.{length, drop}
 use Rattle.number.specs.Choice.{when◌then◌else◌, ◌<?◌}
 use Rattle.reading.specs.Got.{Accepted, got}
 use Rattle.reading.specs.declared.Refusal.{Refusal}
-use Rattle.reading.specs.declared.Verdict.TheVariants as verdict
 use Rattle.reader.specs.declared.Layout.{Layout}
 use Rattle.reader.specs.Values.{Typelib, entries_in}
 use Rattle.reader.specs.Reader.{decode, check_of}
 use Rattle.reader.specs.Reader.Laws.{accepted_decodes, refused_decodes}
 use Rattle.reader.specs.Layout.{LaidOut}
 use Rattle.meaning.specs.Meaning.{meaning}
-use Rattle.facts.specs.Link as facts
-use Rattle.facts.specs.Link.{stopped, joined}
-use Rattle.facts.proofs.Algebra.{with_empty}
-use Rattle.stock.specs.Uses.{normal_length}
-use Rattle.stock.specs.Form.{normal_form}
+use Rattle.meaning.specs.Facts.Link as facts
+use Rattle.meaning.specs.Facts.Link.{stopped, joined}
+use Rattle.meaning.proofs.Facts.Algebra.{with_empty}
+use Rattle.meaning.specs.Stock.Uses.{normal_length}
+use Rattle.meaning.specs.Stock.Form.{normal_form}
 use Rattle.rows.specs.Files.{Pair, HoldBoth, Given}
 use Rattle.link.specs.declared.Which.TheVariants.{First, Second, Union}
 use Rattle.link.specs.declared.LinkRefusal.{LinkRefusal}
-use Rattle.joining.specs.declared.Normalised.{Normalised}
-use Rattle.joining.specs.declared.Normalised.TheVariants as normalised
-use Rattle.link.specs.declared.Linked.TheVariants as linked
 use Rattle.joining.specs.Outcome.{Outcome, refused, written, refusal, encoded, in_room, after, normalised_as}
 use Rattle.link.specs.Outcome.{refusal_of, normal_of, normalise_in, normalise_answer, normalise_buffer, link_of, link_in, linked_as, link_answer, link_buffer}
 use Rattle.stages.specs.Stages.{link_pair}
@@ -54,7 +51,7 @@ none_laid = record {
 }
 
 -- an accepted file
-pub accepted : (s : List ℕ) {n : ℕ} → check_of s ≡ verdict.Accepted n → Accepted (decode s)
+pub accepted : (s : List ℕ) {n : ℕ} → check_of s ≡ Ok n → Accepted (decode s)
 accepted s e = let r = accepted_decodes s e in (r.0, r.1, r.2)
 
 abbrev Laid : List ℕ → Layout → Type 0
@@ -84,16 +81,16 @@ as_buffer (joined us) room out = choose (room <? length (normal_form us))
 
 -- ---- refused files
 
-module _ (s : List ℕ) {x : Refusal} (e : check_of s ≡ verdict.Refused x) where
-  pub normal_refused : (out : List ℕ) → (normalised.Refused x ≡ normalise_answer s out) × (out ≡ normalise_buffer s out)
+module _ (s : List ℕ) {x : Refusal} (e : check_of s ≡ Err x) where
+  pub normal_refused : (out : List ℕ) → (Err x ≡ normalise_answer s out) × (out ≡ normalise_buffer s out)
   unfolding normalise_answer normalise_buffer normalise_in in_room normal_of normalised_as after refusal
   normal_refused out = rw (refused_decodes s e) (refl, refl)
 
-  pub first_refused_lem : (b out : List ℕ) → (linked.Refused (record { which = First; why = x }) ≡ link_answer s b out) × (out ≡ link_buffer s b out)
+  pub first_refused_lem : (b out : List ℕ) → (Err (record { which = First; why = x }) ≡ link_answer s b out) × (out ≡ link_buffer s b out)
   unfolding link_answer link_buffer link_in in_room link_of linked_as after refusal_of refusal
   first_refused_lem b out = rw (refused_decodes s e) (refl, refl)
 
-  pub second_refused : (a : List ℕ) → Accepted (decode a) → (out : List ℕ) → (linked.Refused (record { which = Second; why = x }) ≡ link_answer a s out) × (out ≡ link_buffer a s out)
+  pub second_refused : (a : List ℕ) → Accepted (decode a) → (out : List ℕ) → (Err (record { which = Second; why = x }) ≡ link_answer a s out) × (out ≡ link_buffer a s out)
   unfolding link_answer link_buffer link_in in_room link_of linked_as after refusal_of refusal
   second_refused a m out = rw (m.2, refused_decodes s e) (refl, refl)
 
@@ -110,7 +107,7 @@ module _ (s : List ℕ) (l : Layout) (m : Accepted (decode s)) (u : Laid s l) wh
   pub alone_Given : Given (HoldBoth s (drop l.pool s) l [] [] no_layout)
   alone_Given = record { value = alone_of; shown = alone_held }
 
-  module _ (out : List ℕ) {r : Normalised} {left : List ℕ} (j : Joins (HoldBoth s (drop l.pool s) l [] [] no_layout) out r left) where
+  module _ (out : List ℕ) {r : Result ℕ Refusal} {left : List ℕ} (j : Joins (HoldBoth s (drop l.pool s) l [] [] no_layout) out r left) where
     alone_in : union_in (length out) alone_of ≡ normalise_in (length out) s
     unfolding union_in link_pair normalise_in normal_of meaning
     alone_in = ap (λ (o : facts.Linked). in_room refusal (length out) (encoded refusal o)) (with_empty normal_length (meaning (entries_in m.0)) (decoded_Valid s m.0 m.1 m.2)) ∙ rw m.2 refl
@@ -134,7 +131,7 @@ module _ (a b : List ℕ) (l k : Layout) (m : Accepted (decode a)) (n : Accepted
   pair_Given = record { value = pair_of; shown = pair_held }
 
   -- a link's answer, from that of its stages
-  module _ (out : List ℕ) {r : Normalised} {left : List ℕ} (j : Joins (HoldBoth a (drop l.pool a) l b (drop k.pool b) k) out r left) where
+  module _ (out : List ℕ) {r : Result ℕ Refusal} {left : List ℕ} (j : Joins (HoldBoth a (drop l.pool a) l b (drop k.pool b) k) out r left) where
     link_in_lem : link_in (length out) a b ≡ in_room (refusal_of Union) (length out) (encoded (refusal_of Union) (link_pair pair_of))
     unfolding link_in link_of link_pair
     link_in_lem = rw (m.2, n.2) refl
@@ -143,11 +140,11 @@ module _ (a b : List ℕ) (l k : Layout) (m : Accepted (decode a)) (n : Accepted
     unfolding link_answer union_in
     linked_answer = ap as_link (j.answer pair_of pair_held) ∙ as_link_lem (link_pair pair_of) (length out) ∙ ap linked_as (sym link_in_lem)
 
-    pub linked_written : {n : ℕ} → r ≡ normalised.Written n → linked.Written n ≡ link_answer a b out
+    pub linked_written : {n : ℕ} → r ≡ Ok n → Ok n ≡ link_answer a b out
     unfolding as_link
     linked_written e = ap as_link (sym e) ∙ linked_answer
 
-    pub linked_refused : {x : Refusal} → r ≡ normalised.Refused x → linked.Refused (record { which = Union; why = x }) ≡ link_answer a b out
+    pub linked_refused : {x : Refusal} → r ≡ Err x → Err (record { which = Union; why = x }) ≡ link_answer a b out
     unfolding as_link
     linked_refused e = ap as_link (sym e) ∙ linked_answer
 

@@ -13,15 +13,15 @@ use Rattle.reader.specs.Reader.{decode}
 use Rattle.reader.specs.Reader.Laws.{accepted_shows, accepted_obeys}
 use Rattle.meaning.specs.Meaning.{meaning}
 use Rattle.meaning.specs.Index.{Closed}
-use Rattle.facts.specs.Valid.{Valid}
-use Rattle.facts.specs.Link.{link_entries, normal_entries}
-use Rattle.normal.specs.Normal.{normal_typelib}
-use Rattle.normal.specs.Encodable.{Sound}
-use Rattle.normal.proofs.Accepted as normal
-use Rattle.stock.specs.Uses.{normal_length}
-use Rattle.stock.specs.Form.{normal_form}
-use Rattle.stock.specs.Readable.{Readable}
-use Rattle.stock.proofs.Back.{Bytes-back, read_back, means_back}
+use Rattle.meaning.specs.Facts.Valid.{Valid}
+use Rattle.meaning.specs.Facts.Link.{link_entries, normal_entries}
+use Rattle.meaning.specs.Normal.Normal.{normal_typelib}
+use Rattle.meaning.specs.Normal.Encodable.{Sound}
+use Rattle.meaning.proofs.Normal.Accepted as normal
+use Rattle.meaning.specs.Stock.Uses.{normal_length}
+use Rattle.meaning.specs.Stock.Form.{normal_form}
+use Rattle.meaning.specs.Stock.Readable.{Readable}
+use Rattle.meaning.proofs.Stock.Back.{Bytes-back, read_back, means_back}
 use Rattle.bridge.proofs.Valids.{meaning-Valid}
 use Rattle.link.specs.declared.Which.TheVariants.{Union}
 use Rattle.joining.specs.Outcome.{refusal, encoded}

@@ -1,5 +1,6 @@
 -- Document 01, "Marked cases": P1 to P3 are each their own normal form; P12 and P13. Before the buffer, and over any buffer with room.
 -- Assumes nothing.
+use Rattle.std.specs.Prelude.{Err, Ok}
 use mathlib.Core.Path.{◌≡◌, refl}
 use mathlib.Core.List.{List}
 use Prim.Native.Nat.{ℕ, ◌≤◌}
@@ -16,24 +17,22 @@ use Rattle.reader.specs.Reader.{decode}
 use Rattle.reader.specs.Reader.Marked.{P1, P2, P3, P13, says1, says2, says3, says13, decodes1, decodes2, decodes3, decodes13}
 use Rattle.meaning.specs.Meaning.{map_parent, map_descriptor, map_own, map_entry, meaning}
 use Rattle.meaning.specs.Index.{keys_of, index_of}
-use Rattle.facts.specs.Equal.{cons?, list?, some?, option?, word?, key?, param?, method?, descriptor?, decided, same_descriptor}
-use Rattle.facts.specs.Facts.{prepend, said, says_iid, says_descriptor}
-use Rattle.facts.specs.Union.{values_of, first_of, or_zero, iid_in, descriptor_for, compare_numbers, compare_by, beside, insert, sort, entry_for, union}
-use Rattle.facts.specs.Conditions.{any_of, differ, two_iids, shares_with, shared_iid, two_descriptors, parent_from, parent_in, climb, is_some, endless}
-use Rattle.facts.specs.Valid.{blank, entry_at}
-use Rattle.facts.specs.Link.{such_at, any_such, first_such, link_both, link_entries, normal_entries}
-use Rattle.normal.specs.BigEndian.{bytes_of}
-use Rattle.normal.specs.Size.{sum, value_width, constant_size, descriptor_size, name_size, constant_name}
-use Rattle.normal.specs.Record.{constant_bytes, parent_number, name_bytes}
-use Rattle.normal.specs.Minor.{new_descriptor, new_own, new_entry, minor_of}
-use Rattle.normal.specs.Normal.{space_pointer, own_pointer, normal_header, header_bytes, note_bytes}
-use Rattle.stock.specs.Uses.{names_of, own_words, space_words, key_words, entry_words, words_of, first_use, at_first, kept_size, stored_size, stock_size, own_body, body_length, normal_length}
-use Rattle.stock.specs.Pool.{own_pieces, entry_pieces, pieces_of, words_in, pool_size, offset, once_at}
-use Rattle.stock.specs.Form.{run_from, methods_with, constants_with, descriptor_with, kept_bytes, pool_with, own_after, entry_with, directory_with, length_with, file_with, normal_form}
+use Rattle.meaning.specs.Facts.Equal.{cons?, list?, some?, option?, word?, key?, param?, method?, descriptor?, decided, same_descriptor}
+use Rattle.meaning.specs.Facts.Facts.{prepend, said, says_iid, says_descriptor}
+use Rattle.meaning.specs.Facts.Union.{values_of, first_of, or_zero, iid_in, descriptor_for, compare_numbers, compare_by, beside, insert, sort, entry_for, union}
+use Rattle.meaning.specs.Facts.Conditions.{any_of, differ, two_iids, shares_with, shared_iid, two_descriptors, parent_from, parent_in, climb, is_some, endless}
+use Rattle.meaning.specs.Facts.Valid.{blank, entry_at}
+use Rattle.meaning.specs.Facts.Link.{such_at, any_such, first_such, link_both, link_entries, normal_entries}
+use Rattle.meaning.specs.Normal.BigEndian.{bytes_of}
+use Rattle.meaning.specs.Normal.Size.{sum, value_width, constant_size, descriptor_size, name_size, constant_name}
+use Rattle.meaning.specs.Normal.Record.{constant_bytes, parent_number, name_bytes}
+use Rattle.meaning.specs.Normal.Minor.{new_descriptor, new_own, new_entry, minor_of}
+use Rattle.meaning.specs.Normal.Normal.{space_pointer, own_pointer, normal_header, header_bytes, note_bytes}
+use Rattle.meaning.specs.Stock.Uses.{names_of, own_words, space_words, key_words, entry_words, words_of, first_use, at_first, kept_size, stored_size, stock_size, own_body, body_length, normal_length}
+use Rattle.meaning.specs.Stock.Pool.{own_pieces, entry_pieces, pieces_of, words_in, pool_size, offset, once_at}
+use Rattle.meaning.specs.Stock.Form.{run_from, methods_with, constants_with, descriptor_with, kept_bytes, pool_with, own_after, entry_with, directory_with, length_with, file_with, normal_form}
 use Rattle.link.specs.declared.Which.TheVariants.{Union}
-use Rattle.joining.specs.declared.Normalised.TheVariants as normalised
 use Rattle.joining.specs.Outcome.{refused, written, encoded}
-use Rattle.link.specs.declared.Linked.TheVariants as linked
 use Rattle.link.specs.Outcome.{refusal_of, normal_of, normalise_answer, normalise_buffer, link_of, link_answer, link_buffer}
 use Rattle.link.proofs.Buffers.{normal_room, link_room, link_stopped}
 
@@ -59,21 +58,21 @@ marked = record {
 -- ---- over a buffer
 
 module _ (out : List ℕ) where
-  pub normalises1 : 36 ≤ length out → (normalise_answer P1 out ≡ normalised.Written 36) × (normalise_buffer P1 out ≡ sets out 0 P1)
+  pub normalises1 : 36 ≤ length out → (normalise_answer P1 out ≡ Ok 36) × (normalise_buffer P1 out ≡ sets out 0 P1)
   unfolding P1
   normalises1 h = normal_room P1 out P1 marked.own1 h
 
-  pub normalises2 : 69 ≤ length out → (normalise_answer P2 out ≡ normalised.Written 69) × (normalise_buffer P2 out ≡ sets out 0 P2)
+  pub normalises2 : 69 ≤ length out → (normalise_answer P2 out ≡ Ok 69) × (normalise_buffer P2 out ≡ sets out 0 P2)
   unfolding P2
   normalises2 h = normal_room P2 out P2 marked.own2 h
 
-  pub normalises3 : 82 ≤ length out → (normalise_answer P3 out ≡ normalised.Written 82) × (normalise_buffer P3 out ≡ sets out 0 P3)
+  pub normalises3 : 82 ≤ length out → (normalise_answer P3 out ≡ Ok 82) × (normalise_buffer P3 out ≡ sets out 0 P3)
   unfolding P3
   normalises3 h = normal_room P3 out P3 marked.own3 h
 
-  pub links12 : 82 ≤ length out → (link_answer P1 P3 out ≡ linked.Written 82) × (link_buffer P1 P3 out ≡ sets out 0 P3)
+  pub links12 : 82 ≤ length out → (link_answer P1 P3 out ≡ Ok 82) × (link_buffer P1 P3 out ≡ sets out 0 P3)
   unfolding P3
   links12 h = link_room P1 P3 out P3 marked.linked12 h
 
-  pub links13 : (link_answer P3 P13 out ≡ linked.Refused (refusal_of Union 23 1)) × (link_buffer P3 P13 out ≡ out)
+  pub links13 : (link_answer P3 P13 out ≡ Err (refusal_of Union 23 1)) × (link_buffer P3 P13 out ≡ out)
   links13 = link_stopped P3 P13 out (refusal_of Union 23 1) marked.linked13

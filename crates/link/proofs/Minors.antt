@@ -5,12 +5,12 @@ use mathlib.Core.Logic.{◌⊎◌, ◌↔◌, inl, inr}
 use mathlib.Core.List.{List, ◌++◌}
 use Rattle.key.specs.Key.{Key}
 use Rattle.reader.specs.Values.{Entry, entry_key}
-use Rattle.facts.specs.Facts.{Sub, says_descriptor, Within}
-use Rattle.facts.specs.Union.{union}
-use Rattle.facts.proofs.Sets.{In-left, In-right, In-append}
-use Rattle.facts.proofs.Said.{said-In, In-said, descriptor_says, says_descriptor_lem}
-use Rattle.normal.specs.Minor.{minor_of, Occurs}
-use Rattle.normal.proofs.Minors.{minor_exactly}
+use Rattle.meaning.specs.Facts.Facts.{Sub, says_descriptor, Within}
+use Rattle.meaning.specs.Facts.Union.{union}
+use Rattle.meaning.proofs.Facts.Sets.{In-left, In-right, In-append}
+use Rattle.meaning.proofs.Facts.Said.{said-In, In-said, descriptor_says, says_descriptor_lem}
+use Rattle.meaning.specs.Normal.Minor.{minor_of, Occurs}
+use Rattle.meaning.proofs.Normal.Minors.{minor_exactly}
 
 Occurs-Sub : (es fs : List (Entry Key)) → Sub es fs → Occurs es → Occurs fs
 Occurs-Sub es fs s o = record { holder = o.holder; there = s o.holder o.there; descriptor = o.descriptor; held = o.held; inside = o.inside }

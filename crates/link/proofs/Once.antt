@@ -8,21 +8,21 @@ use lib.ListN.{length}
 use Rattle.number.specs.Limits.{file_limit}
 use Rattle.key.specs.Key.{Key}
 use Rattle.reader.specs.Values.{Entry}
-use Rattle.facts.specs.Union.{union}
-use Rattle.facts.proofs.Valids.{valid_Agree}
-use Rattle.facts.proofs.Closed.{Valid-few}
-use Rattle.facts.proofs.Algebra.{union-Valid, union_again, Closed-Valid, normal_exactly}
-use Rattle.normal.specs.Size.{plain_length}
-use Rattle.normal.specs.Normal.{plain_form, normal_typelib}
-use Rattle.normal.specs.Encodable.{PlainReadable}
-use Rattle.normal.proofs.Lengths.{length_plain}
-use Rattle.normal.proofs.Back.{Bytes-plain, read_plain, means_plain}
-use Rattle.stock.specs.Uses.{normal_length}
-use Rattle.stock.proofs.Grows.{once_shorter, normal_Grows}
-use Rattle.stock.proofs.Lengths.{length_normal}
-use Rattle.stock.proofs.Plain.{plain_same}
-use Rattle.stock.proofs.Leads.{shared}
-use Rattle.stock.proofs.Back.{plain_readable}
+use Rattle.meaning.specs.Facts.Union.{union}
+use Rattle.meaning.proofs.Facts.Valids.{valid_Agree}
+use Rattle.meaning.proofs.Facts.Closed.{Valid-few}
+use Rattle.meaning.proofs.Facts.Algebra.{union-Valid, union_again, Closed-Valid, normal_exactly}
+use Rattle.meaning.specs.Normal.Size.{plain_length}
+use Rattle.meaning.specs.Normal.Normal.{plain_form, normal_typelib}
+use Rattle.meaning.specs.Normal.Encodable.{PlainReadable}
+use Rattle.meaning.proofs.Normal.Lengths.{length_plain}
+use Rattle.meaning.proofs.Normal.Back.{Bytes-plain, read_plain, means_plain}
+use Rattle.meaning.specs.Stock.Uses.{normal_length}
+use Rattle.meaning.proofs.Stock.Grows.{once_shorter, normal_Grows}
+use Rattle.meaning.proofs.Stock.Lengths.{length_normal}
+use Rattle.meaning.proofs.Stock.Plain.{plain_same}
+use Rattle.meaning.proofs.Stock.Leads.{shared}
+use Rattle.meaning.proofs.Stock.Back.{plain_readable}
 use Rattle.joining.specs.Outcome.{refusal, encoded}
 use Rattle.link.specs.Demand.{Means}
 use Rattle.link.specs.Theorems.{Shortened, OnceForms}

@@ -10,15 +10,15 @@ use Rattle.key.specs.Key.{Key, key}
 use Rattle.reader.specs.Values.{Descriptor, Entry, entry, entry_key, entry_iid, entry_descriptor}
 use Rattle.reader.specs.Rules.{All, Identifier, SpaceRule}
 use Rattle.meaning.specs.Meaning.{map_own, map_entry}
-use Rattle.facts.specs.Facts.{In, says_iid, says_descriptor, keys_of}
-use Rattle.facts.specs.Union.{iid_in, descriptor_for, entry_for, union}
-use Rattle.facts.proofs.Values.{some_equal, not_some}
-use Rattle.facts.proofs.Said.{said-In, key_entry, iid_says, descriptor_says}
-use Rattle.facts.proofs.Unions.{iid_fact, iid_some, descriptor_fact, made_for}
-use Rattle.facts.proofs.Algebra.{Closed}
-use Rattle.normal.specs.Ranged.{Ranged}
-use Rattle.normal.specs.Encodable.{DescriptorApart, Sound}
-use Rattle.normal.proofs.Anys.{In-All, All-In}
+use Rattle.meaning.specs.Facts.Facts.{In, says_iid, says_descriptor, keys_of}
+use Rattle.meaning.specs.Facts.Union.{iid_in, descriptor_for, entry_for, union}
+use Rattle.meaning.proofs.Facts.Values.{some_equal, not_some}
+use Rattle.meaning.proofs.Facts.Said.{said-In, key_entry, iid_says, descriptor_says}
+use Rattle.meaning.proofs.Facts.Unions.{iid_fact, iid_some, descriptor_fact, made_for}
+use Rattle.meaning.proofs.Facts.Algebra.{Closed}
+use Rattle.meaning.specs.Normal.Ranged.{Ranged}
+use Rattle.meaning.specs.Normal.Encodable.{DescriptorApart, Sound}
+use Rattle.meaning.proofs.Normal.Anys.{In-All, All-In}
 
 -- ---- the parts of a sound entry
 

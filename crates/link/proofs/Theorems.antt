@@ -11,16 +11,16 @@ use Rattle.reader.specs.Values.{Typelib, Entry, entries_in}
 use Rattle.reader.specs.Records.{Bytes}
 use Rattle.reader.specs.Reader.{decode}
 use Rattle.meaning.specs.Meaning.{meaning}
-use Rattle.facts.specs.Facts.{Within}
-use Rattle.facts.specs.Union.{union}
-use Rattle.facts.specs.Link.{Linked, stopped, joined, link_entries, normal_entries}
-use Rattle.facts.proofs.Algebra.{joined_exactly, joined_normal, joined_says, normal_exactly, normal_normal, union_means, mean_exactly}
-use Rattle.stock.specs.Uses.{normal_length}
-use Rattle.stock.specs.Form.{normal_form}
-use Rattle.stock.specs.Readable.{Readable}
-use Rattle.stock.proofs.Lengths.{length_normal}
-use Rattle.normal.proofs.Minors.{minor_exactly, minor_else}
-use Rattle.stock.proofs.Back.{normal_injective, minor_byte}
+use Rattle.meaning.specs.Facts.Facts.{Within}
+use Rattle.meaning.specs.Facts.Union.{union}
+use Rattle.meaning.specs.Facts.Link.{Linked, stopped, joined, link_entries, normal_entries}
+use Rattle.meaning.proofs.Facts.Algebra.{joined_exactly, joined_normal, joined_says, normal_exactly, normal_normal, union_means, mean_exactly}
+use Rattle.meaning.specs.Stock.Uses.{normal_length}
+use Rattle.meaning.specs.Stock.Form.{normal_form}
+use Rattle.meaning.specs.Stock.Readable.{Readable}
+use Rattle.meaning.proofs.Stock.Lengths.{length_normal}
+use Rattle.meaning.proofs.Normal.Minors.{minor_exactly, minor_else}
+use Rattle.meaning.proofs.Stock.Back.{normal_injective, minor_byte}
 use Rattle.link.specs.declared.Which.TheVariants.{Union}
 use Rattle.joining.specs.Outcome.{written, refusal, encoded}
 use Rattle.link.specs.Outcome.{refusal_of, normal_of, link_of}

@@ -17,23 +17,23 @@ use Rattle.meaning.specs.Chain.{parent_ref, EndsWithin}
 use Rattle.meaning.proofs.Refs.{refs_then}
 use Rattle.meaning.proofs.Indexes.{index_at, length_keys, in_order, unique_keys}
 use Rattle.meaning.proofs.Chains.{chains_end}
-use Rattle.facts.specs.Facts.{In, keys_of}
-use Rattle.facts.specs.Union.{union}
-use Rattle.facts.specs.Conditions.{parent_from, parent_in, climb, TooLong, Fine}
-use Rattle.facts.specs.Valid.{blank, entry_at, Valid}
-use Rattle.facts.proofs.Sets.{In-append, at_In, In-at}
-use Rattle.facts.proofs.Values.{not_some}
-use Rattle.facts.proofs.Said.{entry_key_lem}
-use Rattle.facts.proofs.Unions.{for_descriptor}
-use Rattle.facts.proofs.Valids.{resolved_parts, valid_Agree}
-use Rattle.facts.proofs.Same.{own_entry}
-use Rattle.facts.proofs.Closed.{Valid-few}
-use Rattle.facts.proofs.Links.{not_over}
-use Rattle.facts.proofs.Algebra.{Closed, union-Valid, union_again, own_order}
-use Rattle.normal.specs.Encodable.{Sound}
-use Rattle.normal.proofs.Anys.{In-All, All-In}
-use Rattle.stock.specs.Uses.{normal_length}
-use Rattle.stock.specs.Readable.{Readable}
+use Rattle.meaning.specs.Facts.Facts.{In, keys_of}
+use Rattle.meaning.specs.Facts.Union.{union}
+use Rattle.meaning.specs.Facts.Conditions.{parent_from, parent_in, climb, TooLong, Fine}
+use Rattle.meaning.specs.Facts.Valid.{blank, entry_at, Valid}
+use Rattle.meaning.proofs.Facts.Sets.{In-append, at_In, In-at}
+use Rattle.meaning.proofs.Facts.Values.{not_some}
+use Rattle.meaning.proofs.Facts.Said.{entry_key_lem}
+use Rattle.meaning.proofs.Facts.Unions.{for_descriptor}
+use Rattle.meaning.proofs.Facts.Valids.{resolved_parts, valid_Agree}
+use Rattle.meaning.proofs.Facts.Same.{own_entry}
+use Rattle.meaning.proofs.Facts.Closed.{Valid-few}
+use Rattle.meaning.proofs.Facts.Links.{not_over}
+use Rattle.meaning.proofs.Facts.Algebra.{Closed, union-Valid, union_again, own_order}
+use Rattle.meaning.specs.Normal.Encodable.{Sound}
+use Rattle.meaning.proofs.Normal.Anys.{In-All, All-In}
+use Rattle.meaning.specs.Stock.Uses.{normal_length}
+use Rattle.meaning.specs.Stock.Readable.{Readable}
 use Rattle.link.proofs.Sounds.{Sound-union}
 
 -- ---- references

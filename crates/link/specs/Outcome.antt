@@ -1,20 +1,17 @@
 -- Document 01, what normalising a file and linking two give: the answer, and every byte of the output buffer.
 -- Assumes nothing.
-use Rattle.std.specs.Prelude.{List, ℕ, length}
+use Rattle.std.specs.Prelude.{List, ℕ, length, Err, Ok, Result}
 use Rattle.reading.specs.Got.{Got, got, bad}
 use Rattle.reading.specs.declared.Refusal.{Refusal}
 use Rattle.reader.specs.Values.{Typelib, entries_in}
 use Rattle.reader.specs.Reader.{decode}
 use Rattle.meaning.specs.Meaning.{meaning}
-use Rattle.facts.specs.Link.{link_entries, normal_entries}
-use Rattle.stock.specs.Uses.{normal_length}
-use Rattle.joining.specs.declared.Normalised.{Normalised}
+use Rattle.meaning.specs.Facts.Link.{link_entries, normal_entries}
+use Rattle.meaning.specs.Stock.Uses.{normal_length}
 use Rattle.joining.specs.Outcome.{Outcome, refused, written, refusal, encoded, in_room, after, normalised_as}
 use Rattle.link.specs.declared.Which.{Which}
 use Rattle.link.specs.declared.Which.TheVariants.{First, Second, Union}
 use Rattle.link.specs.declared.LinkRefusal.{LinkRefusal}
-use Rattle.link.specs.declared.Linked.{Linked}
-use Rattle.link.specs.declared.Linked.TheVariants as linked
 
 unfoldable pub refusal_of : Which → ℕ → ℕ → LinkRefusal
 refusal_of w n q = record { which = w; why = refusal n q }
@@ -30,7 +27,7 @@ unfoldable pub normalise_in : ℕ → List ℕ → Outcome Refusal
 normalise_in room s = in_room refusal room (normal_of (decode s))
 
 -- the answer, and the buffer afterwards
-unfoldable pub normalise_answer : List ℕ → List ℕ → Normalised
+unfoldable pub normalise_answer : List ℕ → List ℕ → Result ℕ Refusal
 normalise_answer s out = normalised_as (normalise_in (length out) s)
 
 unfoldable pub normalise_buffer : List ℕ → List ℕ → List ℕ
@@ -47,12 +44,12 @@ link_of (got t e) (got u f) = encoded (refusal_of Union) (link_entries normal_le
 unfoldable pub link_in : ℕ → List ℕ → List ℕ → Outcome LinkRefusal
 link_in room a b = in_room (refusal_of Union) room (link_of (decode a) (decode b))
 
-unfoldable pub linked_as : Outcome LinkRefusal → Linked
-linked_as (refused x) = linked.Refused x
-linked_as (written bytes) = linked.Written (length bytes)
+unfoldable pub linked_as : Outcome LinkRefusal → Result ℕ LinkRefusal
+linked_as (refused x) = Err x
+linked_as (written bytes) = Ok (length bytes)
 
 -- the answer, and the buffer afterwards
-unfoldable pub link_answer : List ℕ → List ℕ → List ℕ → Linked
+unfoldable pub link_answer : List ℕ → List ℕ → List ℕ → Result ℕ LinkRefusal
 link_answer a b out = linked_as (link_in (length out) a b)
 
 unfoldable pub link_buffer : List ℕ → List ℕ → List ℕ → List ℕ

@@ -1,26 +1,23 @@
 -- Theorems on what normalising and linking accepted files write. A file has a normal form unless normalising gives 26.
 -- Assumes nothing.
-use Rattle.std.specs.Prelude.{◌≡◌, ◌⊎◌, ◌↔◌, List, [], ◌++◌, ℕ, ◌≤◌, ◌<◌, length, get_or, take}
+use Rattle.std.specs.Prelude.{◌≡◌, ◌⊎◌, ◌↔◌, List, [], ◌++◌, ℕ, ◌≤◌, ◌<◌, length, get_or, take, Ok}
 use Rattle.std.proofs.lemmas.List.Edits.{sets}
 use Rattle.number.specs.Limits.{file_limit}
-use Rattle.reading.specs.declared.Verdict.TheVariants.{Accepted}
 use Rattle.key.specs.Key.{Key}
 use Rattle.reader.specs.Values.{Entry}
 use Rattle.reader.specs.Records.{Bytes}
 use Rattle.reader.specs.Reader.{decode, check_of}
 use Rattle.meaning.specs.Index.{keys_of, index_of}
-use Rattle.facts.specs.Facts.{MeanSame, Within}
-use Rattle.facts.specs.Union.{union}
-use Rattle.facts.specs.Link.{Grows}
-use Rattle.normal.specs.Size.{plain_length}
-use Rattle.normal.specs.Minor.{Occurs}
-use Rattle.normal.specs.Normal.{plain_form}
-use Rattle.stock.specs.Uses.{words_of, always, normal_length}
-use Rattle.stock.specs.Pool.{pieces_of, plain_at, once_at}
-use Rattle.stock.specs.Form.{file_with, normal_form}
-use Rattle.joining.specs.declared.Normalised.TheVariants as normalised
+use Rattle.meaning.specs.Facts.Facts.{MeanSame, Within}
+use Rattle.meaning.specs.Facts.Union.{union}
+use Rattle.meaning.specs.Facts.Link.{Grows}
+use Rattle.meaning.specs.Normal.Size.{plain_length}
+use Rattle.meaning.specs.Normal.Minor.{Occurs}
+use Rattle.meaning.specs.Normal.Normal.{plain_form}
+use Rattle.meaning.specs.Stock.Uses.{words_of, always, normal_length}
+use Rattle.meaning.specs.Stock.Pool.{pieces_of, plain_at, once_at}
+use Rattle.meaning.specs.Stock.Form.{file_with, normal_form}
 use Rattle.joining.specs.Outcome.{written}
-use Rattle.link.specs.declared.Linked.TheVariants as linked
 use Rattle.link.specs.Outcome.{normal_of, normalise_answer, normalise_buffer, link_of, link_answer, link_buffer}
 use Rattle.link.specs.Demand.{Means}
 
@@ -87,31 +84,31 @@ Meant a = (A : List (Entry Key)) × Means a A
 
 -- Only accepted files are answered so; that they are bytes is in the contracts.
 pub record Taken : Type 0 where
-  pub checked : (a : List ℕ) (n : ℕ) → Bytes a → check_of a ≡ Accepted n → Meant a
-  pub normal : (a out : List ℕ) (n : ℕ) → Bytes a → normalise_answer a out ≡ normalised.Written n → Meant a
-  pub both : (a b out : List ℕ) (n : ℕ) → Bytes a → Bytes b → link_answer a b out ≡ linked.Written n → Meant a × Meant b
+  pub checked : (a : List ℕ) (n : ℕ) → Bytes a → check_of a ≡ Ok n → Meant a
+  pub normal : (a out : List ℕ) (n : ℕ) → Bytes a → normalise_answer a out ≡ Ok n → Meant a
+  pub both : (a b out : List ℕ) (n : ℕ) → Bytes a → Bytes b → link_answer a b out ≡ Ok n → Meant a × Meant b
 
 -- b has n bytes, is an accepted file that means us, and normalising it, into any buffer with room for it, writes it as it is
 pub record Left (us : List (Entry Key)) (n : ℕ) (b : List ℕ) : Type 0 where
   pub long : length b ≡ n
   pub form : FormOf us b
-  pub again : (out : List ℕ) → n ≤ length out → (normalise_answer b out ≡ normalised.Written n) × (normalise_buffer b out ≡ sets out 0 b)
+  pub again : (out : List ℕ) → n ≤ length out → (normalise_answer b out ≡ Ok n) × (normalise_buffer b out ≡ sets out 0 b)
 
 -- Where normalising an accepted file answers n, the first n bytes of the buffer afterwards are an accepted file of the same meaning, its own normal form.
 abbrev pub NormalisedBack : Type 0
-NormalisedBack = (a out : List ℕ) (n : ℕ) (A : List (Entry Key)) → Means a A → normalise_answer a out ≡ normalised.Written n
+NormalisedBack = (a out : List ℕ) (n : ℕ) (A : List (Entry Key)) → Means a A → normalise_answer a out ≡ Ok n
     → Left (union A) n (take n (normalise_buffer a out)) × MeanSame (union A) A
 
 -- Two such are equal exactly when the files mean the same.
 abbrev pub NormalisedSame : Type 0
 NormalisedSame = (a b out other : List ℕ) (n k : ℕ) (A B : List (Entry Key)) → Means a A → Means b B
-    → normalise_answer a out ≡ normalised.Written n → normalise_answer b other ≡ normalised.Written k
+    → normalise_answer a out ≡ Ok n → normalise_answer b other ≡ Ok k
     → MeanSame A B ↔ (take n (normalise_buffer a out) ≡ take k (normalise_buffer b other))
 
 -- Where linking two accepted files answers n, the first n bytes of the buffer afterwards are an accepted file that means their union, which says what the
 -- two say together.
 abbrev pub LinkedBack : Type 0
-LinkedBack = (a b out : List ℕ) (n : ℕ) (A B : List (Entry Key)) → Means a A → Means b B → link_answer a b out ≡ linked.Written n
+LinkedBack = (a b out : List ℕ) (n : ℕ) (A B : List (Entry Key)) → Means a A → Means b B → link_answer a b out ≡ Ok n
     → Left (union (A ++ B)) n (take n (link_buffer a b out)) × Within (union (A ++ B)) (A ++ B) × Within (A ++ B) (union (A ++ B))
 
 -- Any two files so left, by normalising or linking, are equal exactly when they mean the same.

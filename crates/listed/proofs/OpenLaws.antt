@@ -1,5 +1,6 @@
 -- The first line of a listing, and the end of one.
 -- Assumes nothing.
+use Rattle.std.specs.Prelude.{Err, Ok}
 use mathlib.Core.Path.{◌≡◌, refl, sym, ap, subst, ◌∙◌}
 use mathlib.Core.Bool.{Bool}
 use mathlib.Core.Logic.{inl, inr}
@@ -10,7 +11,6 @@ use lib.ListN.{length, take, drop}
 use lib.Seq.{sets, length-sets}
 use Rattle.reading.specs.Got.{got}
 use Rattle.reading.specs.declared.Refusal.{Refusal}
-use Rattle.reading.specs.declared.Verdict.TheVariants as verdict
 use Rattle.decimal.proofs.Stores.{length_kept}
 use Rattle.text.specs.Line.{line_of, newline}
 use Rattle.reader.specs.declared.Layout.{Layout}
@@ -48,7 +48,7 @@ Says-Opens b x s before said rest after h e = record {
 }
 
 module _ (b : Bool) (s text : List ℕ) (said : Said) where
-  pub Opens-refused : (x : Refusal) (r : Rest) (after : List ℕ) → check_of s ≡ verdict.Refused x → Says (saying (refused_line x) (Refused x)) text said after → r ≡ no_rest → Opens b (list_saying b s) s text (record { said = said; rest = r }) after
+  pub Opens-refused : (x : Refusal) (r : Rest) (after : List ℕ) → check_of s ≡ Err x → Says (saying (refused_line x) (Refused x)) text said after → r ≡ no_rest → Opens b (list_saying b s) s text (record { said = said; rest = r }) after
   unfolding list_saying listed_text listing_of verdict_why
   Opens-refused x r after e h k = record {
     bytes = refused_line x;
@@ -62,8 +62,8 @@ module _ (b : Bool) (s text : List ℕ) (said : Said) where
   }
 
   pub Opens-accepted : (t : Typelib) (e n : ℕ) (l : Layout) (mid : List ℕ) (r : Rest) (after : List ℕ) → answer_room ≡ length mid
-      → check_of s ≡ verdict.Accepted n → decode s ≡ got t e → n ≡ (header_of t).count → LaidOut s l (entries_in t)
-      → Says (saying (line_of (verdict.Accepted n)) Answered) text said mid → after ≡ shown b (take said.length mid) ++ drop said.length mid → r ≡ rest_of l b (AtEntry 0)
+      → check_of s ≡ Ok n → decode s ≡ got t e → n ≡ (header_of t).count → LaidOut s l (entries_in t)
+      → Says (saying (line_of (Ok n)) Answered) text said mid → after ≡ shown b (take said.length mid) ++ drop said.length mid → r ≡ rest_of l b (AtEntry 0)
       → Opens b (list_saying b s) s text (record { said = said; rest = r }) after
   unfolding list_saying listed_text verdict_why
   Opens-accepted t e n l mid r after room c d k laid h a z = record {
@@ -78,7 +78,7 @@ module _ (b : Bool) (s text : List ℕ) (said : Said) where
   }
     where
       line : List ℕ
-      line = line_of (verdict.Accepted n)
+      line = line_of (Ok n)
 
       lines : List ℕ
       lines = entry_lines (entries_in t) 1 (entries_in t)

@@ -1,4 +1,4 @@
-// A listing or a table as an answer, buffer by buffer: from before its first line to after its closing newline. In a batch it stands within one line.
+//! A listing or a table as an answer, buffer by buffer: from before its first line to after its closing newline. In a batch it stands within one line.
 #![tactic(auto)]
 
 ghost use Rattle.std.specs.Prelude.{◌≡◌, List, ◌++◌, ℕ, ◌≤◌, length, take, drop};
@@ -8,10 +8,9 @@ ghost use Rattle.listed.specs.Rest.{Going, LeftIn, is_over, rest_of, no_rest, Op
 
 use lines::Cursor;
 use reader::Layout;
-use reading::Verdict;
 use said::{ANSWER_ROOM, Said};
 
-// What comes next: nothing, the newline that ends the one line of a batch, or what is left at a cursor.
+/// What comes next: nothing, the newline that ends the one line of a batch, or what is left at a cursor.
 #[derive(Clone, Copy)]
 pub enum Next {
     Over,
@@ -19,28 +18,28 @@ pub enum Next {
     At(Cursor),
 }
 
-// What is left of a listing or of a table.
+/// What is left of a listing or of a table.
 #[derive(Clone, Copy)]
 pub struct Rest {
     pub layout: Layout,
     pub next: Next,
 }
 
-// The first line, and what is left after it.
+/// The first line, and what is left after it.
 #[derive(Drop)]
 pub struct Opened {
     pub said: Said,
     pub rest: Rest,
 }
 
-// How many bytes of the buffer were filled, and what is left after them.
+/// How many bytes of the buffer were filled, and what is left after them.
 #[derive(Drop)]
 pub struct More {
     pub length: usize,
     pub rest: Rest,
 }
 
-// Nothing is left.
+/// Nothing is left.
 pub fn no_rest() -> Rest
     ensures { result ≡ no_rest }
 {
@@ -54,7 +53,7 @@ pub fn no_rest() -> Rest
     }
 }
 
-// Whether nothing is left.
+/// Whether nothing is left.
 pub fn is_over(rest: Rest) -> bool
     ensures { result ≡ is_over rest }
 {
@@ -66,7 +65,7 @@ pub fn is_over(rest: Rest) -> bool
     }
 }
 
-// In a batch the newlines among the first bytes are tabs.
+/// In a batch the newlines among the first bytes are tabs.
 pub fn tab(buffer: &mut [u8], n: usize, in_batch: bool)
     requires { n ≤ length buffer.old }
     ensures { buffer.new ≡ shown in_batch (take n buffer.old) ++ drop n buffer.old }
@@ -76,7 +75,7 @@ pub fn tab(buffer: &mut [u8], n: usize, in_batch: bool)
     }
 }
 
-// What is left at a cursor, and behind its last line.
+/// What is left at a cursor, and behind its last line.
 pub fn rest_of(layout: Layout, c: Cursor, in_batch: bool) -> Rest
     ensures { result ≡ rest_of layout in_batch c }
 {
@@ -98,16 +97,16 @@ pub fn rest_of(layout: Layout, c: Cursor, in_batch: bool) -> Rest
     }
 }
 
-// The first line of the listing: the verdict.
+/// The first line of the listing: the verdict.
 pub fn open(file: &[u8], in_batch: bool, text: &mut [u8; ANSWER_ROOM]) -> Opened
     ensures { Opens in_batch (list_saying in_batch file.now) file.now text.old result text.new }
 {
     match reader::check(file) {
-        Verdict::Refused(why) => Opened {
+        Err(why) => Opened {
             said: said::refused(why, text),
             rest: no_rest(),
         },
-        Verdict::Accepted(n) => {
+        Ok(n) => {
             let said = said::numbered(b"accepted ", n as u64, text);
             tab(text, said.length, in_batch);
             let rest = rest_of(reader::layout_of(file), Cursor::AtEntry(0), in_batch);
@@ -131,7 +130,7 @@ fn fill(file: &[u8], l: Layout, c: Cursor, in_batch: bool, out: &mut [u8; 65536]
     }
 }
 
-// The next bytes of the answer.
+/// The next bytes of the answer.
 pub fn go_on(file: &[u8], rest: Rest, in_batch: bool, out: &mut [u8; 65536]) -> More
     requires { (text : List ℕ) × LeftIn in_batch file.now rest text }
     ensures { Filled in_batch file.now rest out.old result out.new }

@@ -7,7 +7,6 @@ ghost use Rattle.input.specs.File.{FirstBytes};
 ghost use Rattle.printed.specs.Listing.{printed_of};
 ghost use Rattle.lines.specs.Cursor.{Printing};
 
-use input::Came;
 use lines::Cursor;
 use reader::Layout;
 
@@ -47,13 +46,13 @@ fn report(file: &[u8], line: &mut [u8; 64], out: &mut [u8; 65536])
 // A failed read is no end of the input: nothing is listed then.
 fn run(rt: &HostRuntime, buf: &mut [u8; 65537]) {
     match input::read_input(rt, buf) {
-        Came::To(n) => {
+        Ok(n) => {
             let all: &[u8] = buf;
             let mut line = [0u8; 64];
             let mut out = [0u8; 65536];
             report(&all[..n], &mut line, &mut out);
         }
-        Came::Failed(_) => {
+        Err(_) => {
             input::say_failed();
         }
     }

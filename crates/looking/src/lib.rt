@@ -1,15 +1,15 @@
-// What stands at a path, by asking the system: lstat of the name, and of where a symbolic link leads.
+//! What stands at a path, by asking the system: lstat of the name, and of where a symbolic link leads.
 #![tactic(auto)]
 
 ghost use Rattle.std.specs.Prelude.{◌≤◌, ◌<◌, length};
 
-use standing::{Leave, Seen, Stands};
+use standing::{Seen, Stands};
 use std::fs::OpenOptions;
 use std::io;
 use std::io::ErrorKind;
 use std::rt::Files;
 
-// What an error of std's says, as errno's number; an error of the device where it says none.
+/// What an error of std's says, as errno's number; an error of the device where it says none.
 pub fn reason(number: Option<i32>) -> u32
     ensures { result < 2147483648 }
 {
@@ -23,7 +23,7 @@ pub fn reason(number: Option<i32>) -> u32
 // What lstat or stat tells.
 fn seen_by(told: Result<u32, i32>) -> Seen {
     match told {
-        Ok(mode) => Seen::Mode(mode),
+        Ok(mode) => Ok(Some(mode)),
         Err(error) => standing::failed_by(reason(Some(error))),
     }
 }
@@ -37,10 +37,8 @@ fn see(rt: &HostRuntime, path: &[u8]) -> Seen {
 fn folder_before(path: &[u8], link: &[u8]) -> usize
     ensures { result ≤ length path.now }
 {
-    if 0 < link.len() {
-        if link[0] == b'/' {
-            return 0;
-        }
+    if link.starts_with(b"/") {
+        return 0;
     }
     paths::last_part(path)
 }
@@ -64,7 +62,7 @@ fn put_led(path: &[u8], link: &[u8], target: &mut [u8; 4096]) -> usize
 // What stands where the link of these bytes leads.
 fn see_behind(rt: &HostRuntime, path: &[u8], link: &[u8], target: &mut [u8; 4096]) -> Seen {
     if 4096 < link.len() {
-        return Seen::Failed(36);
+        return Err(36);
     }
     let n = put_led(path, link, target);
     let all: &[u8] = target;
@@ -74,11 +72,11 @@ fn see_behind(rt: &HostRuntime, path: &[u8], link: &[u8], target: &mut [u8; 4096
 // What stands where the name at `path` leads, whose link std does not give: itself where it is no link; a link that is no UTF-8 is
 // followed.
 fn see_unread(rt: &HostRuntime, path: &[u8], error: io::Error) -> Seen {
-    if let Some(_) = error.raw_os_error() {
+    if error.raw_os_error().is_some() {
         return see(rt, path);
     }
     match error.kind() {
-        ErrorKind::OutOfMemory => Seen::Failed(12),
+        ErrorKind::OutOfMemory => Err(12),
         _ => seen_by(modes::led_mode(rt, path)),
     }
 }
@@ -99,36 +97,32 @@ fn see_led(rt: &HostRuntime, path: &[u8]) -> Seen {
 
 // Whether the leave to write counts: only of an ordinary file, at the name or where it leads. No error has the number 0.
 fn is_leave_asked(own: Seen, led: Seen) -> bool {
-    match standing::standing_of(own, led, Leave::Denied(0)) {
-        Stands::Barred(error) => error == 0,
-        _ => false,
-    }
+    standing::standing_of(own, led, Err(0)) == Err(0)
 }
 
 // Whether the file that the name leads to may be written: it is opened to be written behind its end, and nothing is. A file that is
 // being run may be, though it cannot be opened so.
-fn see_leave(rt: &HostRuntime, path: &[u8]) -> Leave {
-    match paths::text_of(path) {
-        Err(error) => Leave::Denied(reason(Some(error))),
-        Ok(text) => {
-            let mut options = OpenOptions::new();
-            options.append(true);
-            match rt.open_file(&options, text) {
-                Ok(_) => Leave::Given,
-                Err(error) => match error.kind() {
-                    ErrorKind::ExecutableFileBusy => Leave::Given,
-                    _ => Leave::Denied(reason(error.raw_os_error())),
-                },
-            }
-        }
+fn see_leave(rt: &HostRuntime, path: &[u8]) -> Result<(), u32> {
+    let text = match paths::text_of(path) {
+        Ok(text) => text,
+        Err(error) => return Err(reason(Some(error))),
+    };
+    let mut options = OpenOptions::new();
+    options.append(true);
+    match rt.open_file(&options, text) {
+        Ok(_) => Ok(()),
+        Err(error) => match error.kind() {
+            ErrorKind::ExecutableFileBusy => Ok(()),
+            _ => Err(reason(error.raw_os_error())),
+        },
     }
 }
 
-// What stands at the path. Nothing but an ordinary file is opened: to open a pipe would wait for its other end.
-pub fn look(rt: &HostRuntime, path: &[u8]) -> Stands {
+/// What stands at the path. Nothing but an ordinary file is opened: to open a pipe would wait for its other end.
+pub fn look(rt: &HostRuntime, path: &[u8]) -> Result<Stands, u32> {
     let own = see(rt, path);
     let led = see_led(rt, path);
-    let mut leave = Leave::Given;
+    let mut leave = Ok(());
     if is_leave_asked(own, led) {
         leave = see_leave(rt, path);
     }

@@ -1,6 +1,6 @@
 -- Document 01, "Questions": constants, searched as methods are; and their values, of four kinds.
 -- Assumes nothing.
-use Rattle.std.specs.Prelude.{List, [], ◌∷◌, Bool, ℕ}
+use Rattle.std.specs.Prelude.{List, [], ◌∷◌, Bool, ℕ, None, Option as Maybe, Some}
 use Rattle.std.proofs.Math.Option.{Option, none, some}
 use Rattle.number.specs.Choice.{when◌then◌else◌, ◌=?◌}
 use Rattle.key.specs.Word.{same_word}
@@ -8,8 +8,6 @@ unfoldable pub use Rattle.signed.specs.Bits.{signed}
 use Rattle.reader.specs.Values.{Constant, constant, constant_name, constants_of}
 use Rattle.lookup.specs.declared.Value.{Value}
 use Rattle.lookup.specs.declared.Value.TheVariants.{I16, I32, U16, U32}
-use Rattle.lookup.specs.declared.constants.OwnConstant.{OwnConstant}
-use Rattle.lookup.specs.declared.constants.OwnConstant.TheVariants.{Held, Missing}
 use Rattle.lookup.specs.Chain.{Level, level, Chain, chain, Sought, seek}
 
 -- a constant of type byte 1, 2, 5 or 6: signed for 1 and 2
@@ -29,9 +27,9 @@ first_of p [] = none
 first_of p (x ∷ xs) = when p x then some x else first_of p xs
 
 -- the value of a constant that was found in one interface
-unfoldable pub own_as : Option Constant → OwnConstant
-own_as none = Missing
-own_as (some c) = Held (value_of c)
+unfoldable pub own_as : Option Constant → Maybe Value
+own_as none = None
+own_as (some c) = Some (value_of c)
 
 -- constant by name
 unfoldable pub own_constant : {R : Type 0} → List ℕ → Level R → Chain R → Option Constant

@@ -1,6 +1,6 @@
 -- Document 01, "Questions": what each answers, for every file and every question. The file's refusal comes first, then 20.
 -- Assumes nothing.
-use Rattle.std.specs.Prelude.{List, Bool, true, false, not, ℕ, ◌+◌, length}
+use Rattle.std.specs.Prelude.{List, Bool, true, false, not, ℕ, ◌+◌, length, Err, None, Ok, Option as Maybe, Result, Some}
 use Rattle.std.proofs.Math.Option.{Option, none, some}
 use Rattle.number.specs.Choice.{when◌then◌else◌, ◌<?◌, ◌=?◌, ◌≠?◌}
 use Rattle.number.specs.Number.{be}
@@ -15,14 +15,10 @@ use Rattle.halving.specs.Halving.{iid_looked}
 use Rattle.lookup.specs.declared.Kind.{Kind}
 use Rattle.lookup.specs.declared.Slot.{Slot}
 use Rattle.lookup.specs.declared.Slot.TheVariants as slot
-use Rattle.lookup.specs.declared.InterfaceAnswer.{InterfaceAnswer}
-use Rattle.lookup.specs.declared.InterfaceAnswer.TheVariants as interface
-use Rattle.lookup.specs.declared.CountedAnswer.{CountedAnswer}
-use Rattle.lookup.specs.declared.CountedAnswer.TheVariants as counted
-use Rattle.lookup.specs.declared.MethodAnswer.{MethodAnswer}
-use Rattle.lookup.specs.declared.MethodAnswer.TheVariants as method
-use Rattle.lookup.specs.declared.ConstantAnswer.{ConstantAnswer}
-use Rattle.lookup.specs.declared.ConstantAnswer.TheVariants as constant
+use Rattle.lookup.specs.declared.FoundMethod.{FoundMethod as MethodFound}
+use Rattle.lookup.specs.declared.Search.{Search}
+use Rattle.lookup.specs.declared.Search.TheVariants as search
+use Rattle.lookup.specs.declared.Value.{Value}
 use Rattle.lookup.specs.Chain.{chain_of, Sought, found, nothing, undetermined, position}
 use Rattle.lookup.specs.Method.{SlotOf, known, unknown, FoundMethod, found_method, method_named, method_in_slot}
 use Rattle.lookup.specs.Constant.{constant_named, value_of}
@@ -62,54 +58,50 @@ has_key v w x = same_key (entry_key x) (key v w)
 unfoldable pub interface_where : (Entry ℕ → Bool) → List (Entry ℕ) → Option ℕ
 interface_where p es = position p 1 es
 
-unfoldable pub interface_as : Option ℕ → InterfaceAnswer
-interface_as none = interface.None
-interface_as (some i) = interface.Found i
+unfoldable pub interface_as : Option ℕ → Result (Maybe ℕ) Refusal
+interface_as none = Ok None
+interface_as (some i) = Ok (Some i)
 
 -- interface by IID, among the entries of an accepted file
-unfoldable pub iid_answer : List (Entry ℕ) → List ℕ → InterfaceAnswer
+unfoldable pub iid_answer : List (Entry ℕ) → List ℕ → Result (Maybe ℕ) Refusal
 iid_answer es w =
-    when bad_iid w then interface.Refused malformed else
+    when bad_iid w then Err malformed else
     interface_as (interface_where (has_iid (be 16 w 0)) es)
 
-unfoldable pub ask_iid : Got Typelib → List ℕ → InterfaceAnswer
-ask_iid (bad n q) w = interface.Refused (refusal n q)
+unfoldable pub ask_iid : Got Typelib → List ℕ → Result (Maybe ℕ) Refusal
+ask_iid (bad n q) w = Err (refusal n q)
 ask_iid (got t e) w = iid_answer (entries_in t) w
 
 -- request #104: the same by halving the directory, with the number of entries looked at
-unfoldable pub counted_as : Looked → CountedAnswer
-counted_as (looked.Found i k) = counted.Found i k
-counted_as (looked.None k) = counted.None k
-
-unfoldable pub looks_answer : List (Entry ℕ) → List ℕ → CountedAnswer
+unfoldable pub looks_answer : List (Entry ℕ) → List ℕ → Result Looked Refusal
 looks_answer es w =
-    when bad_iid w then counted.Refused malformed else
-    counted_as (iid_looked es (be 16 w 0))
+    when bad_iid w then Err malformed else
+    Ok (iid_looked es (be 16 w 0))
 
-unfoldable pub ask_looks : Got Typelib → List ℕ → CountedAnswer
-ask_looks (bad n q) w = counted.Refused (refusal n q)
+unfoldable pub ask_looks : Got Typelib → List ℕ → Result Looked Refusal
+ask_looks (bad n q) w = Err (refusal n q)
 ask_looks (got t e) w = looks_answer (entries_in t) w
 
 -- the answer alone, and the number alone, 0 for a refusal
-unfoldable pub uncounted : CountedAnswer → InterfaceAnswer
-uncounted (counted.Found i k) = interface.Found i
-uncounted (counted.None k) = interface.None
-uncounted (counted.Refused x) = interface.Refused x
+unfoldable pub uncounted : Result Looked Refusal → Result (Maybe ℕ) Refusal
+uncounted (Ok (looked.Found i k)) = Ok (Some i)
+uncounted (Ok (looked.None k)) = Ok None
+uncounted (Err x) = Err x
 
-unfoldable pub looks_of : CountedAnswer → ℕ
-looks_of (counted.Found i k) = k
-looks_of (counted.None k) = k
-looks_of (counted.Refused x) = 0
+unfoldable pub looks_of : Result Looked Refusal → ℕ
+looks_of (Ok (looked.Found i k)) = k
+looks_of (Ok (looked.None k)) = k
+looks_of (Err x) = 0
 
 -- interface by key
-unfoldable pub key_answer : List (Entry ℕ) → List ℕ → List ℕ → InterfaceAnswer
+unfoldable pub key_answer : List (Entry ℕ) → List ℕ → List ℕ → Result (Maybe ℕ) Refusal
 key_answer es v w =
-    when bad_space v then interface.Refused malformed else
-    when bad_name w then interface.Refused malformed else
+    when bad_space v then Err malformed else
+    when bad_name w then Err malformed else
     interface_as (interface_where (has_key v w) es)
 
-unfoldable pub ask_key : Got Typelib → List ℕ → List ℕ → InterfaceAnswer
-ask_key (bad n q) v w = interface.Refused (refusal n q)
+unfoldable pub ask_key : Got Typelib → List ℕ → List ℕ → Result (Maybe ℕ) Refusal
+ask_key (bad n q) v w = Err (refusal n q)
 ask_key (got t e) v w = key_answer (entries_in t) v w
 
 -- ---- methods
@@ -128,46 +120,46 @@ unfoldable pub moved_by : ℕ → Slot → Slot
 moved_by p (slot.Known s) = slot.Known (s + p)
 moved_by p (slot.Undetermined r) = slot.Undetermined r
 
-unfoldable pub sought_method : Sought ℕ (FoundMethod ℕ) → MethodAnswer
-sought_method (found (found_method o p s n t)) = method.Found (record { owner = o; position = p; slot = slot_as s; distance = n; total = slot_as t })
-sought_method nothing = method.None
-sought_method (undetermined r) = method.Undetermined r
+unfoldable pub sought_method : Sought ℕ (FoundMethod ℕ) → Search MethodFound
+sought_method (found (found_method o p s n t)) = search.Found (record { owner = o; position = p; slot = slot_as s; distance = n; total = slot_as t })
+sought_method nothing = search.None
+sought_method (undetermined r) = search.Undetermined r
 
 -- method by index, name and kind
-unfoldable pub method_answer : List (Entry ℕ) → ℕ → List ℕ → Kind → MethodAnswer
+unfoldable pub method_answer : List (Entry ℕ) → ℕ → List ℕ → Kind → Result (Search MethodFound) Refusal
 method_answer es i w k =
-    when bad_index (length es) i then method.Refused malformed else
-    when bad_name w then method.Refused malformed else
-    sought_method (method_named w k (chain_of es i))
+    when bad_index (length es) i then Err malformed else
+    when bad_name w then Err malformed else
+    Ok (sought_method (method_named w k (chain_of es i)))
 
-unfoldable pub ask_method : Got Typelib → ℕ → List ℕ → Kind → MethodAnswer
-ask_method (bad n q) i w k = method.Refused (refusal n q)
+unfoldable pub ask_method : Got Typelib → ℕ → List ℕ → Kind → Result (Search MethodFound) Refusal
+ask_method (bad n q) i w k = Err (refusal n q)
 ask_method (got t e) i w k = method_answer (entries_in t) i w k
 
 -- method by index and slot
-unfoldable pub slotted_answer : List (Entry ℕ) → ℕ → ℕ → MethodAnswer
+unfoldable pub slotted_answer : List (Entry ℕ) → ℕ → ℕ → Result (Search MethodFound) Refusal
 slotted_answer es i s =
-    when bad_index (length es) i then method.Refused malformed else
-    sought_method (method_in_slot s (chain_of es i))
+    when bad_index (length es) i then Err malformed else
+    Ok (sought_method (method_in_slot s (chain_of es i)))
 
-unfoldable pub ask_slot : Got Typelib → ℕ → ℕ → MethodAnswer
-ask_slot (bad n q) i s = method.Refused (refusal n q)
+unfoldable pub ask_slot : Got Typelib → ℕ → ℕ → Result (Search MethodFound) Refusal
+ask_slot (bad n q) i s = Err (refusal n q)
 ask_slot (got t e) i s = slotted_answer (entries_in t) i s
 
 -- ---- constants
 
-unfoldable pub sought_constant : Sought ℕ Constant → ConstantAnswer
-sought_constant (found c) = constant.Found (value_of c)
-sought_constant nothing = constant.None
-sought_constant (undetermined r) = constant.Undetermined r
+unfoldable pub sought_constant : Sought ℕ Constant → Search Value
+sought_constant (found c) = search.Found (value_of c)
+sought_constant nothing = search.None
+sought_constant (undetermined r) = search.Undetermined r
 
 -- constant by index and name
-unfoldable pub constant_answer : List (Entry ℕ) → ℕ → List ℕ → ConstantAnswer
+unfoldable pub constant_answer : List (Entry ℕ) → ℕ → List ℕ → Result (Search Value) Refusal
 constant_answer es i w =
-    when bad_index (length es) i then constant.Refused malformed else
-    when bad_name w then constant.Refused malformed else
-    sought_constant (constant_named w (chain_of es i))
+    when bad_index (length es) i then Err malformed else
+    when bad_name w then Err malformed else
+    Ok (sought_constant (constant_named w (chain_of es i)))
 
-unfoldable pub ask_constant : Got Typelib → ℕ → List ℕ → ConstantAnswer
-ask_constant (bad n q) i w = constant.Refused (refusal n q)
+unfoldable pub ask_constant : Got Typelib → ℕ → List ℕ → Result (Search Value) Refusal
+ask_constant (bad n q) i w = Err (refusal n q)
 ask_constant (got t e) i w = constant_answer (entries_in t) i w

@@ -1,4 +1,4 @@
-// Constants of an accepted file, by name.
+//! Constants of an accepted file, by name.
 ghost use Rattle.std.specs.Prelude.{◌≤◌, length};
 ghost use Rattle.number.specs.Limits.{file_limit};
 ghost use Rattle.reader.specs.Values.{constants_of};
@@ -9,16 +9,9 @@ ghost use Rattle.lookup.specs.Constant.{value_of, is_called, first_of, own_as, c
 ghost use Rattle.lookup.specs.Question.{sought_constant, constant_answer};
 ghost use Rattle.lookup.specs.Holding.{Answers, PoolOf, NamedConstant, NamedDescriptor};
 
-use crate::{ConstantAnswer, Value};
+use crate::{Search, Value, malformed};
 use reader::Layout;
 use reading::Refusal;
-
-// A constant of one interface.
-#[derive(Drop)]
-pub enum OwnConstant {
-    Held(Value),
-    Missing,
-}
 
 // The value of the constant at `at`.
 fn value_of(pool: &[u8], at: usize) -> Value
@@ -42,24 +35,22 @@ fn is_called(pool: &[u8], at: usize, name: &[u8]) -> bool
 }
 
 // The value of the first of n constants from `at` on that has that name.
-fn own_constant(pool: &[u8], at: usize, n: usize, name: &[u8]) -> OwnConstant
+fn own_constant(pool: &[u8], at: usize, n: usize, name: &[u8]) -> Option<Value>
     requires { Stands (Rows (NamedConstant pool.now) n at) × (length pool.now ≤ file_limit) }
     ensures { Tells (Rows (NamedConstant pool.now) n at) (λ ks. own_as (first_of (is_called name.now) ks)) result }
 {
-    let mut k: usize = 0;
     let mut p = at;
-    while k < n {
+    for _ in 0..n {
         if is_called(pool, p, name) {
-            return OwnConstant::Held(value_of(pool, p));
+            return Some(value_of(pool, p));
         }
         p = reader::record::constant_end(pool, p);
-        k += 1;
     }
-    OwnConstant::Missing
+    None
 }
 
 // The same, of the descriptor at `at`.
-fn held_by(pool: &[u8], at: usize, name: &[u8]) -> OwnConstant
+fn held_by(pool: &[u8], at: usize, name: &[u8]) -> Option<Value>
     requires { Stands (NamedDescriptor pool.now at) × (length pool.now ≤ file_limit) }
     ensures { Tells (NamedDescriptor pool.now at) (λ d. own_as (first_of (is_called name.now) (constants_of d))) result }
 {
@@ -70,44 +61,39 @@ fn held_by(pool: &[u8], at: usize, name: &[u8]) -> OwnConstant
 }
 
 // The constant of that name on the chain of the entry of an index.
-fn find_constant(file: &[u8], pool: &[u8], l: Layout, index: usize, name: &[u8]) -> ConstantAnswer
+fn find_constant(file: &[u8], pool: &[u8], l: Layout, index: usize, name: &[u8]) -> Search<Value>
     requires { Lies file.now l × PoolOf file.now l pool.now × (1 ≤ index) × (index ≤ l.count) }
     ensures { Answers file.now l (λ es. sought_constant (constant_named name.now (chain_of es index))) result }
 {
-    let mut left = l.count;
     let mut j = index;
-    while left != 0 {
+    for _ in 0..l.count {
         let q = reader::entry::descriptor_pointer(file, l, j - 1);
         if q == 0 {
-            return ConstantAnswer::Undetermined(j);
+            return Search::Undetermined(j);
         }
         let at = q - 1;
-        let own = held_by(pool, at, name);
-        if let OwnConstant::Held(v) = own {
-            return ConstantAnswer::Found(v);
+        if let Some(v) = held_by(pool, at, name) {
+            return Search::Found(v);
         }
         let up = reader::record::parent_index(pool, at);
         if up == 0 {
-            return ConstantAnswer::None;
+            return Search::None;
         }
         j = up;
-        left -= 1;
     }
-    ConstantAnswer::Undetermined(j)
+    Search::Undetermined(j)
 }
 
-// Constant by index and name.
-pub fn by_name(file: &[u8], l: Layout, index: u64, name: &[u8]) -> ConstantAnswer
+/// Constant by index and name.
+pub fn by_name(file: &[u8], l: Layout, index: u64, name: &[u8]) -> Result<Search<Value>, Refusal>
     requires { Lies file.now l }
     ensures { Answers file.now l (λ es. constant_answer es index name.now) result }
 {
-    let count = l.count;
-    let pool = l.pool;
-    if crate::methods::bad_index(count, index) {
-        return ConstantAnswer::Refused(Refusal { no: 20, place: 0 });
+    if crate::methods::bad_index(l.count, index) {
+        return Err(malformed());
     }
-    if reader::is_identifier(name) {
-        return find_constant(file, &file[pool..], l, index as usize, name);
+    if !reader::is_identifier(name) {
+        return Err(malformed());
     }
-    ConstantAnswer::Refused(Refusal { no: 20, place: 0 })
+    Ok(find_constant(file, &file[l.pool..], l, index as usize, name))
 }

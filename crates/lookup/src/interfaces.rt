@@ -1,4 +1,4 @@
-// Interfaces of an accepted file, by IID and by key.
+//! Interfaces of an accepted file, by IID and by key.
 ghost use Rattle.std.specs.Prelude.{◌≡◌, ◌<◌, ◌≤◌, length, get_or};
 ghost use Rattle.number.specs.Limits.{file_limit};
 ghost use Rattle.key.specs.Word.{same_word};
@@ -9,7 +9,7 @@ ghost use Rattle.reader.specs.Layout.{Lies};
 ghost use Rattle.lookup.specs.Question.{bad_iid, bad_space, has_key, interface_as, interface_where, iid_answer, looks_answer, key_answer};
 ghost use Rattle.lookup.specs.Holding.{Answers, PoolOf};
 
-use crate::{CountedAnswer, InterfaceAnswer};
+use crate::malformed;
 use halving::Looked;
 use reader::Layout;
 use reading::Refusal;
@@ -27,32 +27,29 @@ fn bad_iid(iid: &[u8]) -> bool
     false
 }
 
-// Interface by IID.
-pub fn by_iid(file: &[u8], l: Layout, iid: &[u8]) -> InterfaceAnswer
+/// Interface by IID.
+pub fn by_iid(file: &[u8], l: Layout, iid: &[u8]) -> Result<Option<usize>, Refusal>
     requires { Lies file.now l }
     ensures { Answers file.now l (λ es. iid_answer es iid.now) result }
 {
     if bad_iid(iid) {
-        return InterfaceAnswer::Refused(Refusal { no: 20, place: 0 });
+        return Err(malformed());
     }
     match halving::look(file, l, iid) {
-        Looked::Found(i, _) => InterfaceAnswer::Found(i),
-        Looked::None(_) => InterfaceAnswer::None,
+        Looked::Found(i, _) => Ok(Some(i)),
+        Looked::None(_) => Ok(None),
     }
 }
 
-// The same, with the number of entries looked at.
-pub fn by_iid_counted(file: &[u8], l: Layout, iid: &[u8]) -> CountedAnswer
+/// The same, with the number of entries looked at.
+pub fn by_iid_counted(file: &[u8], l: Layout, iid: &[u8]) -> Result<Looked, Refusal>
     requires { Lies file.now l }
     ensures { Answers file.now l (λ es. looks_answer es iid.now) result }
 {
     if bad_iid(iid) {
-        return CountedAnswer::Refused(Refusal { no: 20, place: 0 });
+        return Err(malformed());
     }
-    match halving::look(file, l, iid) {
-        Looked::Found(i, k) => CountedAnswer::Found(i, k),
-        Looked::None(k) => CountedAnswer::None(k),
-    }
+    Ok(halving::look(file, l, iid))
 }
 
 // Whether a question's namespace is malformed.
@@ -92,32 +89,34 @@ fn has_key(file: &[u8], pool: &[u8], l: Layout, i: usize, space: &[u8], name: &[
 }
 
 // The entry with that key.
-fn find_key(file: &[u8], pool: &[u8], l: Layout, space: &[u8], name: &[u8]) -> InterfaceAnswer
+fn find_key(
+    file: &[u8],
+    pool: &[u8],
+    l: Layout,
+    space: &[u8],
+    name: &[u8],
+) -> Result<Option<usize>, Refusal>
     requires { Lies file.now l × PoolOf file.now l pool.now }
     ensures { Answers file.now l (λ es. interface_as (interface_where (has_key space.now name.now) es)) result }
 {
-    let count = l.count;
-    let mut i: usize = 0;
-    while i < count {
+    for i in 0..l.count {
         if has_key(file, pool, l, i, space, name) {
-            return InterfaceAnswer::Found(i + 1);
+            return Ok(Some(i + 1));
         }
-        i += 1;
     }
-    InterfaceAnswer::None
+    Ok(None)
 }
 
-// Interface by key.
-pub fn by_key(file: &[u8], l: Layout, space: &[u8], name: &[u8]) -> InterfaceAnswer
+/// Interface by key.
+pub fn by_key(file: &[u8], l: Layout, space: &[u8], name: &[u8]) -> Result<Option<usize>, Refusal>
     requires { Lies file.now l }
     ensures { Answers file.now l (λ es. key_answer es space.now name.now) result }
 {
     if bad_space(space) {
-        return InterfaceAnswer::Refused(Refusal { no: 20, place: 0 });
+        return Err(malformed());
     }
-    let pool = l.pool;
-    if reader::is_identifier(name) {
-        return find_key(file, &file[pool..], l, space, name);
+    if !reader::is_identifier(name) {
+        return Err(malformed());
     }
-    InterfaceAnswer::Refused(Refusal { no: 20, place: 0 })
+    find_key(file, &file[l.pool..], l, space, name)
 }

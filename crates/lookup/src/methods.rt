@@ -1,4 +1,4 @@
-// Methods of an accepted file, by name and kind, and by slot.
+//! Methods of an accepted file, by name and kind, and by slot.
 ghost use Rattle.std.specs.Prelude.{◌≡◌, ◌+◌, ◌≤◌, ◌<◌, length};
 ghost use Rattle.number.specs.Limits.{file_limit, own_limit};
 ghost use Rattle.reader.specs.Layout.{Lies, Stands, Tells, Rows};
@@ -8,7 +8,7 @@ ghost use Rattle.lookup.specs.Question.{bad_index, slot_as, slot_number, moved_b
 ghost use Rattle.lookup.specs.Holding.{Answers, PoolOf, NamedMethod};
 ghost use Rattle.lookup.specs.declared.Slot.TheVariants.{Known};
 
-use crate::{FoundMethod, Kind, MethodAnswer, Slot};
+use crate::{FoundMethod, Kind, Search, Slot, malformed};
 use reader::Layout;
 use reader::record::{GETTER, SETTER};
 use reading::Refusal;
@@ -40,14 +40,12 @@ fn own_position(pool: &[u8], at: usize, n: usize, name: &[u8], kind: Kind) -> us
     requires { Stands (Rows (NamedMethod pool.now) n at) × (length pool.now ≤ file_limit) }
     ensures { Tells (Rows (NamedMethod pool.now) n at) (first_position (is_named name.now kind) 0) result }
 {
-    let mut k: usize = 0;
     let mut p = at;
-    while k < n {
+    for k in 0..n {
         if is_named(pool, p, name, kind) {
             return k;
         }
         p = reader::record::method_end(pool, p);
-        k += 1;
     }
     n
 }
@@ -73,13 +71,13 @@ fn found_at(
     up: usize,
     position: usize,
     distance: usize,
-) -> MethodAnswer
+) -> Search<FoundMethod>
     requires { Lies file.now l × PoolOf file.now l pool.now × (1 ≤ index) × (index ≤ l.count) × (up ≤ l.count) × (position ≤ own_limit) × Answers file.now l (λ es. steps_to (chain_of es index) (chain_above es up)) distance }
     ensures { Answers file.now l (λ es. sought_method (found (method_at (chain_of es index) owner (chain_above es up) position))) result }
 {
     let base = crate::chains::slot_base(file, pool, l, up);
     let total = crate::chains::slot_base(file, pool, l, index);
-    MethodAnswer::Found(FoundMethod {
+    Search::Found(FoundMethod {
         owner,
         position,
         slot: slot_at(base, position),
@@ -96,17 +94,15 @@ fn find_named(
     index: usize,
     name: &[u8],
     kind: Kind,
-) -> MethodAnswer
+) -> Search<FoundMethod>
     requires { Lies file.now l × PoolOf file.now l pool.now × (1 ≤ index) × (index ≤ l.count) }
     ensures { Answers file.now l (λ es. sought_method (method_named name.now kind (chain_of es index))) result }
 {
-    let count = l.count;
-    let mut distance: usize = 0;
     let mut j = index;
-    while distance < count {
+    for distance in 0..l.count {
         let q = reader::entry::descriptor_pointer(file, l, j - 1);
         if q == 0 {
-            return MethodAnswer::Undetermined(j);
+            return Search::Undetermined(j);
         }
         let at = q - 1;
         let n = reader::record::method_count(pool, at);
@@ -116,12 +112,11 @@ fn find_named(
             return found_at(file, pool, l, index, j, up, p, distance);
         }
         if up == 0 {
-            return MethodAnswer::None;
+            return Search::None;
         }
         j = up;
-        distance += 1;
     }
-    MethodAnswer::Undetermined(j)
+    Search::Undetermined(j)
 }
 
 // The method in the slot s, below the total, of a complete chain.
@@ -132,21 +127,19 @@ fn find_slot(
     index: usize,
     total: usize,
     s: usize,
-) -> MethodAnswer
+) -> Search<FoundMethod>
     requires { Lies file.now l × PoolOf file.now l pool.now × (1 ≤ index) × (index ≤ l.count) × Answers file.now l (λ es. slot_as (total_of (chain_of es index))) (Known total) × (s < total) }
     ensures { Answers file.now l (λ es. sought_method (method_in_slot s (chain_of es index))) result }
 {
-    let count = l.count;
-    let mut distance: usize = 0;
     let mut base = total;
     let mut j = index;
-    while distance < count {
+    for distance in 0..l.count {
         let q = reader::entry::descriptor_pointer(file, l, j - 1);
         let at = q - 1;
         let up = reader::record::parent_index(pool, at);
         base -= reader::record::method_count(pool, at);
         if base <= s {
-            return MethodAnswer::Found(FoundMethod {
+            return Search::Found(FoundMethod {
                 owner: j,
                 position: s - base,
                 slot: Slot::Known(s),
@@ -155,55 +148,63 @@ fn find_slot(
             });
         }
         j = up;
-        distance += 1;
     }
-    MethodAnswer::None
+    Search::None
 }
 
-// Whether an index is malformed, of `count` entries.
+/// Whether an index is malformed, of `count` entries.
+#[tactic(auto, using(number::proofs::Choice::tests), unfolding(crate::specs::Question::bad_index))]
 pub fn bad_index(count: usize, index: u64) -> bool
     ensures { result ≡ bad_index count index }
 {
-    if index == 0 {
-        return true;
-    }
-    (count as u64) < index
+    index == 0 || (count as u64) < index
 }
 
-// Method by index, name and kind.
-pub fn by_name(file: &[u8], l: Layout, index: u64, name: &[u8], kind: Kind) -> MethodAnswer
+/// Method by index, name and kind.
+pub fn by_name(
+    file: &[u8],
+    l: Layout,
+    index: u64,
+    name: &[u8],
+    kind: Kind,
+) -> Result<Search<FoundMethod>, Refusal>
     requires { Lies file.now l }
     ensures { Answers file.now l (λ es. method_answer es index name.now kind) result }
 {
-    let count = l.count;
-    let pool = l.pool;
-    if bad_index(count, index) {
-        return MethodAnswer::Refused(Refusal { no: 20, place: 0 });
+    if bad_index(l.count, index) {
+        return Err(malformed());
     }
-    if reader::is_identifier(name) {
-        return find_named(file, &file[pool..], l, index as usize, name, kind);
+    if !reader::is_identifier(name) {
+        return Err(malformed());
     }
-    MethodAnswer::Refused(Refusal { no: 20, place: 0 })
+    Ok(find_named(file, &file[l.pool..], l, index as usize, name, kind))
 }
 
 // Method by slot, on a chain whose slots are told by `base`.
-fn in_slot(file: &[u8], pool: &[u8], l: Layout, index: usize, base: Slot, slot: u64) -> MethodAnswer
+fn in_slot(
+    file: &[u8],
+    pool: &[u8],
+    l: Layout,
+    index: usize,
+    base: Slot,
+    slot: u64,
+) -> Search<FoundMethod>
     requires { Lies file.now l × PoolOf file.now l pool.now × (1 ≤ index) × (index ≤ l.count) × Answers file.now l (λ es. slot_as (total_of (chain_of es index))) base }
     ensures { Answers file.now l (λ es. sought_method (method_in_slot slot (chain_of es index))) result }
 {
     match base {
         Slot::Known(total) => {
             if (total as u64) <= slot {
-                return MethodAnswer::None;
+                return Search::None;
             }
             find_slot(file, pool, l, index, total, slot as usize)
         }
-        Slot::Undetermined(i) => MethodAnswer::Undetermined(i),
+        Slot::Undetermined(i) => Search::Undetermined(i),
     }
 }
 
 // The same, the pool being lent beside the file.
-fn slot_of(file: &[u8], pool: &[u8], l: Layout, index: usize, slot: u64) -> MethodAnswer
+fn slot_of(file: &[u8], pool: &[u8], l: Layout, index: usize, slot: u64) -> Search<FoundMethod>
     requires { Lies file.now l × PoolOf file.now l pool.now × (1 ≤ index) × (index ≤ l.count) }
     ensures { Answers file.now l (λ es. sought_method (method_in_slot slot (chain_of es index))) result }
 {
@@ -211,15 +212,18 @@ fn slot_of(file: &[u8], pool: &[u8], l: Layout, index: usize, slot: u64) -> Meth
     in_slot(file, pool, l, index, base, slot)
 }
 
-// Method by index and slot.
-pub fn by_slot(file: &[u8], l: Layout, index: u64, slot: u64) -> MethodAnswer
+/// Method by index and slot.
+pub fn by_slot(
+    file: &[u8],
+    l: Layout,
+    index: u64,
+    slot: u64,
+) -> Result<Search<FoundMethod>, Refusal>
     requires { Lies file.now l }
     ensures { Answers file.now l (λ es. slotted_answer es index slot) result }
 {
-    let count = l.count;
-    let pool = l.pool;
-    if bad_index(count, index) {
-        return MethodAnswer::Refused(Refusal { no: 20, place: 0 });
+    if bad_index(l.count, index) {
+        return Err(malformed());
     }
-    slot_of(file, &file[pool..], l, index as usize, slot)
+    Ok(slot_of(file, &file[l.pool..], l, index as usize, slot))
 }

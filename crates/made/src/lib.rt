@@ -1,57 +1,50 @@
-// The commands that write a file: the line that is said, every byte of the output, and what of it is to be saved.
+//! The commands that write a file: the line that is said, every byte of the output, and what of it is to be saved.
 #![tactic(auto)]
 
 ghost use Rattle.std.specs.Prelude.{◌≡◌};
 ghost use Rattle.made.specs.Made.{normalised_save, linked_save, linked_whose, normal_made, adopt_made, link_made, salvage_made, Makes};
 
-use joining::Normalised;
-use link::{Linked, Which};
+use link::{LinkRefusal, Which};
 use number::FILE_LIMIT;
+use reading::Refusal;
 use said::{ANSWER_ROOM, Said};
 
-// What of the output is to be saved: nothing, or its first bytes.
-#[derive(Clone, Copy)]
-pub enum Save {
-    Nothing,
-    FirstBytes(usize),
-}
-
-// What was put at the front of the text and why, of which file a refusal is, and what is to be saved.
+/// What was put at the front of the text and why, of which file a refusal is, and what is to be saved.
 #[derive(Drop)]
 pub struct Made {
     pub said: Said,
     pub whose: Which,
-    pub save: Save,
+    pub save: Option<usize>,
 }
 
-fn normalised_save(done: Normalised) -> Save
+fn normalised_save(done: Result<usize, Refusal>) -> Option<usize>
     ensures { result ≡ normalised_save done }
 {
     match done {
-        Normalised::Written(n) => Save::FirstBytes(n),
-        Normalised::Refused(_) => Save::Nothing,
+        Ok(n) => Some(n),
+        Err(_) => None,
     }
 }
 
-fn linked_save(done: Linked) -> Save
+fn linked_save(done: Result<usize, LinkRefusal>) -> Option<usize>
     ensures { result ≡ linked_save done }
 {
     match done {
-        Linked::Written(n) => Save::FirstBytes(n),
-        Linked::Refused(_) => Save::Nothing,
+        Ok(n) => Some(n),
+        Err(_) => None,
     }
 }
 
-fn linked_whose(done: Linked) -> Which
+fn linked_whose(done: Result<usize, LinkRefusal>) -> Which
     ensures { result ≡ linked_whose done }
 {
     match done {
-        Linked::Written(_) => Which::Union,
-        Linked::Refused(refusal) => refusal.which,
+        Ok(_) => Which::Union,
+        Err(refusal) => refusal.which,
     }
 }
 
-// The command `normal`.
+/// The command `normal`.
 pub fn normal(first: &[u8], out: &mut [u8], text: &mut [u8; ANSWER_ROOM]) -> Made
     ensures { Makes (normal_made first.now out.old) text.old result out.new text.new }
 {
@@ -63,28 +56,28 @@ pub fn normal(first: &[u8], out: &mut [u8], text: &mut [u8; ANSWER_ROOM]) -> Mad
     }
 }
 
-// The command `adopt`: what the check says of what was written is told with it.
+/// The command `adopt`: what the check says of what was written is told with it.
 pub fn adopt(first: &[u8], out: &mut [u8], text: &mut [u8; ANSWER_ROOM]) -> Made
     ensures { Makes (adopt_made first.now out.old) text.old result out.new text.new }
 {
     match adopt::adopt(first, out) {
-        Normalised::Written(n) => {
+        Ok(n) => {
             let verdict = reader::check(&out[0..n]);
             Made {
                 said: outcomes::adopted(n, verdict, text),
                 whose: Which::First,
-                save: Save::FirstBytes(n),
+                save: Some(n),
             }
         }
-        Normalised::Refused(why) => Made {
+        Err(why) => Made {
             said: said::refused(why, text),
             whose: Which::First,
-            save: Save::Nothing,
+            save: None,
         },
     }
 }
 
-// The command `link`.
+/// The command `link`.
 pub fn link(first: &[u8], second: &[u8], out: &mut [u8], text: &mut [u8; ANSWER_ROOM]) -> Made
     ensures { Makes (link_made first.now second.now out.old) text.old result out.new text.new }
 {
@@ -96,7 +89,7 @@ pub fn link(first: &[u8], second: &[u8], out: &mut [u8], text: &mut [u8; ANSWER_
     }
 }
 
-// The command `salvage`; `work` has room for a copy of the file.
+/// The command `salvage`; `work` has room for a copy of the file.
 pub fn salvage(
     first: &[u8],
     in_batch: bool,

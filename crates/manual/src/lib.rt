@@ -1,4 +1,4 @@
-// The help, whole and of one command, and the version, each made at the front of a lent buffer.
+//! The help, whole and of one command, and the version, each made at the front of a lent buffer.
 #![tactic(auto)]
 
 ghost use Rattle.std.specs.Prelude.{◌+◌, ◌≤◌};
@@ -223,30 +223,24 @@ fn one(verb: Verb, text: &mut [u8; ROOM]) -> usize
     put_entry(verb, text, 0)
 }
 
-// The help of a command; the whole help where it is unknown.
+/// The help of a command; the whole help where it is unknown.
 pub fn help_of(verb: Verb, text: &mut [u8; ROOM]) -> usize
     ensures { Made (help_of verb) text.old result text.new }
 {
     match verb {
-        Verb::Ask(question) => one(Verb::Ask(question), text),
-        Verb::List => one(Verb::List, text),
-        Verb::Table => one(Verb::Table, text),
-        Verb::Normal => one(Verb::Normal, text),
-        Verb::Adopt => one(Verb::Adopt, text),
-        Verb::Link => one(Verb::Link, text),
-        Verb::Salvage => one(Verb::Salvage, text),
         Verb::Unknown => help(text),
+        _ => one(verb, text),
     }
 }
 
-// The help of the commands about a types.rdb.
+/// The help of the commands about a types.rdb.
 pub fn types_help(text: &mut [u8; ROOM]) -> usize
     ensures { Made types_text text.old result text.new }
 {
     put_types(text, 0)
 }
 
-// The program's version, and the kit that it is proved and built with.
+/// The program's version, and the kit that it is proved and built with.
 pub fn version(text: &mut [u8; ROOM]) -> usize
     ensures { Made version_text text.old result text.new }
 {

@@ -1,12 +1,12 @@
 -- The marked cases hold, all of them by one claim, over every output buffer with room for the longest of their files, the 82 bytes of P3.
 -- Assumes nothing.
+use Rattle.reading.specs.declared.Refusal.{Refusal}
+use Rattle.std.specs.Prelude.{Ok, Result, ℕ}
 use mathlib.Core.Path.{◌≡◌, ap}
 use mathlib.Core.List.{List, [], ◌∷◌, map}
 use Prim.Native.Nat.{ℕ, ◌≤◌}
 use native.Mathlib.Omega.{arith}
 use lib.ListN.{length, get_or}
-use Rattle.reading.specs.declared.Verdict.{Verdict}
-use Rattle.reading.specs.declared.Verdict.TheVariants.{Accepted}
 use Rattle.reader.specs.Reader.{check_of}
 use Rattle.reader.specs.Reader.Marked as reader
 use Rattle.lookup.proofs.Answers.{P14}
@@ -15,8 +15,8 @@ use Rattle.link.proofs.Marked.{normalises1, normalises2, normalises3, links12, l
 use Rattle.marked.specs.Marked.{checked, valued, listed, normalised, linked, result_of, Case, at, table}
 
 -- the reader's verdict on the file in row k of its table
-verdict : (k : ℕ) → get_or (map (λ (c : reader.Case). check_of c.file) reader.table) k (Accepted 0) ≡ get_or reader.verdicts k (Accepted 0)
-verdict k = ap (λ (vs : List Verdict). get_or vs k (Accepted 0)) reader.answers
+verdict : (k : ℕ) → get_or (map (λ (c : reader.Case). check_of c.file) reader.table) k (Ok 0) ≡ get_or reader.verdicts k (Ok 0)
+verdict k = ap (λ (vs : List (Result ℕ Refusal)). get_or vs k (Ok 0)) reader.answers
 
 pub claim : (out : List ℕ) → 82 ≤ length out → map (λ (c : Case). result_of out c.task) (table out) ≡ map (λ (c : Case). c.result) (table out)
 unfolding table result_of at reader.table reader.verdicts

@@ -1,2 +1,2 @@
-// Document 01's marked cases, as one table. Definitions and a theorem only.
+//! Document 01's marked cases, as one table. Definitions and a theorem only.
 #![tactic(auto)]

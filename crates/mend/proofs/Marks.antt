@@ -1,5 +1,6 @@
 -- What is known of descriptors one by one: the code's ways, and that a pointer which leads in decides all of it.
 -- Assumes nothing.
+use Rattle.std.specs.Prelude.{Err, Result, ℕ}
 use mathlib.Core.Path.{◌≡◌, refl, sym, ap, ◌∙◌}
 use mathlib.Core.List.{List}
 use mathlib.Core.Option.{Option, none, some}
@@ -13,8 +14,6 @@ use Rattle.number.proofs.Choice.{is_eq, no_eq, not_eq, not_lt, from_yes_eq}
 use Rattle.number.proofs.Scans.{scan_found}
 use Rattle.reading.specs.Got.{Got, got, bad, next, step_of, Accepted}
 use Rattle.reading.specs.declared.Context.{Context}
-use Rattle.reading.specs.declared.Step.{Step}
-use Rattle.reading.specs.declared.Step.TheVariants.{Refused}
 use Rattle.reading.specs.declared.Refusal.{Refusal}
 use Rattle.reading.proofs.Steps.{told}
 use Rattle.reading.proofs.Passes.{pass_false}
@@ -58,7 +57,7 @@ module _ (g : Got (Option (Descriptor ℕ))) where
       go : g ≡ got a.0 a.1 → u ≡ (mark_of g).up → record { number = 0; place = 0; up = u } ≡ mark_of g
       go q e = let f : u ≡ above a.0 = e ∙ ap (λ (x : Got (Option (Descriptor ℕ))). (mark_of x).up) q in rw (q, f) refl
 
-  pub mark_refused : {r : Step} (x : Refusal) → r ≡ Refused x → r ≡ step_of g → record { number = x.no + 1; place = x.place; up = 0 } ≡ mark_of g
+  pub mark_refused : {r : Result ℕ Refusal} (x : Refusal) → r ≡ Err x → r ≡ step_of g → record { number = x.no + 1; place = x.place; up = 0 } ≡ mark_of g
   unfolding mark_of
   mark_refused x q w = rw (told g (sym q ∙ w)) refl
 

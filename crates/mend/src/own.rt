@@ -10,7 +10,7 @@ ghost use Rattle.mend.specs.Tables.{own_mark, own_up, Judged};
 use crate::Mark;
 use method::BLOCK_COUNT;
 use number::{ENTRY_LIMIT, ENTRY_WIDTH};
-use reading::{Context, Step};
+use reading::Context;
 
 // The index above entry k of n, whose descriptor is accepted.
 fn parent_of(file: &[u8], pool: &[u8], c: Context, n: usize, d: usize, k: usize) -> usize
@@ -30,12 +30,12 @@ fn own_mark(file: &[u8], pool: &[u8], c: Context, d: usize, k: usize, seen: &mut
     ensures { (result ≡ own_mark c file.now pool.now d k) × Remembered c pool.now seen.new }
 {
     match typelib::check_again(file, pool, c, d + ENTRY_WIDTH * k, seen) {
-        Step::End(e) => Mark {
+        Ok(e) => Mark {
             number: 0,
             place: 0,
             up: parent_of(file, pool, c, 1 + k, d, k),
         },
-        Step::Refused(why) => Mark {
+        Err(why) => Mark {
             number: why.no as usize + 1,
             place: why.place,
             up: 0,

@@ -1,34 +1,32 @@
 -- The tables that the reading of arguments and of methods fills.
 -- Assumes nothing.
-use Rattle.std.specs.Prelude.{◌≡◌, true, false, List, ◌⊎◌, ℕ, ◌+◌, ◌-◌, ◌%◌, ◌/◌, ◌≤◌, ◌<◌, length, get_or, take}
+use Rattle.reading.specs.declared.Refusal.{Refusal}
+use Rattle.std.specs.Prelude.{◌≡◌, true, false, List, ◌⊎◌, ℕ, ◌+◌, ◌-◌, ◌%◌, ◌/◌, ◌≤◌, ◌<◌, length, get_or, take, Err, Ok, Result}
 use Rattle.number.specs.Limits.{file_limit, own_limit}
 use Rattle.reading.specs.Got.{Got, got, bad, many, step_of}
 use Rattle.reading.specs.declared.Context.{Context}
-use Rattle.reading.specs.declared.Step.{Step}
-use Rattle.reading.specs.declared.Step.TheVariants.{End, Refused}
 use Rattle.key.specs.Word.{word_at, Leads}
 use Rattle.key.specs.First.{Past}
 use Rattle.method.specs.Parameter.{Param, read_param}
 use Rattle.method.specs.Numbers.{prefixes}
 use Rattle.method.specs.Method.{Method, method_flags, method_name, read_method, no_method}
 use Rattle.method.specs.Walk.{signature_from}
-use Rattle.method.specs.declared.params.Signed.{Signed}
-use Rattle.method.specs.declared.params.Signed.TheVariants as signed
+use Rattle.method.specs.declared.params.Span.{Span}
 
 -- where n arguments were read as g says, the first n places of the table t are the prefixes of their types
 abbrev pub Held : Got (List (Param ℕ)) → ℕ → List ℕ → Type 0
 Held g n t = (ps : List (Param ℕ)) (e : ℕ) → g ≡ got ps e → take n t ≡ prefixes ps
 
 -- n arguments were read as g says, and the first n places of the table t are the prefixes of their types
-pub record Listed (g : Got (List (Param ℕ))) (n : ℕ) (r : Step) (t : List ℕ) : Type 0 where
+pub record Listed (g : Got (List (Param ℕ))) (n : ℕ) (r : Result ℕ Refusal) (t : List ℕ) : Type 0 where
   pub step : r ≡ step_of g
   pub held : Held g n t
   pub long : 256 ≡ length t
 
 -- n arguments and the result behind them were read, the result from `mid` to `end`; where one is refused, so is the signature
-unfoldable pub Signs : Context → List ℕ → ℕ → ℕ → Signed → List ℕ → Type 0
-Signs c s n at (signed.At mid end) t = Listed (many (read_param false c s) n at) n (End mid) t × (End end ≡ step_of (read_param true c s mid))
-Signs c s n at (signed.Refused why) t = ((first f : ℕ) → Refused why ≡ step_of (signature_from c s first f n at)) × (256 ≡ length t)
+unfoldable pub Signs : Context → List ℕ → ℕ → ℕ → Result Span Refusal → List ℕ → Type 0
+Signs c s n at (Ok x) t = Listed (many (read_param false c s) n at) n (Ok x.mid) t × (Ok x.end ≡ step_of (read_param true c s x.mid))
+Signs c s n at (Err why) t = ((first f : ℕ) → Err why ≡ step_of (signature_from c s first f n at)) × (256 ≡ length t)
 
 -- the first n places of two tables are the flags and the name pointers of the methods ms
 pub record Kept (s flags names : List ℕ) (ms : List (Method ℕ)) (n : ℕ) : Type 0 where
@@ -37,7 +35,7 @@ pub record Kept (s flags names : List ℕ) (ms : List (Method ℕ)) (n : ℕ) : 
   pub name : (i : ℕ) → i < n → word_at s (get_or names i 0 - 1) ≡ method_name (get_or ms i no_method)
 
 -- n methods were read, and the tables have their flags and name pointers
-pub record Noted (c : Context) (s : List ℕ) (n at : ℕ) (r : Step) (flags names : List ℕ) : Type 0 where
+pub record Noted (c : Context) (s : List ℕ) (n at : ℕ) (r : Result ℕ Refusal) (flags names : List ℕ) : Type 0 where
   pub step : r ≡ step_of (many (read_method c s) n at)
   pub kept : (ms : List (Method ℕ)) (e : ℕ) → many (read_method c s) n at ≡ got ms e → Kept s flags names ms n
   pub flags_long : own_limit ≡ length flags
@@ -66,4 +64,4 @@ block_size = 128
 -- Each number of the table from 128 on is of a method that was accepted and starts in its block: in the lowest seven bits where there, above them its length.
 pub record Remembered (c : Context) (s seen : List ℕ) : Type 0 where
   pub each : (p e : ℕ) → p ≤ file_limit → get_or seen (p / block_size) 0 % block_size ≡ p % block_size → block_size ≤ get_or seen (p / block_size) 0
-      → e ≡ p + get_or seen (p / block_size) 0 / block_size → End e ≡ step_of (read_method c s p)
+      → e ≡ p + get_or seen (p / block_size) 0 / block_size → Ok e ≡ step_of (read_method c s p)

@@ -1,6 +1,6 @@
 -- The argument numbers and the rules of what was read.
 -- Assumes nothing.
-use Rattle.std.specs.Prelude.{Bool, true, false, List, ℕ, get_or}
+use Rattle.std.specs.Prelude.{Bool, true, false, List, ℕ, get_or, None, Option, Some}
 use Rattle.number.specs.Choice.{when◌then◌else◌, ◌≤?◌}
 use Rattle.reading.specs.Got.{Got, got, bad, next, many}
 use Rattle.reading.specs.declared.Context.{Context}
@@ -9,17 +9,15 @@ use Rattle.types.specs.Types.{Ty}
 use Rattle.method.specs.Parameter.{Param, read_param}
 use Rattle.method.specs.Numbers.{prefixes, wrong_numbers, wrong_arguments}
 use Rattle.method.specs.Method.{Signature, rule_signature}
-use Rattle.method.specs.declared.walk.Fine.{Fine}
-use Rattle.method.specs.declared.walk.Fine.TheVariants.{To, Broken}
 
 -- a type that ends at e; `pre` are the prefixes of the arguments
-unfoldable pub fine : List ℕ → Ty ℕ → ℕ → Fine
-fine pre t e = when wrong_numbers pre t then Broken else To e
+unfoldable pub fine : List ℕ → Ty ℕ → ℕ → Option ℕ
+fine pre t e = when wrong_numbers pre t then None else Some e
 
 -- of a type that was read
-unfoldable pub fine_of : List ℕ → Got (Ty ℕ) → Fine
+unfoldable pub fine_of : List ℕ → Got (Ty ℕ) → Option ℕ
 fine_of pre (got t e) = fine pre t e
-fine_of pre (bad n q) = Broken
+fine_of pre (bad n q) = None
 
 -- of arguments that were read
 unfoldable pub broken_of : List ℕ → Got (List (Param ℕ)) → Bool

@@ -1,20 +1,18 @@
 // Reads parameters and methods. Positions are in the pool; places are in the file.
 #![tactic(auto)]
 
-ghost use Rattle.std.specs.Prelude.{true, false, ◌≡◌, ◌+◌, ◌*◌, ◌%◌, ◌/◌, ◌≤◌, ◌<◌, length, take, get_or};
+ghost use Rattle.std.specs.Prelude.{true, false, ◌≡◌, ◌+◌, ◌*◌, ◌%◌, ◌/◌, ◌≤◌, ◌<◌, length, take, get_or, Ok};
 ghost use Rattle.number.specs.Limits.{file_limit, own_limit};
 ghost use Rattle.reading.specs.Got.{step_of, many, Accepted};
-ghost use Rattle.reading.specs.declared.Step.TheVariants.{End};
 ghost use Rattle.method.specs.Parameter.{read_param};
 ghost use Rattle.method.specs.Numbers.{wrong_result};
 ghost use Rattle.method.specs.Method.{read_signature, read_method};
 ghost use Rattle.method.specs.Walk.{rule_of};
 ghost use Rattle.method.specs.Tables.{Held, Noted, Reached, Remembered, block_size};
 
-use crate::params::Signed;
-use crate::walk::Fine;
+use crate::params::Span;
 use number::OWN_LIMIT;
-use reading::{Context, Refusal, Step};
+use reading::{Context, Refusal, Rule};
 
 pub mod params;
 pub mod walk;
@@ -48,6 +46,7 @@ pub const BLOCK_COUNT: usize = 8193;
 const LONG: usize = 48;
 
 // Whether a result breaks the result rule: f are the method's flags, g the result's, b its prefix.
+#[tactic(auto, using(number::proofs::Choice::tests), unfolding(crate::specs::Numbers::wrong_result))]
 fn wrong_result(f: u8, g: u8, b: u8) -> bool
     ensures { result ≡ wrong_result f g b }
 {
@@ -74,31 +73,20 @@ fn rule_signature(
     mid: usize,
     end: usize,
     table: &[u8; 256],
-) -> Step
+) -> Result<usize, Refusal>
     requires { Accepted (many (read_param false c pool.now) n at) × Accepted (read_param true c pool.now mid) × (c.base + length pool.now ≤ file_limit) × (first ≤ length pool.now) × (n ≤ 255) × (256 ≡ length table.now) × Held (many (read_param false c pool.now) n at) n table.now }
     ensures { result ≡ step_of (rule_of c first flags (take n table.now) (many (read_param false c pool.now) n at) (read_param true c pool.now mid) end) }
 {
-    let base = c.base;
     if crate::walk::broken_arguments(pool, c, n, at, table) {
-        return Step::Refused(Refusal {
-            no: 16,
-            place: base + first,
-        });
+        return Err(Rule::Between.at(c.base + first));
     }
-    let r = crate::walk::outer_numbers(pool, c, mid + 1, n, table);
-    let Fine::To(e) = r else {
-        return Step::Refused(Refusal {
-            no: 16,
-            place: base + first,
-        });
+    let Some(_) = crate::walk::outer_numbers(pool, c, mid + 1, n, table) else {
+        return Err(Rule::Between.at(c.base + first));
     };
     if wrong_result(flags, pool[mid], pool[mid + 1]) {
-        return Step::Refused(Refusal {
-            no: 16,
-            place: base + first,
-        });
+        return Err(Rule::Between.at(c.base + first));
     }
-    Step::End(end)
+    Ok(end)
 }
 
 // The argument count at `at`, the arguments and the result.
@@ -109,57 +97,33 @@ fn read_signature(
     flags: u8,
     at: usize,
     table: &mut [u8; 256],
-) -> Step
+) -> Result<usize, Refusal>
     requires { (at ≤ length pool.now) × (c.base + length pool.now ≤ file_limit) × (first ≤ length pool.now) × (256 ≡ length table.old) }
-    ensures { (result ≡ step_of (read_signature c pool.now first flags at)) × (256 ≡ length table.new) }
+    ensures reads { result ≡ step_of (read_signature c pool.now first flags at) }
+    ensures long { 256 ≡ length table.new }
 {
-    let base = c.base;
     if pool.len() <= at {
-        return Step::Refused(Refusal {
-            no: 13,
-            place: base + at,
-        });
+        return Err(Rule::Outside.at(c.base + at));
     }
     let n = pool[at] as usize;
-    match crate::params::read_parameters(pool, c, n, at + 1, table) {
-        Signed::At { mid, end } => rule_signature(
-            pool,
-            c,
-            first,
-            flags,
-            n,
-            at + 1,
-            mid,
-            end,
-            table,
-        ),
-        Signed::Refused(why) => Step::Refused(why),
-    }
+    let Span { mid, end } = crate::params::read_parameters(pool, c, n, at + 1, table)?;
+    rule_signature(pool, c, first, flags, n, at + 1, mid, end, table)
 }
 
 // A method; the table is lent for the prefixes of its arguments.
-fn read_one(pool: &[u8], c: Context, at: usize, table: &mut [u8; 256]) -> Step
+fn read_one(pool: &[u8], c: Context, at: usize, table: &mut [u8; 256]) -> Result<usize, Refusal>
     requires { (at ≤ length pool.now) × (c.base + length pool.now ≤ file_limit) × (256 ≡ length table.old) }
-    ensures { (result ≡ step_of (read_method c pool.now at)) × (256 ≡ length table.new) }
+    ensures reads { result ≡ step_of (read_method c pool.now at) }
+    ensures long { 256 ≡ length table.new }
 {
-    let base = c.base;
     if pool.len() <= at {
-        return Step::Refused(Refusal {
-            no: 13,
-            place: base + at,
-        });
+        return Err(Rule::Outside.at(c.base + at));
     }
     let f = pool[at];
     if f % LOWEST != 0 {
-        return Step::Refused(Refusal {
-            no: 14,
-            place: base + at,
-        });
+        return Err(Rule::Reserved.at(c.base + at));
     }
-    let a = name::read_name(pool, c, at + 1);
-    let Step::End(e) = a else {
-        return a;
-    };
+    let e = name::read_name(pool, c, at + 1)?;
     read_signature(pool, c, at, f, e, table)
 }
 
@@ -171,28 +135,23 @@ pub fn read_methods(
     at: usize,
     flags: &mut [u8; OWN_LIMIT],
     names: &mut [u32; OWN_LIMIT],
-) -> Step
+) -> Result<usize, Refusal>
     requires { (at ≤ length pool.now) × (c.base + length pool.now ≤ file_limit) × (n ≤ own_limit) × (own_limit ≡ length flags.old) × (own_limit ≡ length names.old) }
     ensures { Noted c pool.now n at result flags.new names.new × Reached c pool.now n at flags.new names.new flags.old names.old }
 {
     let mut table = [0u8; 256];
-    let mut k: usize = 0;
     let mut p = at;
-    while k < n {
-        let r = read_one(pool, c, p, &mut table);
-        let Step::End(e) = r else {
-            return r;
-        };
+    for k in 0..n {
+        let e = read_one(pool, c, p, &mut table)?;
         flags[k] = pool[p];
         names[k] = number::u32_at(pool, p + 1);
         p = e;
-        k += 1;
     }
-    Step::End(p)
+    Ok(p)
 }
 
 // One method. The loop above has the only call of `read_one`, which is inlined so.
-pub fn read_method(pool: &[u8], c: Context, at: usize) -> Step
+pub fn read_method(pool: &[u8], c: Context, at: usize) -> Result<usize, Refusal>
     requires { (at ≤ length pool.now) × (c.base + length pool.now ≤ file_limit) }
     ensures { result ≡ step_of (read_method c pool.now at) }
 {
@@ -224,7 +183,7 @@ fn known_length(v: u32, at: usize) -> usize
 
 // Remembers the method from `at` to e, if it is long and its block has a place.
 fn remember(pool: &[u8], c: Context, at: usize, e: usize, seen: &mut [u32])
-    requires { (at ≤ file_limit) × (at < e) × (e ≤ file_limit) × (End e ≡ step_of (read_method c pool.now at)) × Remembered c pool.now seen.old }
+    requires { (at ≤ file_limit) × (at < e) × (e ≤ file_limit) × (Ok e ≡ step_of (read_method c pool.now at)) × Remembered c pool.now seen.old }
     ensures { Remembered c pool.now seen.new }
 {
     let k = at / BLOCK_SIZE;
@@ -245,20 +204,17 @@ fn read_again(
     flags: &mut [u8; OWN_LIMIT],
     names: &mut [u32; OWN_LIMIT],
     seen: &mut [u32],
-) -> Step
+) -> Result<usize, Refusal>
     requires { (at ≤ length pool.now) × (c.base + length pool.now ≤ file_limit) × (own_limit ≡ length flags.old) × (own_limit ≡ length names.old) × Remembered c pool.now seen.old }
     ensures { (result ≡ step_of (read_method c pool.now at)) × (own_limit ≡ length flags.new) × (own_limit ≡ length names.new) × Remembered c pool.now seen.new }
 {
     let l = known_length(of_block(seen, at / BLOCK_SIZE), at);
     if 0 < l {
-        return Step::End(at + l);
+        return Ok(at + l);
     }
-    let r = read_methods(pool, c, 1, at, flags, names);
-    let Step::End(e) = r else {
-        return r;
-    };
+    let e = read_methods(pool, c, 1, at, flags, names)?;
     remember(pool, c, at, e, seen);
-    Step::End(e)
+    Ok(e)
 }
 
 // n methods, as `read_methods` reads them, with a table of methods that were accepted.
@@ -270,25 +226,20 @@ fn read_shared(
     flags: &mut [u8; OWN_LIMIT],
     names: &mut [u32; OWN_LIMIT],
     seen: &mut [u32],
-) -> Step
+) -> Result<usize, Refusal>
     requires { (at ≤ length pool.now) × (c.base + length pool.now ≤ file_limit) × (n ≤ own_limit) × (own_limit ≡ length flags.old) × (own_limit ≡ length names.old) × Remembered c pool.now seen.old }
     ensures { Noted c pool.now n at result flags.new names.new × Remembered c pool.now seen.new }
 {
     let mut own_flags = [0u8; OWN_LIMIT];
     let mut own_names = [0u32; OWN_LIMIT];
-    let mut k: usize = 0;
     let mut p = at;
-    while k < n {
-        let r = read_again(pool, c, p, &mut own_flags, &mut own_names, seen);
-        let Step::End(e) = r else {
-            return r;
-        };
+    for k in 0..n {
+        let e = read_again(pool, c, p, &mut own_flags, &mut own_names, seen)?;
         flags[k] = pool[p];
         names[k] = number::u32_at(pool, p + 1);
         p = e;
-        k += 1;
     }
-    Step::End(p)
+    Ok(p)
 }
 
 // The same where the table may have no place: then nothing is remembered, and no method pays for it.
@@ -300,7 +251,7 @@ pub fn read_methods_with(
     flags: &mut [u8; OWN_LIMIT],
     names: &mut [u32; OWN_LIMIT],
     seen: &mut [u32],
-) -> Step
+) -> Result<usize, Refusal>
     requires { (at ≤ length pool.now) × (c.base + length pool.now ≤ file_limit) × (n ≤ own_limit) × (own_limit ≡ length flags.old) × (own_limit ≡ length names.old) × Remembered c pool.now seen.old }
     ensures { Noted c pool.now n at result flags.new names.new × Remembered c pool.now seen.new }
 {

@@ -6,16 +6,17 @@ ghost use Rattle.method.specs.Parameter.{reserved_param, wrong_param, read_param
 ghost use Rattle.method.specs.Tables.{Listed, Signs};
 
 use crate::{DIPPER, LOWEST, OUT, RETVAL};
-use reading::{Context, Refusal, Step};
+use reading::{Context, Refusal, Rule};
 
-// Where the result of a signature starts and where it ends, or the first refusal.
-#[derive(Drop)]
-pub enum Signed {
-    At { mid: usize, end: usize },
-    Refused(Refusal),
+/// Where the result of a signature starts and where it ends.
+#[derive(Clone, Copy, Debug, PartialEq, Eq)]
+pub struct Span {
+    pub mid: usize,
+    pub end: usize,
 }
 
 // Whether parameter flags have a reserved bit.
+#[tactic(auto, using(number::proofs::Choice::tests), unfolding(crate::specs::Parameter::reserved_param))]
 fn reserved_param(minor: usize, f: u8) -> bool
     ensures { result ≡ reserved_param minor f }
 {
@@ -29,6 +30,7 @@ fn reserved_param(minor: usize, f: u8) -> bool
 }
 
 // Whether the flags of an argument, or of a result, break a rule.
+#[tactic(auto, using(number::proofs::Choice::tests), unfolding(crate::specs::Parameter::wrong_param))]
 fn wrong_param(res: bool, f: u8) -> bool
     ensures { result ≡ wrong_param res f }
 {
@@ -42,49 +44,33 @@ fn wrong_param(res: bool, f: u8) -> bool
 }
 
 // An argument or, where `res` says so, a result.
-pub fn read_param(pool: &[u8], c: Context, res: bool, at: usize) -> Step
+pub fn read_param(pool: &[u8], c: Context, res: bool, at: usize) -> Result<usize, Refusal>
     requires { (at ≤ length pool.now) × (c.base + length pool.now ≤ file_limit) }
     ensures { result ≡ step_of (read_param res c pool.now at) }
 {
-    let base = c.base;
-    let minor = c.minor;
     if pool.len() <= at {
-        return Step::Refused(Refusal {
-            no: 13,
-            place: base + at,
-        });
+        return Err(Rule::Outside.at(c.base + at));
     }
     let f = pool[at];
-    if reserved_param(minor, f) {
-        return Step::Refused(Refusal {
-            no: 14,
-            place: base + at,
-        });
+    if reserved_param(c.minor, f) {
+        return Err(Rule::Reserved.at(c.base + at));
     }
     if wrong_param(res, f) {
-        return Step::Refused(Refusal {
-            no: 16,
-            place: base + at,
-        });
+        return Err(Rule::Between.at(c.base + at));
     }
-    let r = types::read_type(pool, c, 8, at + 1);
-    let Step::End(end) = r else {
-        return r;
-    };
-    Step::End(end)
+    types::read_type(pool, c, 8, at + 1)
 }
 
 // The same, for one caller, in which it is inlined: what is refused is told by the function above.
-fn read_row(pool: &[u8], c: Context, res: bool, at: usize) -> Step
+fn read_row(pool: &[u8], c: Context, res: bool, at: usize) -> Result<usize, Refusal>
     requires { (at ≤ length pool.now) × (c.base + length pool.now ≤ file_limit) }
     ensures { result ≡ step_of (read_param res c pool.now at) }
 {
-    let minor = c.minor;
     if pool.len() <= at {
         return read_param(pool, c, res, at);
     }
     let f = pool[at];
-    if reserved_param(minor, f) {
+    if reserved_param(c.minor, f) {
         return read_param(pool, c, res, at);
     }
     if wrong_param(res, f) {
@@ -94,22 +80,23 @@ fn read_row(pool: &[u8], c: Context, res: bool, at: usize) -> Step
 }
 
 // n arguments; the table gets the prefixes of their types.
-pub fn read_arguments(pool: &[u8], c: Context, n: usize, at: usize, table: &mut [u8; 256]) -> Step
+pub fn read_arguments(
+    pool: &[u8],
+    c: Context,
+    n: usize,
+    at: usize,
+    table: &mut [u8; 256],
+) -> Result<usize, Refusal>
     requires { (at ≤ length pool.now) × (c.base + length pool.now ≤ file_limit) × (n ≤ 255) × (256 ≡ length table.old) }
     ensures { Listed (many (read_param false c pool.now) n at) n result table.new }
 {
-    let mut k: usize = 0;
     let mut p = at;
-    while k < n {
-        let r = read_param(pool, c, false, p);
-        let Step::End(e) = r else {
-            return r;
-        };
+    for k in 0..n {
+        let e = read_param(pool, c, false, p)?;
         table[k] = pool[p + 1];
         p = e;
-        k += 1;
     }
-    Step::End(p)
+    Ok(p)
 }
 
 // n arguments and the result, read in one loop; the table gets the prefixes of the arguments' types.
@@ -119,24 +106,21 @@ pub fn read_parameters(
     n: usize,
     at: usize,
     table: &mut [u8; 256],
-) -> Signed
+) -> Result<Span, Refusal>
     requires { (at ≤ length pool.now) × (c.base + length pool.now ≤ file_limit) × (n ≤ 255) × (256 ≡ length table.old) }
     ensures { Signs c pool.now n at result table.new }
 {
     let mut k: usize = 0;
     let mut p = at;
+    // A `for` over the arguments would want a second call of `read_row` for the result, which is inlined in its one caller.
     loop {
         let last = k == n;
-        match read_row(pool, c, last, p) {
-            Step::End(e) => {
-                if last {
-                    return Signed::At { mid: p, end: e };
-                }
-                table[k] = pool[p + 1];
-                p = e;
-                k += 1;
-            }
-            Step::Refused(why) => return Signed::Refused(why),
+        let e = read_row(pool, c, last, p)?;
+        if last {
+            return Ok(Span { mid: p, end: e });
         }
+        table[k] = pool[p + 1];
+        p = e;
+        k += 1;
     }
 }

@@ -15,13 +15,6 @@ use types::Class;
 // The first tag that argument numbers may follow.
 const NUMBERED: u8 = 19;
 
-// The position after a type whose argument numbers name what they must.
-#[derive(Drop)]
-pub enum Fine {
-    To(usize),
-    Broken,
-}
-
 // Whether argument a is none, or not of tag 14 with pointer.
 fn wrong_iid(table: &[u8; 256], count: usize, a: u8) -> bool
     requires { (count ≤ 256) × (256 ≡ length table.now) }
@@ -64,39 +57,44 @@ fn wrong_sizes(table: &[u8; 256], count: usize, x: u8, y: u8) -> bool
 }
 
 // A type that was read at `at`. Arrays one inside another are passed in a loop; `left` only shows that it ends. What was accepted is never reserved, nor an array behind the loop.
-pub fn outer_numbers(pool: &[u8], c: Context, at: usize, count: usize, table: &[u8; 256]) -> Fine
+pub fn outer_numbers(
+    pool: &[u8],
+    c: Context,
+    at: usize,
+    count: usize,
+    table: &[u8; 256],
+) -> Option<usize>
     requires { Accepted (read_type 8 c pool.now at) × (at ≤ length pool.now) × (length pool.now ≤ file_limit) × (count ≤ 256) × (256 ≡ length table.now) }
     ensures { result ≡ fine_of (take count table.now) (read_type 8 c pool.now at) }
 {
-    let minor = c.minor;
     let mut left: usize = 8;
     let mut p = at;
     while pool[p] % types::REFERENCE == types::ARRAY {
         if wrong_sizes(table, count, pool[p + 1], pool[p + 2]) {
-            return Fine::Broken;
+            return None;
         }
         p += 3;
         left -= 1;
     }
-    let k = types::tag_class(minor, pool[p] % types::REFERENCE);
+    let k = types::tag_class(c.minor, pool[p] % types::REFERENCE);
     match k {
-        Class::Plain => Fine::To(p + 1),
-        Class::Text => Fine::To(p + 1),
-        Class::Interface => Fine::To(p + 3),
+        Class::Plain => Some(p + 1),
+        Class::Text => Some(p + 1),
+        Class::Interface => Some(p + 3),
         Class::InterfaceIs => {
             if wrong_iid(table, count, pool[p + 1]) {
-                return Fine::Broken;
+                return None;
             }
-            Fine::To(p + 2)
+            Some(p + 2)
         }
         Class::Sized => {
             if wrong_sizes(table, count, pool[p + 1], pool[p + 2]) {
-                return Fine::Broken;
+                return None;
             }
-            Fine::To(p + 3)
+            Some(p + 3)
         }
-        Class::Reserved => Fine::Broken,
-        Class::Array => Fine::Broken,
+        Class::Reserved => None,
+        Class::Array => None,
     }
 }
 
@@ -105,15 +103,12 @@ pub fn wrong_arguments(pool: &[u8], c: Context, n: usize, at: usize, table: &[u8
     requires { Accepted (many (read_param false c pool.now) n at) × (length pool.now ≤ file_limit) × (n ≤ 256) × (256 ≡ length table.now) }
     ensures { result ≡ broken_of (take n table.now) (many (read_param false c pool.now) n at) }
 {
-    let mut k: usize = 0;
     let mut p = at;
-    while k < n {
-        let r = outer_numbers(pool, c, p + 1, n, table);
-        let Fine::To(e) = r else {
+    for _ in 0..n {
+        let Some(e) = outer_numbers(pool, c, p + 1, n, table) else {
             return true;
         };
         p = e;
-        k += 1;
     }
     false
 }
@@ -123,12 +118,10 @@ fn some_numbered(n: usize, table: &[u8; 256]) -> bool
     requires { (n ≤ 256) × (256 ≡ length table.now) }
     ensures { result ≡ some (numbered table.now) n }
 {
-    let mut k: usize = 0;
-    while k < n {
+    for k in 0..n {
         if NUMBERED <= table[k] % types::REFERENCE {
             return true;
         }
-        k += 1;
     }
     false
 }

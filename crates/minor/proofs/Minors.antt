@@ -14,10 +14,10 @@ use Rattle.reader.specs.Records.{ShowsDescriptor}
 use Rattle.reader.specs.Rules.{EntryRule}
 use Rattle.reader.specs.Layout.{Stands, Tells}
 use Rattle.meaning.proofs.Alls.{All-at}
-use Rattle.normal.specs.Minor.{new_descriptor, new_own, new_entry, minor_of}
-use Rattle.normal.proofs.Anys.{All-In, any_In, any_no}
-use Rattle.normal.proofs.Minors.{minor_new, minor_old, old_entry}
-use Rattle.normal.proofs.Mapped.{own_new}
+use Rattle.meaning.specs.Normal.Minor.{new_descriptor, new_own, new_entry, minor_of}
+use Rattle.meaning.proofs.Normal.Anys.{All-In, any_In, any_no}
+use Rattle.meaning.proofs.Normal.Minors.{minor_new, minor_old, old_entry}
+use Rattle.meaning.proofs.Normal.Mapped.{own_new}
 use Rattle.iids.specs.Cells.{cell}
 use Rattle.rows.specs.Rows.{reference_in}
 use Rattle.rows.specs.Files.{Holds, Pair, HoldBoth, Gives}

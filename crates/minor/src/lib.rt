@@ -1,10 +1,10 @@
-// The minor that a view of two files needs.
+//! The minor that a view of two files needs.
 #![tactic(auto)]
 
 ghost use Rattle.std.specs.Prelude.{◌≡◌, ℕ, ◌+◌, ◌≤◌, ◌<◌, length};
 ghost use Rattle.number.specs.Limits.{row_limit};
 ghost use Rattle.reader.specs.Values.{descriptor_in};
-ghost use Rattle.normal.specs.Minor.{new_own, minor_of};
+ghost use Rattle.meaning.specs.Normal.Minor.{new_own, minor_of};
 ghost use Rattle.iids.specs.Cells.{cell};
 ghost use Rattle.rows.specs.Files.{Holds, HoldBoth, Given, Gives};
 ghost use Rattle.gather.specs.View.{row_own, view_entries, Viewed};
@@ -48,7 +48,7 @@ fn row_newer(a: &[u8], pool: &[u8], l: Layout, b: &[u8], pool2: &[u8], l2: Layou
     held_newer(b, pool2, l2, i - n)
 }
 
-// The minor of the file of the first c rows of t, of which `holders` tells whose descriptors they have.
+/// The minor of the file of the first c rows of t, of which `holders` tells whose descriptors they have.
 pub fn view_minor(
     a: &[u8],
     pool: &[u8],
@@ -63,13 +63,11 @@ pub fn view_minor(
     requires { Given (HoldBoth a.now pool.now l b.now pool2.now l2) × Viewed (l.count + l2.count) t.now holders.now c × (row_limit ≡ length t.now) × (row_limit ≡ length holders.now) }
     ensures { (iid : ℕ → ℕ) → Gives (HoldBoth a.now pool.now l b.now pool2.now l2) (λ x. minor_of (view_entries x iid (cell holders.now) t.now c)) result }
 {
-    let mut q: usize = 0;
-    while q < c {
+    for q in 0..c {
         let r = index(t[q]);
         if row_newer(a, pool, l, b, pool2, l2, index(holders[r])) {
             return STRINGS_MINOR;
         }
-        q += 1;
     }
     1
 }

@@ -1,179 +1,150 @@
-// Identifiers, and the pool pointers that lead to them.
+//! Identifiers, and the pool pointers that lead to them.
 #![tactic(auto)]
 
-ghost use Rattle.std.specs.Prelude.{◌≡◌, true, ◌+◌, ◌-◌, ◌≤◌, ◌<◌, length, take};
+ghost use Rattle.std.specs.Prelude.{◌≡◌, true, ◌+◌, ◌-◌, ◌≤◌, ◌<◌, length};
 ghost use Rattle.number.specs.Limits.{file_limit};
 ghost use Rattle.number.specs.Part.{part};
 ghost use Rattle.reading.specs.Got.{step_of};
-ghost use Rattle.name.specs.Name.{Plain, letter_size, letters_end, is_dash, is_identifier, search_end, read_identifier, follow, follow_space, read_name};
+ghost use Rattle.name.specs.Name.{Plain, letter_size, letters_end, is_dash, is_identifier, read_identifier, follow, follow_space, read_name};
 
 use number::NAME_LIMIT;
-use reading::{Context, Refusal, Step};
+use reading::{Context, Refusal, Rule};
 
-// The size of the letter at `p` that lies wholly before `stop`, or 0 where none stands.
-fn letter_size(s: &[u8], p: usize, stop: usize) -> usize
-    requires { (p < stop) × (stop ≤ length s.now) }
-    ensures { result ≡ letter_size (take stop s.now) p }
+/// The size of the letter at `p`, or 0 where none stands.
+#[tactic(auto, using(crate::proofs::Letters::sizes))]
+fn letter_size(s: &[u8], p: usize) -> usize
+    requires { p < length s.now }
+    ensures { result ≡ letter_size s.now p }
 {
-    let b = s[p];
-    if b < 33 {
-        return 0;
+    match s[p] {
+        0..=32 | 127 => 0,
+        33..=126 => 1,
+        _ => utf8::char_size(s, p, s.len()),
     }
-    if b < 127 {
-        return 1;
-    }
-    if b == 127 {
-        return 0;
-    }
-    utf8::char_size(s, p, stop)
 }
 
-// Whether the sixteen bytes from `at` on are letters of one byte. A loop without a branch becomes one test of sixteen bytes.
+/// Whether the sixteen bytes from `at` on are letters of one byte. A loop without a branch becomes one test of sixteen bytes.
+#[tactic(auto, using(crate::proofs::Letters::plains))]
 fn sixteen_plain(s: &[u8], at: usize) -> bool
     requires { at + 16 ≤ length s.now }
     ensures { result ≡ true → Plain s.now at 16 }
 {
     let mut all = true;
-    let mut k: usize = 0;
-    while k < 16 {
-        all = all & ((32 < s[at + k]) & (s[at + k] < 127));
-        k += 1;
+    for k in 0..16 {
+        all &= (32 < s[at + k]) & (s[at + k] < 127);
     }
     all
 }
 
-// How far the letters from `at` on are found by sixteens.
-fn plain_to(s: &[u8], at: usize, stop: usize) -> usize
-    requires { (at ≤ stop) × (stop ≤ length s.now) }
-    ensures { (result ≤ stop) × (letters_end (stop - at) (take stop s.now) at ≡ letters_end (stop - result) (take stop s.now) result) }
+/// How far letters of one byte are found by sixteens.
+#[tactic(auto, using(crate::proofs::Letters::goings))]
+fn plain_to(s: &[u8]) -> usize
+    ensures { (result ≤ length s.now) × (letters_end (length s.now) s.now 0 ≡ letters_end (length s.now - result) s.now result) }
 {
-    let mut i = at;
-    while 16 <= stop - i {
-        if !sixteen_plain(s, i) {
-            return i;
-        }
+    let mut i = 0;
+    // Steps of sixteen as far as a test holds: no range says where they end.
+    while 16 <= s.len() - i && sixteen_plain(s, i) {
         i += 16;
     }
     i
 }
 
-// Where the letters from `at` on end, before `stop`.
-fn letters_end(s: &[u8], at: usize, stop: usize) -> usize
-    requires { (at ≤ stop) × (stop ≤ length s.now) }
-    ensures { result ≡ letters_end (stop - at) (take stop s.now) at }
+/// Where the letters end.
+#[tactic(auto, using(crate::proofs::Letters::goings))]
+fn letters_end(s: &[u8]) -> usize
+    ensures within { result ≤ length s.now }
+    ensures ends { result ≡ letters_end (length s.now) s.now 0 }
 {
-    let mut i = plain_to(s, at, stop);
-    while i < stop {
-        let k = letter_size(s, i, stop);
-        if k == 0 {
+    let mut i = plain_to(s);
+    // A letter has one to four bytes, so no range counts them.
+    while i < s.len() {
+        let size = letter_size(s, i);
+        if size == 0 {
             return i;
         }
-        i += k;
+        i += size;
     }
     i
 }
 
-// Whether the bytes from `at` up to `end` are a lone `-`.
-fn is_dash(s: &[u8], at: usize, end: usize) -> bool
-    requires { (at ≤ end) × (end ≤ length s.now) }
-    ensures { result ≡ is_dash (part s.now at end) }
+/// Whether the word is a lone `-`.
+#[tactic(auto, using(number::proofs::Choice::tests), unfolding(crate::specs::Name::is_dash))]
+fn is_dash(word: &[u8]) -> bool
+    ensures { result ≡ is_dash word.now }
 {
-    if end - at == 1 {
-        return s[at] == 45;
-    }
-    false
+    word.len() == 1 && word[0] == b'-'
 }
 
-// Whether the bytes from `at` up to `end` are an identifier.
+/// Whether the word is an identifier.
+#[tactic(auto, using(number::proofs::Choice::tests), unfolding(crate::specs::Name::is_identifier))]
+fn is_name(word: &[u8]) -> bool
+    ensures { result ≡ is_identifier word.now }
+{
+    !word.is_empty()
+        && word.len() <= NAME_LIMIT
+        && !is_dash(word)
+        && letters_end(word) == word.len()
+}
+
+/// Whether the bytes from `at` up to `end` are an identifier.
+#[tactic(auto, using(crate::proofs::Words::part_lent))]
 pub fn is_identifier(s: &[u8], at: usize, end: usize) -> bool
     requires { (at ≤ end) × (end ≤ length s.now) }
     ensures { result ≡ is_identifier (part s.now at end) }
 {
-    if end - at == 0 {
-        return false;
-    }
-    if NAME_LIMIT < end - at {
-        return false;
-    }
-    if is_dash(s, at, end) {
-        return false;
-    }
-    letters_end(s, at, end) == end
+    is_name(&s[at..end])
 }
 
-// How far the end of an identifier is looked for: 255 bytes and the zero byte are the most that it takes.
-fn search_end(pool: &[u8], at: usize) -> usize
-    requires { at ≤ length pool.now }
-    ensures { result ≡ search_end pool.now at }
-{
-    if 256 < pool.len() - at {
-        return at + 256;
-    }
-    pool.len()
-}
-
-// The identifier at `at`; its pointer field is at `place`. As a zero byte is no letter, its letters and its end are found at once.
-pub fn read_identifier(pool: &[u8], place: usize, at: usize) -> Step
+/// The identifier at `at`; its pointer field is at `place`. 255 bytes and the zero byte are the most that it takes. As a
+/// zero byte is no letter, its letters and its end are found at once.
+pub fn read_identifier(pool: &[u8], place: usize, at: usize) -> Result<usize, Refusal>
     requires { at ≤ length pool.now }
     ensures { result ≡ step_of (read_identifier pool.now place at) }
 {
-    let stop = search_end(pool, at);
-    let end = letters_end(pool, at, stop);
-    if stop <= end {
-        return Step::Refused(Refusal { no: 11, place });
+    let word = &pool[at..pool.len().min(at + NAME_LIMIT + 1)];
+    let size = letters_end(word);
+    if size == 0 || size == word.len() || word[size] != 0 || is_dash(&word[..size]) {
+        return Err(Rule::Name.at(place));
     }
-    if end == at {
-        return Step::Refused(Refusal { no: 11, place });
-    }
-    if pool[end] != 0 {
-        return Step::Refused(Refusal { no: 11, place });
-    }
-    if is_dash(pool, at, end) {
-        return Step::Refused(Refusal { no: 11, place });
-    }
-    Step::End(end + 1)
+    Ok(at + size + 1)
 }
 
-// The identifier that the pool pointer `q` leads to; the pointer field is at `place`.
-pub fn follow_name(pool: &[u8], place: usize, q: usize) -> Step
+/// The identifier that the pool pointer `q` leads to; the pointer field is at `place`.
+#[tactic(auto, using(reading::proofs::Steps::walks), unfolding(crate::specs::Name::follow))]
+pub fn follow_name(pool: &[u8], place: usize, q: usize) -> Result<usize, Refusal>
     ensures { result ≡ step_of (follow pool.now place q) }
 {
     if q == 0 {
-        return Step::Refused(Refusal { no: 11, place });
+        return Err(Rule::Name.at(place));
     }
     if pool.len() < q {
-        return Step::Refused(Refusal { no: 13, place });
+        return Err(Rule::Outside.at(place));
     }
     read_identifier(pool, place, q - 1)
 }
 
-// The same of a namespace, which may be absent.
-pub fn follow_space(pool: &[u8], place: usize, q: usize) -> Step
+/// The same of a namespace, which may be absent.
+#[tactic(auto, using(reading::proofs::Steps::walks), unfolding(crate::specs::Name::follow_space))]
+pub fn follow_space(pool: &[u8], place: usize, q: usize) -> Result<usize, Refusal>
     ensures { result ≡ step_of (follow_space pool.now place q) }
 {
     if q == 0 {
-        return Step::End(0);
+        return Ok(0);
     }
     follow_name(pool, place, q)
 }
 
-// The name pointer at `at`, and the identifier that it leads to.
-pub fn read_name(pool: &[u8], c: Context, at: usize) -> Step
+/// The name pointer at `at`, and the identifier that it leads to.
+#[tactic(auto, using(reading::proofs::Steps::walks), unfolding(crate::specs::Name::read_name, reading::specs::Got::next))]
+pub fn read_name(pool: &[u8], c: Context, at: usize) -> Result<usize, Refusal>
     requires { (at ≤ length pool.now) × (c.base + length pool.now ≤ file_limit) }
     ensures { result ≡ step_of (read_name c pool.now at) }
 {
-    let base = c.base;
     let end = at + 4;
     if pool.len() < end {
-        return Step::Refused(Refusal {
-            no: 13,
-            place: base + at,
-        });
+        return Err(Rule::Outside.at(c.base + at));
     }
     let q = number::u32_at(pool, at) as usize;
-    let r = follow_name(pool, base + at, q);
-    let Step::End(e) = r else {
-        return r;
-    };
-    Step::End(end)
+    follow_name(pool, c.base + at, q)?;
+    Ok(end)
 }

@@ -1,12 +1,12 @@
-// Whether one of the tags 23 to 25, which minor 2 brought, stands in a descriptor of an accepted file. Positions are in its pool.
+//! Whether one of the tags 23 to 25, which minor 2 brought, stands in a descriptor of an accepted file. Positions are in its pool.
 #![tactic(auto)]
 
 ghost use Rattle.std.specs.Prelude.{◌≡◌, ◌≤◌, length};
 ghost use Rattle.number.specs.Limits.{file_limit};
 ghost use Rattle.reader.specs.Records.{ShowsType, ShowsParam, ShowsMethod, ShowsDescriptor};
 ghost use Rattle.reader.specs.Layout.{Stands, Tells, Rows};
-ghost use Rattle.facts.specs.Conditions.{any_of};
-ghost use Rattle.normal.specs.Minor.{new_tag, new_type, new_param, new_method, new_descriptor};
+ghost use Rattle.meaning.specs.Facts.Conditions.{any_of};
+ghost use Rattle.meaning.specs.Normal.Minor.{new_tag, new_type, new_param, new_method, new_descriptor};
 
 use reader::{FURTHER_ASTRING, UTF8STRING};
 
@@ -33,14 +33,12 @@ fn params_newer(pool: &[u8], n: usize, at: usize) -> bool
     requires { Stands (Rows (ShowsParam pool.now) n at) × (length pool.now ≤ file_limit) }
     ensures { Tells (Rows (ShowsParam pool.now) n at) (any_of new_param) result }
 {
-    let mut k: usize = 0;
     let mut p = at;
-    while k < n {
+    for _ in 0..n {
         if type_newer(pool, p + 1) {
             return true;
         }
         p = reader::record::type_end(pool, p + 1);
-        k += 1;
     }
     false
 }
@@ -59,19 +57,17 @@ fn methods_newer(pool: &[u8], n: usize, at: usize) -> bool
     requires { Stands (Rows (ShowsMethod pool.now) n at) × (length pool.now ≤ file_limit) }
     ensures { Tells (Rows (ShowsMethod pool.now) n at) (any_of new_method) result }
 {
-    let mut k: usize = 0;
     let mut p = at;
-    while k < n {
+    for _ in 0..n {
         if method_newer(pool, p) {
             return true;
         }
         p = reader::record::method_end(pool, p);
-        k += 1;
     }
     false
 }
 
-// In the descriptor at `at`.
+/// In the descriptor at `at`.
 pub fn descriptor_newer(pool: &[u8], at: usize) -> bool
     requires { Stands (ShowsDescriptor pool.now at) × (length pool.now ≤ file_limit) }
     ensures { Tells (ShowsDescriptor pool.now at) new_descriptor result }

@@ -1,5 +1,5 @@
-// Answers as numbers, written at the front of a list of the caller's that has room for any answer, for C and Rust.
-// The first number of an answer to a question: 0 found, 1 none, 2 undetermined with the index, 3 refused with number and place.
+//! Answers as numbers, written at the front of a list of the caller's that has room for any answer, for C and Rust.
+//! The first number of an answer to a question: 0 found, 1 none, 2 undetermined with the index, 3 refused with number and place.
 #![tactic(auto)]
 
 ghost use Rattle.std.specs.Prelude.{◌≡◌, [], ◌∷◌, ◌+◌, ◌≤◌, length};
@@ -7,25 +7,24 @@ ghost use Rattle.std.proofs.lemmas.List.Edits.{sets};
 ghost use Rattle.numbers.specs.Call.{room};
 ghost use Rattle.numbers.specs.Numbers.{verdict_numbers, refusal_numbers, slot_numbers, found_numbers, value_numbers, interface_numbers, counted_numbers, method_numbers, constant_numbers};
 
-use lookup::{
-    ConstantAnswer, CountedAnswer, FoundMethod, InterfaceAnswer, MethodAnswer, Slot, Value,
-};
-use reading::{Refusal, Verdict};
+use halving::Looked;
+use lookup::{FoundMethod, Search, Slot, Value};
+use reading::Refusal;
 
-// How many numbers the longest answer has.
+/// How many numbers the longest answer has.
 pub const ROOM: usize = 8;
 
-// The refusal's number and its place, or 0 and the number of interfaces for an accepted file.
-pub fn put_verdict(v: Verdict, answer: &mut [u64])
+/// The refusal's number and its place, or 0 and the number of interfaces for an accepted file.
+pub fn put_verdict(v: Result<usize, Refusal>, answer: &mut [u64])
     requires { room ≤ length answer.old }
     ensures { answer.new ≡ sets answer.old 0 (verdict_numbers v) }
 {
     match v {
-        Verdict::Accepted(n) => {
+        Ok(n) => {
             answer[0] = 0;
             answer[1] = n as u64;
         }
-        Verdict::Refused(why) => {
+        Err(why) => {
             let no = why.no as u64;
             let place = why.place as u64;
             answer[0] = no;
@@ -100,70 +99,74 @@ fn put_value(value: Value, answer: &mut [u64])
     }
 }
 
-pub fn put_interface(a: InterfaceAnswer, answer: &mut [u64])
+#[tactic(auto, unfolding(crate::specs::Numbers::interface_numbers))]
+pub fn put_interface(a: Result<Option<usize>, Refusal>, answer: &mut [u64])
     requires { room ≤ length answer.old }
     ensures { answer.new ≡ sets answer.old 0 (interface_numbers a) }
 {
     match a {
-        InterfaceAnswer::Found(i) => {
+        Ok(Some(i)) => {
             answer[0] = 0;
             answer[1] = i as u64;
         }
-        InterfaceAnswer::None => {
+        Ok(None) => {
             answer[0] = 1;
         }
-        InterfaceAnswer::Refused(why) => put_refusal(why, answer),
+        Err(why) => put_refusal(why, answer),
     }
 }
 
-pub fn put_counted(a: CountedAnswer, answer: &mut [u64])
+#[tactic(auto, unfolding(crate::specs::Numbers::counted_numbers))]
+pub fn put_counted(a: Result<Looked, Refusal>, answer: &mut [u64])
     requires { room ≤ length answer.old }
     ensures { answer.new ≡ sets answer.old 0 (counted_numbers a) }
 {
     match a {
-        CountedAnswer::Found(i, k) => {
+        Ok(Looked::Found(i, k)) => {
             answer[0] = 0;
             answer[1] = i as u64;
             answer[2] = k as u64;
         }
-        CountedAnswer::None(k) => {
+        Ok(Looked::None(k)) => {
             answer[0] = 1;
             answer[1] = k as u64;
         }
-        CountedAnswer::Refused(why) => put_refusal(why, answer),
+        Err(why) => put_refusal(why, answer),
     }
 }
 
-pub fn put_method(a: MethodAnswer, answer: &mut [u64])
+#[tactic(auto, unfolding(crate::specs::Numbers::method_numbers))]
+pub fn put_method(a: Result<Search<FoundMethod>, Refusal>, answer: &mut [u64])
     requires { room ≤ length answer.old }
     ensures { answer.new ≡ sets answer.old 0 (method_numbers a) }
 {
     match a {
-        MethodAnswer::Found(m) => put_found(m, answer),
-        MethodAnswer::None => {
+        Ok(Search::Found(m)) => put_found(m, answer),
+        Ok(Search::None) => {
             answer[0] = 1;
         }
-        MethodAnswer::Undetermined(r) => {
+        Ok(Search::Undetermined(r)) => {
             answer[0] = 2;
             answer[1] = r as u64;
         }
-        MethodAnswer::Refused(why) => put_refusal(why, answer),
+        Err(why) => put_refusal(why, answer),
     }
 }
 
-pub fn put_constant(a: ConstantAnswer, answer: &mut [u64])
+#[tactic(auto, unfolding(crate::specs::Numbers::constant_numbers))]
+pub fn put_constant(a: Result<Search<Value>, Refusal>, answer: &mut [u64])
     requires { room ≤ length answer.old }
     ensures { answer.new ≡ sets answer.old 0 (constant_numbers a) }
 {
     match a {
-        ConstantAnswer::Found(value) => put_value(value, answer),
-        ConstantAnswer::None => {
+        Ok(Search::Found(value)) => put_value(value, answer),
+        Ok(Search::None) => {
             answer[0] = 1;
         }
-        ConstantAnswer::Undetermined(r) => {
+        Ok(Search::Undetermined(r)) => {
             answer[0] = 2;
             answer[1] = r as u64;
         }
-        ConstantAnswer::Refused(why) => put_refusal(why, answer),
+        Err(why) => put_refusal(why, answer),
     }
 }

@@ -11,15 +11,15 @@ use Rattle.number.specs.Choice.{when◌then◌else◌, ◌=?◌}
 use Rattle.decimal.proofs.Stores.{follow}
 use Rattle.key.specs.First.{Filled}
 use Rattle.reader.specs.Values.{Entry}
-use Rattle.normal.specs.Minor.{minor_of}
-use Rattle.normal.specs.Normal.{normal_header, header_bytes, note_bytes}
+use Rattle.meaning.specs.Normal.Minor.{minor_of}
+use Rattle.meaning.specs.Normal.Normal.{normal_header, header_bytes, note_bytes}
 use Rattle.iids.specs.Cells.{cell}
-use Rattle.stock.specs.Uses.{words_of, at_first, normal_length}
-use Rattle.stock.specs.Pool.{pieces_of, once_at}
-use Rattle.stock.specs.Form.{pool_with, directory_with, length_with, file_with, file_bytes}
-use Rattle.stock.proofs.Pools.{normal_length_lem}
-use Rattle.stock.proofs.Lengths.{length_directory}
-use Rattle.stock.proofs.Agrees.{file_ext}
+use Rattle.meaning.specs.Stock.Uses.{words_of, at_first, normal_length}
+use Rattle.meaning.specs.Stock.Pool.{pieces_of, once_at}
+use Rattle.meaning.specs.Stock.Form.{pool_with, directory_with, length_with, file_with, file_bytes}
+use Rattle.meaning.proofs.Stock.Pools.{normal_length_lem}
+use Rattle.meaning.proofs.Stock.Lengths.{length_directory}
+use Rattle.meaning.proofs.Stock.Agrees.{file_ext}
 use Rattle.writing.specs.Source.{renumber}
 use Rattle.writing.proofs.Lent.{rest, back, lent, length-rest}
 use Rattle.front.specs.Front.{directory_at, front_header, front_bytes}

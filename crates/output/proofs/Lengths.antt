@@ -1,5 +1,6 @@
 -- A file's length, from what its tables tell.
 -- Assumes nothing.
+use Rattle.std.specs.Prelude.{None, Option, Some, ℕ}
 use mathlib.Core.Path.{◌≡◌, sym, ◌∙◌}
 use mathlib.Core.List.{List}
 use Prim.Native.Nat.{ℕ, ◌+◌, ◌*◌, ◌≤◌, ◌<◌}
@@ -8,16 +9,14 @@ use lib.ListN.{length}
 use Rattle.number.specs.Limits.{file_limit}
 use Rattle.key.specs.First.{Filled}
 use Rattle.reader.specs.Values.{Entry}
-use Rattle.normal.specs.Size.{sum}
+use Rattle.meaning.specs.Normal.Size.{sum}
 use Rattle.names.specs.Uses.{Spelt}
-use Rattle.stock.specs.Uses.{words_of, at_first, body_length, normal_length}
-use Rattle.stock.specs.Pool.{pieces_of, pool_size}
-use Rattle.stock.specs.Form.{length_with}
-use Rattle.stock.proofs.Pools.{normal_length_lem}
+use Rattle.meaning.specs.Stock.Uses.{words_of, at_first, body_length, normal_length}
+use Rattle.meaning.specs.Stock.Pool.{pieces_of, pool_size}
+use Rattle.meaning.specs.Stock.Form.{length_with}
+use Rattle.meaning.proofs.Stock.Pools.{normal_length_lem}
 use Rattle.places.specs.Places.{pointer_at, use_place, InOrder}
 use Rattle.places.proofs.Once.{end_once, places_once}
-use Rattle.gather.specs.declared.Outcome.{Outcome}
-use Rattle.gather.specs.declared.Outcome.TheVariants.{Over, Uses}
 use Rattle.gather.specs.Leading.{Leading, LedEntries, Gathered, Answered}
 use Rattle.output.specs.declared.Measured.{Measured}
 use Rattle.output.specs.Measures.{Measures}
@@ -30,15 +29,15 @@ long_bodies : (us : List (Entry ℕ)) → file_limit < 36 + sum body_length us �
 unfolding normal_length
 long_bodies us h = omega arith
 
-module _ (pool other names spaces bodies words starts before sizes : List ℕ) (c : ℕ) (r : Outcome)
+module _ (pool other names spaces bodies words starts before sizes : List ℕ) (c : ℕ) (r : Option ℕ)
     (told : (n : ℕ) (us : List (Entry ℕ)) → Leading pool other n names spaces bodies us c → Answered us pool other words starts before sizes c r) where
   -- too long without names
-  pub over-Measures : r ≡ Over → (places : List ℕ) (z : Measured) → z.size ≡ file_limit + 1 → (n : ℕ) (us : List (Entry ℕ)) → Leading pool other n names spaces bodies us c → Measures us pool other words starts before sizes places c z
+  pub over-Measures : r ≡ None → (places : List ℕ) (z : Measured) → z.size ≡ file_limit + 1 → (n : ℕ) (us : List (Entry ℕ)) → Leading pool other n names spaces bodies us c → Measures us pool other words starts before sizes places c z
   over-Measures e places z s n us l =
       let h : file_limit < 36 + sum body_length us = rw e at (told n us l) in
       record { over = λ _. long_bodies us h; size = λ k. absurd (omega arith); gathered = λ k. absurd (omega arith); placed = λ k. absurd (omega arith) }
 
-  module _ (m : ℕ) (e : r ≡ Uses m) where
+  module _ (m : ℕ) (e : r ≡ Some m) where
     gathered : (n : ℕ) (us : List (Entry ℕ)) → Leading pool other n names spaces bodies us c → Gathered us pool other words starts before sizes m c
     gathered n us l = rw e at (told n us l)
 

@@ -13,8 +13,8 @@ use Rattle.key.specs.Key.{Key, key}
 use Rattle.reader.specs.Values.{Descriptor, Entry, entry, entry_key, entry_descriptor, no_entry}
 use Rattle.meaning.specs.Meaning.{map_descriptor}
 use Rattle.names.specs.Uses.{use_limit}
-use Rattle.stock.specs.Uses.{own_words, key_words, entry_words, words_of, normal_length}
-use Rattle.stock.proofs.Few.{few_uses}
+use Rattle.meaning.specs.Stock.Uses.{own_words, key_words, entry_words, words_of, normal_length}
+use Rattle.meaning.proofs.Stock.Few.{few_uses}
 use Rattle.places.specs.Noted.{start_use, body_use}
 use Rattle.pieces.specs.Bodies.{Lying}
 use Rattle.pooling.specs.Tabled as pooling

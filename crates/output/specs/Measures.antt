@@ -4,8 +4,8 @@ use Rattle.std.specs.Prelude.{◌≡◌, List, ℕ, ◌≤◌, ◌<◌}
 use Rattle.number.specs.Limits.{file_limit}
 use Rattle.key.specs.First.{Filled}
 use Rattle.reader.specs.Values.{Entry}
-use Rattle.stock.specs.Uses.{normal_length}
-use Rattle.stock.specs.Pool.{pieces_of, once_at}
+use Rattle.meaning.specs.Stock.Uses.{normal_length}
+use Rattle.meaning.specs.Stock.Pool.{pieces_of, once_at}
 use Rattle.gather.specs.Leading.{Gathered}
 use Rattle.output.specs.declared.Measured.{Measured}
 

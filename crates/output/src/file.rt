@@ -1,11 +1,11 @@
-// The bytes of a file.
+//! The bytes of a file.
 ghost use Rattle.std.specs.Prelude.{◌≡◌, List, ℕ, length};
 ghost use Rattle.number.specs.Limits.{row_limit};
 ghost use Rattle.reader.specs.Values.{Entry};
 ghost use Rattle.rows.specs.Files.{Given};
 ghost use Rattle.output.specs.Stores.{Ready, Stores};
 
-use crate::Stored;
+use crate::Unstored;
 use crate::measure::measure;
 use filing::put_directory;
 use front::put_front;
@@ -13,8 +13,8 @@ use names::USE_LIMIT;
 use number::{ENTRY_WIDTH, FILE_LIMIT, ROW_LIMIT};
 use pooling::put_pool;
 
-// The file of c rows, whose names, namespaces and descriptors three tables lead to, into `out`; nothing is written where it does not fit.
-// The first file has n rows; high and low tell the IIDs of the rows that `order` tells, and `place` the index of every row.
+/// The file of c rows, whose names, namespaces and descriptors three tables lead to, into `out`; nothing is written where it does not fit.
+/// The first file has n rows; high and low tell the IIDs of the rows that `order` tells, and `place` the index of every row.
 pub fn put_file(
     pool: &[u8],
     other: &[u8],
@@ -29,7 +29,7 @@ pub fn put_file(
     place: &[u16; ROW_LIMIT],
     minor: u8,
     out: &mut [u8],
-) -> Stored
+) -> Result<usize, Unstored>
     requires { Given (Ready pool.now other.now n names.old spaces.now bodies.now high.now low.now order.now minor c) × ((row_limit ≡ length names.old) × (row_limit ≡ length place.now)) }
     ensures { (us : List (Entry ℕ)) → Ready pool.now other.now n names.old spaces.now bodies.now high.now low.now order.now minor c us → Stores place.now us out.old out.new result }
 {
@@ -51,10 +51,10 @@ pub fn put_file(
     );
     let size = m.size;
     if FILE_LIMIT < size {
-        return Stored::Long;
+        return Err(Unstored::Long);
     }
     if out.len() < size {
-        return Stored::Short(size);
+        return Err(Unstored::Short(size));
     }
     let uses = m.uses;
     let at = 36 + ENTRY_WIDTH * c;
@@ -84,5 +84,5 @@ pub fn put_file(
         &mut out[36..],
     );
     put_front(minor, c, size, out);
-    Stored::Done(size)
+    Ok(size)
 }

@@ -1,4 +1,4 @@
-// Where the names, namespaces and descriptors of a view's rows lie. The files are s and t, and their layouts l and k.
+//! Where the names, namespaces and descriptors of a view's rows lie. The files are s and t, and their layouts l and k.
 ghost use Rattle.std.specs.Prelude.{◌≡◌, ℕ, ◌+◌, length, drop};
 ghost use Rattle.number.specs.Limits.{row_limit};
 ghost use Rattle.iids.specs.Cells.{cell};
@@ -11,7 +11,7 @@ use number::ROW_LIMIT;
 use reader::Layout;
 use rows::{note_own, note_pointers};
 
-// Of the first c rows of `order`, of which `holders` tells whose descriptors they have.
+/// Of the first c rows of `order`, of which `holders` tells whose descriptors they have.
 pub fn lead_view(
     s: &[u8],
     l: Layout,

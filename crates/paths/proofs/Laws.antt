@@ -1,15 +1,22 @@
--- The last byte behind a path.
+-- A byte 0 in a path, and the last byte behind it.
 -- Assumes nothing.
 use mathlib.Core.List.{List, [], ◌∷◌}
-use lib.ListN.{set, length-take, replicate, length-replicate}
+use lib.ListN.{set, length-take, replicate}
 use lib.Seq.{sets, get_or-set_other, take-take, take_all}
 use Prim.Native.Nat.{min}
 use Rattle.std.specs.Prelude.{◌≡◌, ◌+◌, ◌≤◌}
 use Rattle.number.proofs.Tools.{ℕ, sym, ◌∙◌, suc, arith, refl, length, get_or, take}
-use Rattle.paths.specs.Path.{ended_of}
+use Rattle.std.specs.Prelude.{Bool, true, false, nat_eq}
+use Rattle.std.specs.List.{IsAnyAnswer}
+use Rattle.number.specs.Choice.{◌=?◌}
+use Rattle.number.proofs.Scans.{hits_some, some_no}
+use Rattle.paths.specs.Path.{ended_of, is_zero_at, has_zero}
 
-pub zeros_length : (l : List ℕ) → l ≡ replicate 4096 0 → length l ≡ 4096
-zeros_length l e = rw e (length-replicate {0} {A = ℕ} 4096 0)
+-- what std's search for a 0 answers
+pub zero_found : (path : List ℕ) (r : Bool) → IsAnyAnswer (λ y b. nat_eq y 0 ≡ b) path r → r ≡ has_zero path
+unfolding has_zero is_zero_at ◌=?◌
+zero_found path true (k, l, h) = hits_some (is_zero_at path) (length path) k l (h 0)
+zero_found path false h = sym (some_no (is_zero_at path) (length path) (λ j l. h j 0 (omega arith) l))
 
 -- what stands behind the bytes that were stored
 pub get_d_behind : (vs l : List ℕ) (i j d : ℕ) → i + length vs ≤ j → get_or (sets l i vs) j d ≡ get_or l j d

@@ -1,11 +1,9 @@
 -- Paths that the system can be asked about, and the last part of a path. The numbers of errors are those of errno.
 -- Assumes nothing.
-use Rattle.std.specs.Prelude.{◌≡◌, Bool, List, ℕ, ℤ, zero, suc, pos, length, get_or, take, drop, replicate, Option, None, Some, slice_index_or, IsUtf8}
+use Rattle.std.specs.Prelude.{◌≡◌, Bool, List, ℕ, ℤ, zero, suc, pos, length, get_or, take, drop, replicate, Option, None, Some, slice_index_or, IsUtf8, Err, Ok, Result, ⊤}
 use Rattle.std.proofs.lemmas.List.Edits.{sets}
 use Rattle.number.specs.Choice.{when◌then◌else◌, ◌<?◌, ◌=?◌}
 use Rattle.number.specs.Scan.{some}
-use Rattle.paths.specs.declared.Judged.{Judged}
-use Rattle.paths.specs.declared.Judged.TheVariants.{Path, Not}
 
 -- the bytes of the longest path: the system reads 4,096, of which the last is a zero
 abbrev pub path_limit : ℕ
@@ -19,17 +17,17 @@ unfoldable pub has_zero : List ℕ → Bool
 has_zero path = some (is_zero_at path) (length path)
 
 -- 2: there is no such file; 36: the name is too long; 22: it is no name
-unfoldable pub judged : List ℕ → Judged
+unfoldable pub judged : List ℕ → Result ⊤ ℤ
 judged path =
-    when length path =? 0 then Not (pos 2) else
-    when path_limit <? length path then Not (pos 36) else
-    when has_zero path then Not (pos 22) else
-    Path
+    when length path =? 0 then Err (pos 2) else
+    when path_limit <? length path then Err (pos 36) else
+    when has_zero path then Err (pos 22) else
+    Ok tt
 
 -- why a path is not handed on: errno's number for what is no path; 84 where it is one and no UTF-8, which std's calls do not take
-abbrev pub Unhanded : Judged → List ℕ → ℤ → Type 0
-Unhanded Path path e = (e ≡ pos 84) × (IsUtf8 path → ⊥)
-Unhanded (Not n) path e = e ≡ n
+abbrev pub Unhanded : Result ⊤ ℤ → List ℕ → ℤ → Type 0
+Unhanded (Ok _) path e = (e ≡ pos 84) × (IsUtf8 path → ⊥)
+Unhanded (Err n) path e = e ≡ n
 
 -- errno's number in an error of std's; 5, an error of the device, where it has none
 abbrev pub errno_of : Option ℤ → ℤ

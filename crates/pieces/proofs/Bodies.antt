@@ -8,10 +8,10 @@ use lib.ListN.{length, get_or}
 use lib.Seq.{sets}
 use Rattle.reader.specs.Values.{Descriptor}
 use Rattle.reader.specs.Records.{ShowsDescriptor}
-use Rattle.normal.specs.Size.{descriptor_size}
-use Rattle.normal.proofs.Mapped.{descriptor_size_lem}
-use Rattle.stock.specs.Form.{descriptor_with}
-use Rattle.stock.proofs.Mapped.{descriptor_mapped}
+use Rattle.meaning.specs.Normal.Size.{descriptor_size}
+use Rattle.meaning.proofs.Normal.Mapped.{descriptor_size_lem}
+use Rattle.meaning.specs.Stock.Form.{descriptor_with}
+use Rattle.meaning.proofs.Stock.Mapped.{descriptor_mapped}
 use Rattle.writing.specs.Source.{Known, renumber}
 use Rattle.writing.specs.Wrote.{Room, Wrote}
 use Rattle.interfaces.specs.Source.{DescriptorFit}

@@ -7,11 +7,11 @@ use native.Mathlib.Omega.{arith}
 use lib.ListN.{length, length-append}
 use lib.Seq.{sets, length-sets}
 use Rattle.number.proofs.Choice.{is_eq, no_eq}
-use Rattle.normal.specs.Size.{name_size}
-use Rattle.normal.specs.Record.{name_bytes}
-use Rattle.stock.specs.Uses.{kept_size}
-use Rattle.stock.specs.Form.{kept_bytes}
-use Rattle.stock.proofs.Lengths.{length_kept}
+use Rattle.meaning.specs.Normal.Size.{name_size}
+use Rattle.meaning.specs.Normal.Record.{name_bytes}
+use Rattle.meaning.specs.Stock.Uses.{kept_size}
+use Rattle.meaning.specs.Stock.Form.{kept_bytes}
+use Rattle.meaning.proofs.Stock.Lengths.{length_kept}
 use Rattle.writing.proofs.Lent.{rest, back, lent_after, length-rest}
 use Rattle.pieces.specs.Uses.{reached, uses_with}
 

@@ -2,8 +2,8 @@
 -- Assumes nothing.
 use Rattle.std.specs.Prelude.{Bool, List, [], ◌++◌, ℕ, zero, suc, ◌+◌}
 use Rattle.number.specs.Choice.{◌=?◌}
-use Rattle.stock.specs.Uses.{kept_size}
-use Rattle.stock.specs.Form.{kept_bytes}
+use Rattle.meaning.specs.Stock.Uses.{kept_size}
+use Rattle.meaning.specs.Stock.Form.{kept_bytes}
 
 -- the place of use u is the pool pointer p
 unfoldable pub reached : (ℕ → ℕ) → ℕ → ℕ → Bool

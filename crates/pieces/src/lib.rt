@@ -1,4 +1,4 @@
-// Writes the pieces of a pool, words and descriptors, which lie in two other pools, by the table of the places of uses.
+//! Writes the pieces of a pool, words and descriptors, which lie in two other pools, by the table of the places of uses.
 #![tactic(auto)]
 
 ghost use Rattle.std.specs.Prelude.{◌≡◌, ◌-◌, ◌≤◌, ◌<◌, length, get_or};
@@ -6,10 +6,10 @@ ghost use Rattle.std.proofs.lemmas.List.Edits.{sets};
 ghost use Rattle.number.specs.Limits.{file_limit, row_limit};
 ghost use Rattle.iids.specs.Cells.{cell};
 ghost use Rattle.names.specs.Uses.{use_limit, word_of, spelt, Led, Spelt};
-ghost use Rattle.normal.specs.Size.{name_size, descriptor_size};
-ghost use Rattle.normal.specs.Record.{name_bytes};
-ghost use Rattle.stock.specs.Uses.{kept_size};
-ghost use Rattle.stock.specs.Form.{descriptor_with, kept_bytes};
+ghost use Rattle.meaning.specs.Normal.Size.{name_size, descriptor_size};
+ghost use Rattle.meaning.specs.Normal.Record.{name_bytes};
+ghost use Rattle.meaning.specs.Stock.Uses.{kept_size};
+ghost use Rattle.meaning.specs.Stock.Form.{descriptor_with, kept_bytes};
 ghost use Rattle.writing.specs.Source.{renumber};
 ghost use Rattle.writing.specs.Wrote.{Room, Wrote};
 ghost use Rattle.pieces.specs.Bodies.{Body};
@@ -20,7 +20,7 @@ use names::{USE_LIMIT, pointer};
 use number::{FILE_LIMIT, ROW_LIMIT};
 use writing::word::put_name;
 
-// The descriptor that b leads to, whose first name is use u.
+/// The descriptor that b leads to, whose first name is use u.
 pub fn put_body(
     pool: &[u8],
     other: &[u8],
@@ -72,7 +72,7 @@ fn put_use(
     put_led(pool, other, pointer(w), out)
 }
 
-// Of the uses from u up to e, the words of those whose place is the pool pointer reached, from p on.
+/// Of the uses from u up to e, the words of those whose place is the pool pointer reached, from p on.
 pub fn put_uses(
     pool: &[u8],
     other: &[u8],
@@ -86,11 +86,9 @@ pub fn put_uses(
     requires { Spelt pool.now other.now words.now e × ((p ≤ file_limit) × (length (uses_with (cell places.now) (spelt pool.now other.now words.now) (e - u) u p) ≤ length out.old)) }
     ensures { (result ≡ length (uses_with (cell places.now) (spelt pool.now other.now words.now) (e - u) u p)) × (out.new ≡ sets out.old 0 (uses_with (cell places.now) (spelt pool.now other.now words.now) (e - u) u p)) }
 {
-    let mut k = u;
     let mut w: usize = 0;
-    while k < e {
+    for k in u..e {
         w += put_use(pool, other, words, places, k, p + w, &mut out[w..]);
-        k += 1;
     }
     w
 }

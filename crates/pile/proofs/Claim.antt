@@ -11,15 +11,15 @@ use Rattle.key.specs.Key.{Key}
 use Rattle.reader.specs.Values.{Typelib, entries_in, Entry}
 use Rattle.reader.specs.Reader.{decode}
 use Rattle.meaning.specs.Meaning.{meaning}
-use Rattle.facts.specs.Facts.{In, Within}
-use Rattle.facts.specs.Union.{union}
-use Rattle.facts.specs.Valid.{Valid}
-use Rattle.facts.specs.Link.{joined, normal_entries}
-use Rattle.facts.proofs.Said.{Within-Sub, Within-through}
-use Rattle.facts.proofs.Algebra.{union_says, union_again, normal_exactly}
-use Rattle.facts.proofs.Links.{not_over}
-use Rattle.stock.specs.Uses.{normal_length}
-use Rattle.stock.proofs.Lengths.{length_normal}
+use Rattle.meaning.specs.Facts.Facts.{In, Within}
+use Rattle.meaning.specs.Facts.Union.{union}
+use Rattle.meaning.specs.Facts.Valid.{Valid}
+use Rattle.meaning.specs.Facts.Link.{joined, normal_entries}
+use Rattle.meaning.proofs.Facts.Said.{Within-Sub, Within-through}
+use Rattle.meaning.proofs.Facts.Algebra.{union_says, union_again, normal_exactly}
+use Rattle.meaning.proofs.Facts.Links.{not_over}
+use Rattle.meaning.specs.Stock.Uses.{normal_length}
+use Rattle.meaning.proofs.Stock.Lengths.{length_normal}
 use Rattle.keyed.specs.Stays.{Stays}
 use Rattle.keyed.proofs.Stays.{file_Stays}
 use Rattle.joining.specs.Outcome.{written, refusal, encoded}

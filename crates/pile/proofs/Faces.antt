@@ -1,5 +1,6 @@
 -- What the functions of this crate give for files, from what a check or a link gives.
 -- Assumes nothing.
+use Rattle.std.specs.Prelude.{Err, Ok, Result, ℕ}
 use mathlib.Core.Path.{◌≡◌, refl, sym, ap, ◌∙◌}
 use mathlib.Core.List.{List, [], ◌∷◌}
 use Prim.Native.Nat.{ℕ, ◌+◌, ◌≤◌, ◌<◌}
@@ -8,16 +9,13 @@ use lib.Seq.{sets}
 use Rattle.number.proofs.Choice.{is_lt, no_lt, is_eq, no_eq}
 use Rattle.reading.specs.Got.{Accepted}
 use Rattle.reading.specs.declared.Refusal.{Refusal}
-use Rattle.reading.specs.declared.Verdict.TheVariants as verdict
 use Rattle.reader.specs.Reader.{decode, check_of}
 use Rattle.reader.specs.Reader.Laws.{refused_decodes}
 use Rattle.reader.specs.Reader.Marked.{P1}
-use Rattle.stock.proofs.Examples.{marked}
+use Rattle.meaning.proofs.Stock.Examples.{marked}
 use Rattle.joining.specs.Outcome.{Outcome, refused, written, refusal, in_room, after}
 use Rattle.link.specs.declared.Which.TheVariants.{First, Union}
 use Rattle.link.specs.declared.LinkRefusal.{LinkRefusal}
-use Rattle.link.specs.declared.Linked.{Linked}
-use Rattle.link.specs.declared.Linked.TheVariants as linked
 use Rattle.link.specs.Outcome.{refusal_of, link_in, linked_as, link_answer, link_buffer}
 use Rattle.pile.specs.declared.Pile.{Pile}
 use Rattle.pile.specs.declared.Added.{Added}
@@ -27,10 +25,10 @@ use Rattle.pile.specs.Pile.{empty_file, whole_of, whole_in, more_in, more_answer
 -- ---- the first file
 
 -- the answer, and the buffer afterwards
-abbrev pub Kept : List ℕ → List ℕ → Linked → List ℕ → Type 0
+abbrev pub Kept : List ℕ → List ℕ → Result ℕ LinkRefusal → List ℕ → Type 0
 Kept f out r left = (r ≡ linked_as (whole_in (length out) f)) × (left ≡ after (whole_in (length out) f) out)
 
-pub whole_refused : (f : List ℕ) {x : Refusal} → check_of f ≡ verdict.Refused x → (out : List ℕ) → Kept f out (linked.Refused (record { which = First; why = x })) out
+pub whole_refused : (f : List ℕ) {x : Refusal} → check_of f ≡ Err x → (out : List ℕ) → Kept f out (Err (record { which = First; why = x })) out
 unfolding whole_in whole_of in_room linked_as after refusal_of refusal
 whole_refused f e out = rw (refused_decodes f e) (refl, refl)
 
@@ -43,13 +41,13 @@ module _ (f : List ℕ) (m : Accepted (decode f)) (out : List ℕ) where
   unfolding whole_in whole_of in_room
   kept_in h = rw m.2 (sym (no_lt _ _ _ _ h refl))
 
-  pub whole_short : length out < length f → Kept f out (linked.Refused (record { which = Union; why = record { no = 27; place = length f } })) out
+  pub whole_short : length out < length f → Kept f out (Err (record { which = Union; why = record { no = 27; place = length f } })) out
   unfolding linked_as after refusal_of refusal
   whole_short h = rw (short_in h) (refl, refl)
 
-  pub whole_Kept : {n : ℕ} {left : List ℕ} → n ≡ length f → left ≡ sets out 0 f → length f ≤ length out → Kept f out (linked.Written n) left
+  pub whole_Kept : {n : ℕ} {left : List ℕ} → n ≡ length f → left ≡ sets out 0 f → length f ≤ length out → Kept f out (Ok n) left
   unfolding linked_as after
-  whole_Kept e s h = rw (kept_in h) (ap (λ (k : ℕ). linked.Written k) e, s)
+  whole_Kept e s h = rw (kept_in h) (ap (λ (k : ℕ). Ok k) e, s)
 
 -- ---- one more file
 
@@ -62,7 +60,7 @@ module _ (p : Pile) (held f : List ℕ) where
   unfolding more_in
   more_next room h = sym (no_eq _ _ _ _ h refl)
 
-  module _ (out : List ℕ) {r : Linked} {left : List ℕ} where
+  module _ (out : List ℕ) {r : Result ℕ LinkRefusal} {left : List ℕ} where
     pub put_first : p.files ≡ 0 → Kept f out r left → (r ≡ more_answer p held f out) × (left ≡ more_buffer p held f out)
     unfolding more_answer more_buffer
     put_first h k = (k.0 ∙ ap linked_as (sym (more_first (length out) h)), k.1 ∙ ap (λ (o : Outcome LinkRefusal). after o out) (sym (more_first (length out) h)))
@@ -73,12 +71,12 @@ module _ (p : Pile) (held f : List ℕ) where
 
 -- ---- the pile after it
 
-module _ (p : Pile) (r : Linked) where
-  pub grown_written : (n : ℕ) → r ≡ linked.Written n → Grown (record { files = p.files + 1; length = n }) ≡ grown_as p r
+module _ (p : Pile) (r : Result ℕ LinkRefusal) where
+  pub grown_written : (n : ℕ) → r ≡ Ok n → Grown (record { files = p.files + 1; length = n }) ≡ grown_as p r
   unfolding grown_as
   grown_written n e = rw e refl
 
-  pub grown_refused : (x : LinkRefusal) (s : ℕ) → r ≡ linked.Refused x → s ≡ link_count p → Refused (record { why = x; step = s }) ≡ grown_as p r
+  pub grown_refused : (x : LinkRefusal) (s : ℕ) → r ≡ Err x → s ≡ link_count p → Refused (record { why = x; step = s }) ≡ grown_as p r
   unfolding grown_as
   grown_refused x s e h = rw (e, h) refl
 

@@ -1,5 +1,6 @@
 -- One file and two are answered as a link is.
 -- Assumes nothing.
+use Rattle.std.specs.Prelude.{Err, Ok, Result, ℕ}
 use mathlib.Core.Path.{◌≡◌, refl, sym, ap, ◌∙◌}
 use mathlib.Core.List.{List}
 use Prim.Native.Nat.{ℕ}
@@ -14,8 +15,6 @@ use Rattle.reader.specs.Reader.{decode}
 use Rattle.joining.specs.Outcome.{Outcome, refused, written, in_room, after}
 use Rattle.link.specs.declared.Which.TheVariants.{First}
 use Rattle.link.specs.declared.LinkRefusal.{LinkRefusal}
-use Rattle.link.specs.declared.Linked.{Linked}
-use Rattle.link.specs.declared.Linked.TheVariants as linked
 use Rattle.link.specs.Outcome.{refusal_of, link_of, linked_as, link_answer, link_buffer}
 use Rattle.link.specs.Demand.{Buffer}
 use Rattle.link.proofs.Buffers.{link_stopped}
@@ -31,10 +30,10 @@ use Rattle.pile.proofs.Turns.{added_even, added_odd, added-Stands, accepted_shor
 abbrev one_file : List ℕ → Pile
 one_file f = record { files = 1; length = length f }
 
-grown_first : (f : List ℕ) (r : Linked) → grown_as (one_file f) r ≡ first_link r
+grown_first : (f : List ℕ) (r : Result ℕ LinkRefusal) → grown_as (one_file f) r ≡ first_link r
 unfolding grown_as first_link link_count
-grown_first f (linked.Written n) = refl
-grown_first f (linked.Refused x) = ap (λ (s : ℕ). Refused (record { why = x; step = s })) (sym (no_eq _ _ _ _ (λ e. omega arith) refl))
+grown_first f (Ok n) = refl
+grown_first f (Err x) = ap (λ (s : ℕ). Refused (record { why = x; step = s })) (sym (no_eq _ _ _ _ (λ e. omega arith) refl))
 
 module _ (f one other : List ℕ) (r : Buffer one) (q : Buffer other) where
   -- after the first file
@@ -86,10 +85,10 @@ module _ (f one other : List ℕ) (r : Buffer one) (q : Buffer other) where
   unfolding no_files
   single_links = rw (ended_alone 1 kept (added-Stands no_files f one other (omega arith) r q) (omega arith)) (second_links empty_file)
 
-ended_first : (l : Linked) (one other : List ℕ) → onward ended (turn (first_link l) one other) ≡ turn (first_link l) one other
+ended_first : (l : Result ℕ LinkRefusal) (one other : List ℕ) → onward ended (turn (first_link l) one other) ≡ turn (first_link l) one other
 unfolding onward ended first_link
-ended_first (linked.Written n) one other = sym (is_lt _ _ _ _ (omega arith) refl)
-ended_first (linked.Refused x) one other = refl
+ended_first (Ok n) one other = sym (is_lt _ _ _ _ (omega arith) refl)
+ended_first (Err x) one other = refl
 
 ended_links : (t : Turn) (a b out : List ℕ) → LinksTo t a b out → LinksTo (onward ended t) a b out
 unfolding answer_in second_in

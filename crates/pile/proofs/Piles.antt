@@ -13,23 +13,23 @@ use Rattle.key.specs.Key.{Key}
 use Rattle.reader.specs.Values.{Typelib, entries_in, Entry}
 use Rattle.reader.specs.Rules.{All}
 use Rattle.meaning.specs.Meaning.{meaning}
-use Rattle.facts.specs.Facts.{In, Sub, Within, said}
-use Rattle.facts.specs.Union.{sort, union}
-use Rattle.facts.specs.Conditions.{Fine}
-use Rattle.facts.specs.Valid.{Valid}
-use Rattle.facts.specs.Link.{Linked, stopped, joined, link_entries, joined_of}
-use Rattle.facts.proofs.Sets.{In-left, In-right, In-append, Sub-same}
-use Rattle.facts.proofs.Values.{some_equal, not_some}
-use Rattle.facts.proofs.Said.{Within-Sub, Within-more}
-use Rattle.facts.proofs.Unions.{union_ext}
-use Rattle.facts.proofs.Agrees.{Agree-Sound}
-use Rattle.facts.proofs.Groups.{Fine-Within}
-use Rattle.facts.proofs.Algebra.{Closed, Closed-Valid, Closed-both, union_says, joined_exactly}
-use Rattle.normal.specs.Size.{sum}
-use Rattle.normal.specs.Encodable as normal
-use Rattle.stock.specs.Uses.{words_of, stored_size, stock_size, normal_length}
-use Rattle.stock.specs.Form.{normal_form}
-use Rattle.stock.proofs.Grows.{normal_Grows}
+use Rattle.meaning.specs.Facts.Facts.{In, Sub, Within, said}
+use Rattle.meaning.specs.Facts.Union.{sort, union}
+use Rattle.meaning.specs.Facts.Conditions.{Fine}
+use Rattle.meaning.specs.Facts.Valid.{Valid}
+use Rattle.meaning.specs.Facts.Link.{Linked, stopped, joined, link_entries, joined_of}
+use Rattle.meaning.proofs.Facts.Sets.{In-left, In-right, In-append, Sub-same}
+use Rattle.meaning.proofs.Facts.Values.{some_equal, not_some}
+use Rattle.meaning.proofs.Facts.Said.{Within-Sub, Within-more}
+use Rattle.meaning.proofs.Facts.Unions.{union_ext}
+use Rattle.meaning.proofs.Facts.Agrees.{Agree-Sound}
+use Rattle.meaning.proofs.Facts.Groups.{Fine-Within}
+use Rattle.meaning.proofs.Facts.Algebra.{Closed, Closed-Valid, Closed-both, union_says, joined_exactly}
+use Rattle.meaning.specs.Normal.Size.{sum}
+use Rattle.meaning.specs.Normal.Encodable as normal
+use Rattle.meaning.specs.Stock.Uses.{words_of, stored_size, stock_size, normal_length}
+use Rattle.meaning.specs.Stock.Form.{normal_form}
+use Rattle.meaning.proofs.Stock.Grows.{normal_Grows}
 use Rattle.link.specs.Demand.{Means, Buffer, left_by}
 use Rattle.link.proofs.Files.{accepted_Valid, accepted_Sound, form_Means}
 use Rattle.link.proofs.Unions.{valid_Readable, Fine-Readable, Valid-Fine, Sound-both}

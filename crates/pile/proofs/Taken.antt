@@ -18,7 +18,7 @@ use Rattle.reader.specs.Records.{Bytes}
 use Rattle.reader.specs.Rules.{All}
 use Rattle.reader.specs.Reader.{decode}
 use Rattle.meaning.specs.Meaning.{meaning}
-use Rattle.facts.proofs.Values.{not_some}
+use Rattle.meaning.proofs.Facts.Values.{not_some}
 use Rattle.joining.specs.Outcome.{Outcome, refused, in_room, after}
 use Rattle.link.specs.declared.Which.TheVariants.{First, Second, Union}
 use Rattle.link.specs.declared.LinkRefusal.{LinkRefusal}

@@ -1,5 +1,6 @@
 -- What one more file does to a pile in its two buffers.
 -- Assumes nothing.
+use Rattle.std.specs.Prelude.{Err, Ok, Result, ℕ}
 use mathlib.Core.Path.{◌≡◌, refl, sym, ap, ◌∙◌}
 use mathlib.Core.Logic.{◌⊎◌, inl, inr}
 use mathlib.Core.List.{List}
@@ -17,8 +18,6 @@ use Rattle.reader.specs.Reader.{decode}
 use Rattle.reader.specs.Reader.Laws.{accepted_obeys}
 use Rattle.joining.specs.Outcome.{Outcome, refused, written, after}
 use Rattle.link.specs.declared.LinkRefusal.{LinkRefusal}
-use Rattle.link.specs.declared.Linked.{Linked}
-use Rattle.link.specs.declared.Linked.TheVariants as linked
 use Rattle.link.specs.Outcome.{linked_as, link_answer, link_buffer}
 use Rattle.link.specs.Demand.{Buffer, left_in, left_by}
 use Rattle.pile.specs.declared.Pile.{Pile}
@@ -67,15 +66,15 @@ module _ (p : Pile) (one other : List ℕ) where
 -- ---- what is left
 
 -- in the buffer that was written
-pub left_even : (p : Pile) (r : Linked) (one other : List ℕ) → p.files % 2 ≡ 0 → left_of (turn (grown_as p r) one other) ≡ left_in one r
+pub left_even : (p : Pile) (r : Result ℕ LinkRefusal) (one other : List ℕ) → p.files % 2 ≡ 0 → left_of (turn (grown_as p r) one other) ≡ left_in one r
 unfolding left_of grown_as left_in
-left_even p (linked.Written n) one other e = ap (λ (b : List ℕ). some b) (held_odd (record { files = p.files + 1; length = n }) one other (omega arith))
-left_even p (linked.Refused x) one other e = refl
+left_even p (Ok n) one other e = ap (λ (b : List ℕ). some b) (held_odd (record { files = p.files + 1; length = n }) one other (omega arith))
+left_even p (Err x) one other e = refl
 
-pub left_odd : (p : Pile) (r : Linked) (one other : List ℕ) → p.files % 2 ≡ 1 → left_of (turn (grown_as p r) one other) ≡ left_in other r
+pub left_odd : (p : Pile) (r : Result ℕ LinkRefusal) (one other : List ℕ) → p.files % 2 ≡ 1 → left_of (turn (grown_as p r) one other) ≡ left_in other r
 unfolding left_of grown_as left_in
-left_odd p (linked.Written n) one other e = ap (λ (b : List ℕ). some b) (held_even (record { files = p.files + 1; length = n }) one other (omega arith))
-left_odd p (linked.Refused x) one other e = refl
+left_odd p (Ok n) one other e = ap (λ (b : List ℕ). some b) (held_even (record { files = p.files + 1; length = n }) one other (omega arith))
+left_odd p (Err x) one other e = refl
 
 -- a further file: what a link leaves
 next_left : (p : Pile) (held f out : List ℕ) → (p.files ≡ 0 → ⊥) → left_in (more_buffer p held f out) (more_answer p held f out) ≡ left_by (take p.length held) f out
@@ -100,10 +99,10 @@ more_length : (p : Pile) (held f out : List ℕ) → length (more_buffer p held 
 unfolding more_buffer
 more_length p held f out = after-length (more_in (length out) p held f) out
 
-grown_Stands : (p : Pile) (r : Linked) (one other : List ℕ) → Buffer one → Buffer other → Stands (p.files + 1) (turn (grown_as p r) one other)
+grown_Stands : (p : Pile) (r : Result ℕ LinkRefusal) (one other : List ℕ) → Buffer one → Buffer other → Stands (p.files + 1) (turn (grown_as p r) one other)
 unfolding grown_as
-grown_Stands p (linked.Written n) one other a b = (refl, a, b)
-grown_Stands p (linked.Refused x) one other a b = tt
+grown_Stands p (Ok n) one other a b = (refl, a, b)
+grown_Stands p (Err x) one other a b = tt
 
 pub added-Stands : (p : Pile) (f one other : List ℕ) → p.files < pile_limit → Buffer one → Buffer other → Stands (p.files + 1) (added p f one other)
 added-Stands p f one other l a b = elim (parity p.files) [

@@ -1,6 +1,7 @@
 -- Document 02, "The whole pile", as one claim over all lists of up to 256 accepted files and all contents of buffers of 1,048,576 bytes.
 -- Assumes nothing.
-use Rattle.std.specs.Prelude.{◌≡◌, ◌↔◌, List, [], ◌∷◌, ◌++◌, ℕ, ◌≤◌, length}
+use Rattle.link.specs.declared.LinkRefusal.{LinkRefusal}
+use Rattle.std.specs.Prelude.{◌≡◌, ◌↔◌, List, [], ◌∷◌, ◌++◌, ℕ, ◌≤◌, length, Err, Ok, Result}
 use Rattle.std.proofs.Math.Option.{some}
 use Rattle.number.specs.Limits.{pile_limit}
 use Rattle.reading.specs.Got.{got}
@@ -9,14 +10,12 @@ use Rattle.reader.specs.Values.{Typelib, entries_in, Entry}
 use Rattle.reader.specs.Records.{Bytes}
 use Rattle.reader.specs.Rules.{All}
 use Rattle.reader.specs.Reader.{decode}
-use Rattle.facts.specs.Facts.{In, Sub}
-use Rattle.facts.specs.Union.{union}
-use Rattle.facts.specs.Conditions.{Fine}
-use Rattle.stock.specs.Uses.{normal_length}
-use Rattle.stock.specs.Form.{normal_form}
+use Rattle.meaning.specs.Facts.Facts.{In, Sub}
+use Rattle.meaning.specs.Facts.Union.{union}
+use Rattle.meaning.specs.Facts.Conditions.{Fine}
+use Rattle.meaning.specs.Stock.Uses.{normal_length}
+use Rattle.meaning.specs.Stock.Form.{normal_form}
 use Rattle.keyed.specs.Stays.{Stays}
-use Rattle.link.specs.declared.Linked.{Linked}
-use Rattle.link.specs.declared.Linked.TheVariants as linked
 use Rattle.link.specs.Outcome.{link_answer, link_buffer}
 use Rattle.link.specs.Demand.{Means, Buffer}
 use Rattle.link.specs.Theorems.{FormOf}
@@ -65,9 +64,9 @@ PilesTaken = (fs : List (List ℕ)) (one other b : List ℕ) → All Bytes fs �
 -- ---- one file and two, accepted or not
 
 -- what the first link answers
-unfoldable pub first_link : Linked → Added
-first_link (linked.Written n) = Grown (record { files = 2; length = n })
-first_link (linked.Refused x) = Refused (record { why = x; step = 1 })
+unfoldable pub first_link : Result ℕ LinkRefusal → Added
+first_link (Ok n) = Grown (record { files = 2; length = n })
+first_link (Err x) = Refused (record { why = x; step = 1 })
 
 -- the answer is that of linking a with b into `out`, and the second buffer is what the link makes of `out`
 abbrev pub LinksTo : Turn → List ℕ → List ℕ → List ℕ → Type 0

@@ -1,18 +1,16 @@
 -- Document 02, "The whole pile": files linked one by one. What the files so far left stands in one of two buffers, and the next link writes the other.
 -- Assumes nothing.
-use Rattle.std.specs.Prelude.{List, [], ◌∷◌, ℕ, ◌+◌, ◌%◌, length, take}
+use Rattle.std.specs.Prelude.{List, [], ◌∷◌, ℕ, ◌+◌, ◌%◌, length, take, Err, Ok, Result}
 use Rattle.std.proofs.Math.Option.{Option, none, some}
 use Rattle.number.specs.Limits.{pile_limit}
 use Rattle.number.specs.Choice.{when◌then◌else◌, ◌<?◌, ◌≤?◌, ◌=?◌}
 use Rattle.reading.specs.Got.{Got, got, bad}
 use Rattle.reader.specs.Values.{Typelib}
 use Rattle.reader.specs.Reader.{decode}
-use Rattle.stock.specs.Form.{normal_form}
+use Rattle.meaning.specs.Stock.Form.{normal_form}
 use Rattle.joining.specs.Outcome.{Outcome, refused, written, in_room, after}
 use Rattle.link.specs.declared.Which.TheVariants.{First, Union}
 use Rattle.link.specs.declared.LinkRefusal.{LinkRefusal}
-use Rattle.link.specs.declared.Linked.{Linked}
-use Rattle.link.specs.declared.Linked.TheVariants as linked
 use Rattle.link.specs.Outcome.{refusal_of, link_in, linked_as}
 use Rattle.pile.specs.declared.Pile.{Pile}
 use Rattle.pile.specs.declared.Added.{Added}
@@ -41,7 +39,7 @@ unfoldable pub more_in : ℕ → Pile → List ℕ → List ℕ → Outcome Link
 more_in room p held f = when p.files =? 0 then whole_in room f else link_in room (take p.length held) f
 
 -- the answer, and the buffer that is written afterwards
-unfoldable pub more_answer : Pile → List ℕ → List ℕ → List ℕ → Linked
+unfoldable pub more_answer : Pile → List ℕ → List ℕ → List ℕ → Result ℕ LinkRefusal
 more_answer p held f out = linked_as (more_in (length out) p held f)
 
 unfoldable pub more_buffer : Pile → List ℕ → List ℕ → List ℕ → List ℕ
@@ -51,9 +49,9 @@ more_buffer p held f out = after (more_in (length out) p held f) out
 unfoldable pub link_count : Pile → ℕ
 link_count p = when p.files =? 0 then 1 else p.files
 
-unfoldable pub grown_as : Pile → Linked → Added
-grown_as p (linked.Written n) = Grown (record { files = p.files + 1; length = n })
-grown_as p (linked.Refused x) = Refused (record { why = x; step = link_count p })
+unfoldable pub grown_as : Pile → Result ℕ LinkRefusal → Added
+grown_as p (Ok n) = Grown (record { files = p.files + 1; length = n })
+grown_as p (Err x) = Refused (record { why = x; step = link_count p })
 
 -- ---- two buffers in turn
 

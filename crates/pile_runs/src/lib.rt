@@ -30,7 +30,7 @@ fn save_pile(
     requires { SavesIn file_limit saves }
 {
     match saves {
-        Saves::Nothing => Saved::Done,
+        Saves::Nothing => Ok(()),
         Saves::First(n) => told::save_output(rt, line, separator, n, out),
         Saves::Second(n) => told::save_output(rt, line, separator, n, work),
     }

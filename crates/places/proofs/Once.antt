@@ -15,12 +15,12 @@ use Rattle.key.specs.Key.{key}
 use Rattle.key.specs.First.{first_same, Filled}
 use Rattle.key.proofs.Firsts.{first_le, first_ext}
 use Rattle.reader.specs.Values.{Entry, entry, entry_key}
-use Rattle.normal.specs.Size.{name_size}
-use Rattle.stock.specs.Uses.{own_words, key_words, entry_words, words_of, use_key, first_use, at_first, kept_size}
-use Rattle.stock.specs.Pool.{pieces_of, pool_size, offset, once_at}
-use Rattle.stock.proofs.Pools.{words_pieces}
-use Rattle.stock.proofs.Stock.{first_use-le}
-use Rattle.stock.proofs.Leads.{kept_apart, first_kept}
+use Rattle.meaning.specs.Normal.Size.{name_size}
+use Rattle.meaning.specs.Stock.Uses.{own_words, key_words, entry_words, words_of, use_key, first_use, at_first, kept_size}
+use Rattle.meaning.specs.Stock.Pool.{pieces_of, pool_size, offset, once_at}
+use Rattle.meaning.proofs.Stock.Pools.{words_pieces}
+use Rattle.meaning.proofs.Stock.Stock.{first_use-le}
+use Rattle.meaning.proofs.Stock.Leads.{kept_apart, first_kept}
 use Rattle.names.specs.Uses.{spelling}
 use Rattle.places.specs.Places.{up_to, stored_use, body_ahead, pointer_at, InOrder, use_place}
 use Rattle.places.specs.Noted.{body_use, Noted}

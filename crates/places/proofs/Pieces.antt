@@ -11,10 +11,10 @@ use lib.ListN.{length, get_or}
 use Rattle.number.specs.Choice.{when◌then◌else◌, ◌<?◌, ◌≤?◌}
 use Rattle.number.proofs.Choice.{is_lt, no_lt, is_le, no_le, is_eq, no_eq, both}
 use Rattle.reader.specs.Values.{Descriptor, Entry, entry, entry_key, entry_descriptor}
-use Rattle.normal.specs.Size.{descriptor_size}
-use Rattle.stock.specs.Uses.{names_of, key_words, entry_words, kept_size, own_body}
-use Rattle.stock.specs.Pool.{Piece, word, body, own_pieces, entry_pieces, pieces_of, words_in, pool_size, offset}
-use Rattle.stock.proofs.Pools.{words_map, entry_words_lem}
+use Rattle.meaning.specs.Normal.Size.{descriptor_size}
+use Rattle.meaning.specs.Stock.Uses.{names_of, key_words, entry_words, kept_size, own_body}
+use Rattle.meaning.specs.Stock.Pool.{Piece, word, body, own_pieces, entry_pieces, pieces_of, words_in, pool_size, offset}
+use Rattle.meaning.proofs.Stock.Pools.{words_map, entry_words_lem}
 use Rattle.places.specs.Places.{up_to}
 use Rattle.places.specs.Noted.{body_use, body_size}
 use Rattle.places.proofs.Sums.{up_shift, up_ext}

@@ -15,7 +15,7 @@ use Rattle.key.specs.Key.{Key}
 use Rattle.key.specs.First.{first_same}
 use Rattle.key.proofs.Ends.{length_word}
 use Rattle.key.proofs.Firsts.{first_le}
-use Rattle.normal.specs.Size.{name_size}
+use Rattle.meaning.specs.Normal.Size.{name_size}
 use Rattle.names.specs.Uses.{word_of, spelling}
 use Rattle.names.proofs.Words.{word_here, word_there, word_use}
 use Rattle.places.specs.Places.{up_to, stored_use, capped}

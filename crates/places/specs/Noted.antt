@@ -3,7 +3,7 @@
 use Rattle.std.specs.Prelude.{◌≡◌, List, [], ◌∷◌, ℕ, zero, suc, ◌+◌, ◌<◌, length, get_or}
 use Rattle.reader.specs.Values.{Entry, entry_key, entry_descriptor}
 use Rattle.names.specs.Uses.{spelt}
-use Rattle.stock.specs.Uses.{key_words, entry_words, words_of, own_body}
+use Rattle.meaning.specs.Stock.Uses.{key_words, entry_words, words_of, own_body}
 
 -- the first use of entry i
 unfoldable pub start_use : {R : Type 0} → List (Entry R) → ℕ → ℕ

@@ -5,7 +5,7 @@ use Rattle.number.specs.Limits.{file_limit, row_limit}
 use Rattle.number.specs.Choice.{when◌then◌else◌, ◌≤?◌, ◌=?◌}
 use Rattle.key.specs.First.{first_same}
 use Rattle.names.specs.Uses.{spelt, spelling}
-use Rattle.normal.specs.Size.{name_size}
+use Rattle.meaning.specs.Normal.Size.{name_size}
 
 -- the sum of what f gives below n
 unfoldable pub up_to : (ℕ → ℕ) → ℕ → ℕ

@@ -1,11 +1,11 @@
-// Where the words of uses are to lie: a table of first uses becomes, in its own place, a table of pool pointers.
+//! Where the words of uses are to lie: a table of first uses becomes, in its own place, a table of pool pointers.
 #![tactic(auto)]
 
 ghost use Rattle.std.specs.Prelude.{◌≡◌, ◌+◌, ◌*◌, ◌≤◌, ◌<◌, length, set};
 ghost use Rattle.number.specs.Limits.{file_limit};
 ghost use Rattle.key.specs.First.{first_same, Filled, Past};
 ghost use Rattle.names.specs.Uses.{use_limit, word_of, spelling, Led, Spelt};
-ghost use Rattle.normal.specs.Size.{name_size};
+ghost use Rattle.meaning.specs.Normal.Size.{name_size};
 ghost use Rattle.places.specs.Places.{stored_use, pointer_at, room_limit, InOrder, capped, use_place};
 ghost use Rattle.places.specs.Laying.{Fresh, placed_use, Laid};
 
@@ -78,16 +78,14 @@ fn lay_uses(
     ensures { Laid (spelling pool.now other.now words.now) (stored_use pool.now other.now words.now) places.old places.new u e p result × (result + u * file_limit ≤ p + e * file_limit) }
 {
     let mut at = p;
-    let mut k = u;
-    while k < e {
+    for k in u..e {
         at = lay_use(pool, other, words, n, k, at, places);
-        k += 1;
     }
     at
 }
 
-// The places of n uses, from the table of their first uses; body i has sizes[i] bytes and stands right before use before[i].
-// The answer is the pool pointer past the last word and body.
+/// The places of n uses, from the table of their first uses; body i has sizes[i] bytes and stands right before use before[i].
+/// The answer is the pool pointer past the last word and body.
 pub fn lay_out(
     pool: &[u8],
     other: &[u8],
@@ -103,13 +101,11 @@ pub fn lay_out(
 {
     let mut p: usize = 1;
     let mut u: usize = 0;
-    let mut i: usize = 0;
-    while i < c {
+    for i in 0..c {
         let e = pointer(before[i]);
         p = lay_uses(pool, other, words, n, u, e, p, places);
         p += wide(sizes[i]);
         u = e;
-        i += 1;
     }
     lay_uses(pool, other, words, n, u, n, p, places)
 }

@@ -12,13 +12,13 @@ use Rattle.number.specs.Choice.{when◌then◌else◌, ◌=?◌}
 use Rattle.number.proofs.Choice.{is_eq, no_eq, yes_eq, not_eq}
 use Rattle.number.proofs.Scans.{clash}
 use Rattle.reader.specs.Values.{Descriptor, Entry}
-use Rattle.normal.specs.Size.{name_size, descriptor_size}
-use Rattle.normal.specs.Record.{name_bytes}
-use Rattle.stock.specs.Uses.{words_of, at_first, kept_size, own_body}
-use Rattle.stock.specs.Pool.{Piece, word, body, pieces_of, words_in, pool_size, offset, once_at}
-use Rattle.stock.specs.Form.{descriptor_with, kept_bytes, pool_with}
-use Rattle.stock.proofs.Pools.{words_append, words_pieces, size_append}
-use Rattle.stock.proofs.Lengths.{length_descriptor}
+use Rattle.meaning.specs.Normal.Size.{name_size, descriptor_size}
+use Rattle.meaning.specs.Normal.Record.{name_bytes}
+use Rattle.meaning.specs.Stock.Uses.{words_of, at_first, kept_size, own_body}
+use Rattle.meaning.specs.Stock.Pool.{Piece, word, body, pieces_of, words_in, pool_size, offset, once_at}
+use Rattle.meaning.specs.Stock.Form.{descriptor_with, kept_bytes, pool_with}
+use Rattle.meaning.proofs.Stock.Pools.{words_append, words_pieces, size_append}
+use Rattle.meaning.proofs.Stock.Lengths.{length_descriptor}
 use Rattle.places.proofs.Once.{stored_here}
 use Rattle.pieces.specs.Uses.{reached, uses_with}
 use Rattle.pooling.specs.Tabled.{own_with}

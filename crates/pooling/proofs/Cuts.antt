@@ -8,10 +8,10 @@ use Prim.Native.Nat.{ℕ, zero, suc, ◌+◌, ◌<◌}
 use native.Mathlib.Omega.{arith}
 use lib.ListN.{length, length-append}
 use Rattle.reader.specs.Values.{Descriptor, Entry, entry, entry_key, entry_descriptor}
-use Rattle.stock.specs.Uses.{own_words, key_words, entry_words, words_of}
-use Rattle.stock.specs.Pool.{Piece, word, own_pieces, entry_pieces, pieces_of, words_in, pool_size}
-use Rattle.stock.specs.Form.{own_after}
-use Rattle.stock.proofs.Pools.{words_map, words_append, entry_words_lem, words_pieces, size_words, size_append}
+use Rattle.meaning.specs.Stock.Uses.{own_words, key_words, entry_words, words_of}
+use Rattle.meaning.specs.Stock.Pool.{Piece, word, own_pieces, entry_pieces, pieces_of, words_in, pool_size}
+use Rattle.meaning.specs.Stock.Form.{own_after}
+use Rattle.meaning.proofs.Stock.Pools.{words_map, words_append, entry_words_lem, words_pieces, size_words, size_append}
 use Rattle.places.specs.Noted.{body_use}
 use Rattle.pooling.specs.Tabled.{own_of, own_place}
 use Rattle.pooling.proofs.Come.{own_piece}

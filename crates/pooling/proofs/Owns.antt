@@ -6,9 +6,9 @@ use Prim.Native.Nat.{ℕ}
 use native.Mathlib.Omega.{arith}
 use lib.ListN.{length}
 use lib.Seq.{sets}
-use Rattle.normal.specs.Size.{descriptor_size}
-use Rattle.stock.specs.Uses.{own_body}
-use Rattle.stock.specs.Form.{descriptor_with}
+use Rattle.meaning.specs.Normal.Size.{descriptor_size}
+use Rattle.meaning.specs.Stock.Uses.{own_body}
+use Rattle.meaning.specs.Stock.Form.{descriptor_with}
 use Rattle.pieces.specs.Bodies.{Body}
 use Rattle.writing.specs.Wrote.{Room, Wrote}
 use Rattle.pooling.specs.Tabled.{OwnLed, own_with}

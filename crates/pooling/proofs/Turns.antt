@@ -13,13 +13,13 @@ use Rattle.number.proofs.Choice.{is_eq, no_eq}
 use Rattle.number.proofs.Scans.{below}
 use Rattle.iids.specs.Cells.{cell}
 use Rattle.reader.specs.Values.{Entry}
-use Rattle.normal.specs.Normal.{own_pointer}
+use Rattle.meaning.specs.Normal.Normal.{own_pointer}
 use Rattle.names.specs.Uses.{spelt, Spelt}
-use Rattle.stock.specs.Uses.{words_of, at_first, own_body}
-use Rattle.stock.specs.Pool.{Piece, word, pieces_of, words_in, pool_size}
-use Rattle.stock.specs.Form.{pool_with}
-use Rattle.stock.proofs.Pools.{words_map, words_append, pool_append}
-use Rattle.stock.proofs.Lengths.{length_pool}
+use Rattle.meaning.specs.Stock.Uses.{words_of, at_first, own_body}
+use Rattle.meaning.specs.Stock.Pool.{Piece, word, pieces_of, words_in, pool_size}
+use Rattle.meaning.specs.Stock.Form.{pool_with}
+use Rattle.meaning.proofs.Stock.Pools.{words_map, words_append, pool_append}
+use Rattle.meaning.proofs.Stock.Lengths.{length_pool}
 use Rattle.places.specs.Noted.{body_use}
 use Rattle.pieces.specs.Uses.{uses_with}
 use Rattle.writing.specs.Wrote.{Room, Wrote}

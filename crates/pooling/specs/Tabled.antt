@@ -7,11 +7,11 @@ use Rattle.number.specs.Limits.{file_limit, row_limit}
 use Rattle.number.specs.Choice.{when◌then◌else◌, ◌=?◌}
 use Rattle.key.specs.First.{Filled}
 use Rattle.reader.specs.Values.{Descriptor, Entry, entry_key, entry_descriptor, no_entry}
-use Rattle.normal.specs.Normal.{own_pointer}
+use Rattle.meaning.specs.Normal.Normal.{own_pointer}
 use Rattle.names.specs.Uses.{spelt, Spelt}
-use Rattle.stock.specs.Uses.{entry_words, words_of, at_first}
-use Rattle.stock.specs.Pool.{entry_pieces, pieces_of, pool_size, once_at}
-use Rattle.stock.specs.Form.{descriptor_with, pool_with, own_after}
+use Rattle.meaning.specs.Stock.Uses.{entry_words, words_of, at_first}
+use Rattle.meaning.specs.Stock.Pool.{entry_pieces, pieces_of, pool_size, once_at}
+use Rattle.meaning.specs.Stock.Form.{descriptor_with, pool_with, own_after}
 use Rattle.places.specs.Noted.{body_use}
 use Rattle.pieces.specs.Bodies.{Body}
 

@@ -1,11 +1,11 @@
-// Writes the pool of a normal form that stores each name once: the words of uses and the descriptors, by tables.
+//! Writes the pool of a normal form that stores each name once: the words of uses and the descriptors, by tables.
 #![tactic(auto)]
 
 ghost use Rattle.std.specs.Prelude.{◌≡◌, List, ℕ, ◌<◌, length};
 ghost use Rattle.number.specs.Limits.{row_limit};
 ghost use Rattle.reader.specs.Values.{Entry};
 ghost use Rattle.iids.specs.Cells.{cell};
-ghost use Rattle.stock.specs.Uses.{own_body};
+ghost use Rattle.meaning.specs.Stock.Uses.{own_body};
 ghost use Rattle.writing.specs.Source.{renumber};
 ghost use Rattle.writing.specs.Wrote.{Room, Wrote};
 ghost use Rattle.pooling.specs.Tabled.{OwnLed, own_with, pointed_at, Tabled, TablesFit, PutPool};
@@ -45,7 +45,7 @@ fn pointed(b: usize, p: usize) -> u32
     p as u32
 }
 
-// The pool of c entries with m uses, and in `owns` the pointers to their descriptors.
+/// The pool of c entries with m uses, and in `owns` the pointers to their descriptors.
 pub fn put_pool(
     pool: &[u8],
     other: &[u8],
@@ -65,15 +65,13 @@ pub fn put_pool(
 {
     let mut w: usize = 0;
     let mut u: usize = 0;
-    let mut q: usize = 0;
-    while q < c {
+    for q in 0..c {
         let e = pointer(before[q]);
         w += put_uses(pool, other, words, places, u, e, 1 + w, &mut out[w..]);
         let b = pointer(bodies[q]);
         owns[q] = pointed(b, 1 + w);
         w += put_own(pool, other, n, b, e, places, place, &mut out[w..]);
         u = e;
-        q += 1;
     }
     w + put_uses(pool, other, words, places, u, m, 1 + w, &mut out[w..])
 }

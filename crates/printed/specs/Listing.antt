@@ -1,10 +1,9 @@
 -- Document 01, "Marked cases": what the listing program prints of its input, in ASCII but for names, whose bytes stand as they are.
 -- Assumes nothing.
-use Rattle.std.specs.Prelude.{List, [], ◌∷◌, ◌++◌, ℕ, ◌+◌, length}
+use Rattle.std.specs.Prelude.{List, [], ◌∷◌, ◌++◌, ℕ, ◌+◌, length, Err, Ok}
 use Rattle.std.proofs.Math.Option.{Option, none, some}
 use Rattle.number.specs.Choice.{when◌then◌else◌, ◌<?◌}
 use Rattle.reading.specs.Got.{Got, got, bad}
-use Rattle.reading.specs.declared.Verdict.TheVariants.{Accepted, Refused}
 use Rattle.key.specs.Key.{key_space, key_name}
 use Rattle.decimal.specs.Digits.{digits_of}
 use Rattle.text.specs.Line.{line_of, space, hyphen, newline}
@@ -114,8 +113,8 @@ entry_lines es i (x ∷ xs) = entry_line i x ++ (own_lines es i (entry_descripto
 
 -- of a decoded file; the first number is that of its interfaces
 unfoldable pub listing_of : Got Typelib → List ℕ
-listing_of (bad n q) = line_of (Refused (record { no = n; place = q }))
-listing_of (got t e) = line_of (Accepted (header_of t).count) ++ entry_lines (entries_in t) 1 (entries_in t)
+listing_of (bad n q) = line_of (Err (record { no = n; place = q }))
+listing_of (got t e) = line_of (Ok (header_of t).count) ++ entry_lines (entries_in t) 1 (entries_in t)
 
 -- of the bytes on standard input
 unfoldable pub printed_of : List ℕ → List ℕ

@@ -1,4 +1,4 @@
-// The lines of the listing, each written whole.
+//! The lines of the listing, each written whole.
 ghost use Rattle.std.specs.Prelude.{◌≡◌, List, ◌++◌, ℕ, ◌+◌, ◌≤◌, ◌<◌, length, get_or, drop};
 ghost use Rattle.std.proofs.Math.Option.{Option};
 ghost use Rattle.number.specs.Number.{be};
@@ -38,7 +38,7 @@ fn put_parent(pool: &[u8], d: usize, out: &mut [u8], at: usize) -> usize
     text::put_bytes(out, next, b"\n")
 }
 
-// The line of entry i, counted from 0.
+/// The line of entry i, counted from 0.
 pub fn put_entry(file: &[u8], pool: &[u8], l: Layout, i: usize, out: &mut [u8], at: usize) -> usize
     requires { Lies file.now l × ((i < l.count) × ((pool.now ≡ drop l.pool file.now) × Room out.old at line_room)) }
     ensures { ((es : List (Entry ℕ)) → LaidOut file.now l es → Wrote out.old at (entry_line (i + 1) (get_or es i no_entry)) result out.new) × (result ≤ at + line_room) }
@@ -52,7 +52,7 @@ pub fn put_entry(file: &[u8], pool: &[u8], l: Layout, i: usize, out: &mut [u8], 
     put_parent(pool, d, out, parent)
 }
 
-// A slot or a total of slots, `?` for an unknown one.
+/// A slot or a total of slots, `?` for an unknown one.
 pub fn put_slot(slot: Slot, out: &mut [u8], at: usize) -> usize
     requires { Room out.old at 20 }
     ensures { Wrote out.old at (slot_text slot) result out.new × (result ≤ at + 20) }
@@ -73,7 +73,7 @@ fn put_total(total: Slot, out: &mut [u8], at: usize) -> usize
     text::put_bytes(out, end, b"\n")
 }
 
-// The line of the method at `from`, which has this slot, of an interface with this total.
+/// The line of the method at `from`, which has this slot, of an interface with this total.
 pub fn put_method(
     pool: &[u8],
     from: usize,
@@ -94,7 +94,7 @@ pub fn put_method(
     put_total(total, out, end)
 }
 
-// The line of the constant at `from`.
+/// The line of the constant at `from`.
 pub fn put_constant(pool: &[u8], from: usize, out: &mut [u8], at: usize) -> usize
     requires { Stands (NamedConstant pool.now from) × (Small pool.now × Room out.old at line_room) }
     ensures { WroteOf (NamedConstant pool.now from) constant_line out.old at result out.new × (result ≤ at + line_room) }

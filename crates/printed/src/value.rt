@@ -1,4 +1,4 @@
-// Values of constants, written.
+//! Values of constants, written.
 ghost use Rattle.std.specs.Prelude.{◌≡◌, ℕ, ◌+◌, ◌^◌, ◌≤◌, ◌<◌};
 ghost use Rattle.reader.specs.Layout.{Stands};
 ghost use Rattle.reader.specs.Records.{ShowsConstant};
@@ -8,7 +8,7 @@ ghost use Rattle.printed.specs.Listing.{value_text};
 ghost use Rattle.text.specs.Writing.{Wrote, Room};
 ghost use Rattle.printed.specs.Writing.{WroteOf, Small};
 
-// A number in two's complement, where `half` is 2^k and the number has k + 1 bits.
+/// A number in two's complement, where `half` is 2^k and the number has k + 1 bits.
 pub fn put_signed(out: &mut [u8], at: usize, half: u64, v: u64) -> usize
     requires { (v < half + half) × ((half < 4294967296) × Room out.old at 21) }
     ensures { ((k : ℕ) → half ≡ 2 ^ k → Wrote out.old at (signed_text (signed k v)) result out.new) × (result ≤ at + 21) }
@@ -19,7 +19,7 @@ pub fn put_signed(out: &mut [u8], at: usize, half: u64, v: u64) -> usize
     text::put_labelled(out, at, b"-", half + half - v)
 }
 
-// The value of the constant at `from`.
+/// The value of the constant at `from`.
 pub fn put_value(pool: &[u8], from: usize, out: &mut [u8], at: usize) -> usize
     requires { Stands (ShowsConstant pool.now from) × (Small pool.now × Room out.old at 21) }
     ensures { WroteOf (ShowsConstant pool.now from) (λ x. value_text (value_of x)) out.old at result out.new × (result ≤ at + 21) }

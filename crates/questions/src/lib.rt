@@ -1,4 +1,4 @@
-// The line that answers a command about a file, from the words of its line.
+//! The line that answers a command about a file, from the words of its line.
 #![tactic(auto)]
 
 ghost use Rattle.words.specs.Words.{words_of};
@@ -78,7 +78,7 @@ fn ask_constant(line: &[u8], separator: u8, file: &[u8], text: &mut [u8; ANSWER_
     answers::constant(file, &line[a..b], &line[c..d], text)
 }
 
-// The line that answers the words about the file, whose name is the second word.
+/// The line that answers the words about the file, whose name is the second word.
 pub fn ask(
     question: Question,
     line: &[u8],

@@ -1,4 +1,4 @@
-// Where the parts of a record of an accepted types.rdb stand, and where they end. Texts are not looked at again.
+//! Where the parts of a record of an accepted types.rdb stand, and where they end. Texts are not looked at again.
 #![tactic(auto)]
 
 ghost use Rattle.std.specs.Prelude.{◌≡◌, ◌+◌, ◌≤◌, length};
@@ -15,8 +15,8 @@ ghost use Rattle.rdb_ends.specs.Here.{TextHere, RunHere, ListHere, MemberHere, A
 use rdb_interface::SetCount;
 use rdb_text::Text;
 
-// What a counted list of an enum or an interface holds.
-#[derive(Clone, Copy)]
+/// What a counted list of an enum or an interface holds.
+#[derive(Clone, Copy, Debug, PartialEq, Eq)]
 pub enum Item {
     Member,
     Base,
@@ -24,7 +24,7 @@ pub enum Item {
     Method,
 }
 
-// A UInt32.
+/// A UInt32.
 pub fn count_at(file: &[u8], at: usize) -> usize
     requires { at + 4 ≤ length file.now }
     ensures { result ≡ le 4 file.now at }
@@ -32,7 +32,7 @@ pub fn count_at(file: &[u8], at: usize) -> usize
     number::le32_at(file, at) as usize
 }
 
-// The bytes of the Idx-String at `at`.
+/// The bytes of the Idx-String at `at`.
 pub fn text_at(file: &[u8], at: usize) -> Text
     requires { (length file.now ≤ file_limit) × TextHere file.now at }
     ensures { result ≡ text_of file.now at }
@@ -46,7 +46,7 @@ pub fn text_at(file: &[u8], at: usize) -> Text
     Text { at: q + 4, len: n }
 }
 
-// Where it ends.
+/// Where it ends.
 pub fn text_end(file: &[u8], at: usize) -> usize
     requires { (length file.now ≤ file_limit) × TextHere file.now at }
     ensures { result ≡ text_end file.now at }
@@ -58,21 +58,19 @@ pub fn text_end(file: &[u8], at: usize) -> usize
     at + 4
 }
 
-// Where n of them end.
+/// Where n of them end.
 pub fn texts_after(file: &[u8], n: usize, at: usize) -> usize
     requires { (length file.now ≤ file_limit) × RunHere file.now n at }
     ensures { result ≡ after (text_end file.now) n at }
 {
-    let mut k: usize = 0;
     let mut p = at;
-    while k < n {
+    for _ in 0..n {
         p = text_end(file, p);
-        k += 1;
     }
     p
 }
 
-// Where a counted list of them ends.
+/// Where a counted list of them ends.
 pub fn texts_end(file: &[u8], at: usize) -> usize
     requires { (length file.now ≤ file_limit) × ListHere file.now at }
     ensures { result ≡ texts_end file.now at }
@@ -92,7 +90,7 @@ fn notes_end(file: &[u8], annotated: bool, at: usize) -> usize
     at
 }
 
-// Where the annotations of a member stand.
+/// Where the annotations of a member stand.
 pub fn member_notes(file: &[u8], at: usize) -> usize
     requires { (length file.now ≤ file_limit) × MemberHere file.now at }
     ensures { result ≡ member_notes file.now at }
@@ -116,7 +114,7 @@ fn base_end(file: &[u8], annotated: bool, at: usize) -> usize
     notes_end(file, annotated, p)
 }
 
-// Where the get exceptions of an attribute stand.
+/// Where the get exceptions of an attribute stand.
 pub fn attribute_gets(file: &[u8], at: usize) -> usize
     requires { (length file.now ≤ file_limit) × ((m : SetCount) × AttributeHere m file.now at) }
     ensures { result ≡ attribute_gets file.now at }
@@ -125,7 +123,7 @@ pub fn attribute_gets(file: &[u8], at: usize) -> usize
     text_end(file, p)
 }
 
-// Its set exceptions.
+/// Its set exceptions.
 pub fn attribute_sets(file: &[u8], at: usize) -> usize
     requires { (length file.now ≤ file_limit) × ((m : SetCount) × AttributeHere m file.now at) }
     ensures { result ≡ attribute_sets file.now at }
@@ -134,7 +132,7 @@ pub fn attribute_sets(file: &[u8], at: usize) -> usize
     texts_end(file, p)
 }
 
-// Whether an attribute with that kind byte has a number of set exceptions.
+/// Whether an attribute with that kind byte has a number of set exceptions.
 pub fn has_sets(m: SetCount, kind: u8) -> bool
     ensures { result ≡ has_sets m kind }
 {
@@ -158,7 +156,7 @@ fn sets_end(file: &[u8], m: SetCount, kind: u8, at: usize) -> usize
     at
 }
 
-// Its annotations.
+/// Its annotations.
 pub fn attribute_notes(file: &[u8], m: SetCount, at: usize) -> usize
     requires { (length file.now ≤ file_limit) × AttributeHere m file.now at }
     ensures { result ≡ attribute_notes m file.now at }
@@ -183,21 +181,19 @@ fn parameter_end(file: &[u8], at: usize) -> usize
     text_end(file, p)
 }
 
-// Where n parameters end.
+/// Where n parameters end.
 pub fn parameters_after(file: &[u8], n: usize, at: usize) -> usize
     requires { (length file.now ≤ file_limit) × Accepted (many (read_parameter file.now) n at) }
     ensures { result ≡ after (parameter_end file.now) n at }
 {
-    let mut k: usize = 0;
     let mut p = at;
-    while k < n {
+    for _ in 0..n {
         p = parameter_end(file, p);
-        k += 1;
     }
     p
 }
 
-// Where the parameters of a method stand.
+/// Where the parameters of a method stand.
 pub fn method_parameters(file: &[u8], at: usize) -> usize
     requires { (length file.now ≤ file_limit) × MethodHere file.now at }
     ensures { result ≡ method_parameters file.now at }
@@ -206,7 +202,7 @@ pub fn method_parameters(file: &[u8], at: usize) -> usize
     text_end(file, p)
 }
 
-// Its exceptions.
+/// Its exceptions.
 pub fn method_exceptions(file: &[u8], at: usize) -> usize
     requires { (length file.now ≤ file_limit) × MethodHere file.now at }
     ensures { result ≡ method_exceptions file.now at }
@@ -216,7 +212,7 @@ pub fn method_exceptions(file: &[u8], at: usize) -> usize
     parameters_after(file, n, p + 4)
 }
 
-// Its annotations.
+/// Its annotations.
 pub fn method_notes(file: &[u8], at: usize) -> usize
     requires { (length file.now ≤ file_limit) × MethodHere file.now at }
     ensures { result ≡ method_notes file.now at }
@@ -245,7 +241,7 @@ fn item_end(file: &[u8], item: Item, m: SetCount, annotated: bool, at: usize) ->
     }
 }
 
-// Where n of them end.
+/// Where n of them end.
 pub fn items_after(
     file: &[u8],
     item: Item,
@@ -257,16 +253,14 @@ pub fn items_after(
     requires { (length file.now ≤ file_limit) × Accepted (many (read_item item m annotated file.now) n at) }
     ensures { result ≡ after (item_end item m annotated file.now) n at }
 {
-    let mut k: usize = 0;
     let mut p = at;
-    while k < n {
+    for _ in 0..n {
         p = item_end(file, item, m, annotated, p);
-        k += 1;
     }
     p
 }
 
-// Where a counted list of them ends.
+/// Where a counted list of them ends.
 pub fn items_end(file: &[u8], item: Item, m: SetCount, annotated: bool, at: usize) -> usize
     requires { (length file.now ≤ file_limit) × Accepted (counted (read_item item m annotated file.now) file.now at) }
     ensures { result ≡ items_end item m annotated file.now at }

@@ -1,13 +1,12 @@
 -- Document 001, the header; request #105: 2 as before, 31, then the root map and everything reachable.
 -- Assumes nothing.
-use Rattle.std.specs.Prelude.{Bool, List, [], ◌∷◌, ℕ, length, get_or}
+use Rattle.reading.specs.declared.Refusal.{Refusal}
+use Rattle.std.specs.Prelude.{Bool, List, [], ◌∷◌, ℕ, length, get_or, Err, Ok, Result}
 use Rattle.number.specs.Choice.{when◌then◌else◌, ◌<?◌, ◌≠?◌}
 use Rattle.number.specs.Limits.{file_limit}
 use Rattle.number.specs.Number.{le}
 use Rattle.number.specs.Scan.{some}
 use Rattle.reading.specs.Got.{Got, got, bad, next}
-use Rattle.reading.specs.declared.Verdict.{Verdict}
-use Rattle.reading.specs.declared.Verdict.TheVariants.{Accepted, Refused}
 use Rattle.rdb_map.specs.Map.{read_map}
 use Rattle.rdb_interface.specs.declared.SetCount.{SetCount}
 use Rattle.rdb_file.specs.Visit.{module_limit, Sound, each, visit_entity}
@@ -44,6 +43,6 @@ read_file m s =
     read_root m s
 
 -- the answer of the check: accepted, with how many entries were visited, or the first refusal
-unfoldable pub verdict_of : Got Sound → Verdict
-verdict_of (got x v) = Accepted v
-verdict_of (bad n q) = Refused (record { no = n; place = q })
+unfoldable pub verdict_of : Got Sound → Result ℕ Refusal
+verdict_of (got x v) = Ok v
+verdict_of (bad n q) = Err (record { no = n; place = q })

@@ -1,12 +1,11 @@
 -- What the check remembers, by offsets: texts, records and maps that were read well. A record gives the same however it was reached, but for refusals 36 and 37;
 -- a map that is read again counts its entries again, and what a module's entries lead to is visited again.
 -- Assumes nothing.
-use Rattle.std.specs.Prelude.{◌≡◌, true, List, ℕ, ◌+◌, ◌-◌, ◌*◌, get_or}
+use Rattle.reading.specs.declared.Refusal.{Refusal}
+use Rattle.std.specs.Prelude.{◌≡◌, true, List, ℕ, ◌+◌, ◌-◌, ◌*◌, get_or, Err, Ok, Result}
 use Rattle.number.specs.Choice.{when◌then◌else◌, ◌<?◌}
 use Rattle.number.specs.Number.{le}
 use Rattle.reading.specs.Got.{Accepted}
-use Rattle.reading.specs.declared.Step.{Step}
-use Rattle.reading.specs.declared.Step.TheVariants.{End, Refused}
 use Rattle.rdb_seen.specs.Marks.{marked}
 use Rattle.rdb_memory.specs.Memory.{mark_cells, text_cells, other_marks, Remembers}
 use Rattle.rdb_map.specs.Map.{visit_limit, entry_place, read_map}
@@ -26,10 +25,10 @@ abbrev pub constant_mark : ℕ → ℕ
 constant_mark o = other_marks + 2 * o + 1
 
 -- the map at `at` with n entries again, after v entries
-unfoldable pub count_again : ℕ → ℕ → ℕ → Step
+unfoldable pub count_again : ℕ → ℕ → ℕ → Result ℕ Refusal
 count_again v n at =
-    when visit_limit <? v + n then Refused (record { no = 37; place = entry_place at (visit_limit - v) }) else
-    End (entry_place at n)
+    when visit_limit <? v + n then Err (record { no = 37; place = entry_place at (visit_limit - v) }) else
+    Ok (entry_place at n)
 
 -- what an entity's mark stands for: the map of a module, all of another record
 pub record Known (m : SetCount) (s : List ℕ) (o : ℕ) : Type 0 where

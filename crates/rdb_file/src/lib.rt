@@ -20,7 +20,7 @@ use rdb_interface::SetCount;
 use rdb_map::{ENTRY_BYTES, VISIT_LIMIT};
 use rdb_memory::{MARK_CELLS, OTHER_MARKS};
 use rdb_stops::STOP_COUNT;
-use reading::{Refusal, Step, Verdict};
+use reading::{Refusal, Rule};
 
 pub fn is_annotated(k: u8) -> bool
     ensures { result ≡ is_annotated k }
@@ -98,17 +98,14 @@ fn pointer(x: u32) -> usize
 }
 
 // The map at `at` with n entries, which was read well before, after v entries.
-fn count_again(v: usize, n: usize, at: usize) -> Step
+fn count_again(v: usize, n: usize, at: usize) -> Result<usize, Refusal>
     requires { (v ≤ visit_limit) × (n ≤ 0xffffffff) × (at ≤ file_limit) }
     ensures { result ≡ count_again v n at }
 {
     if VISIT_LIMIT < v + n {
-        return Step::Refused(Refusal {
-            no: 37,
-            place: at + ENTRY_BYTES * (VISIT_LIMIT - v),
-        });
+        return Err(Rule::TypesEntries.at(at + ENTRY_BYTES * (VISIT_LIMIT - v)));
     }
-    Step::End(at + ENTRY_BYTES * n)
+    Ok(at + ENTRY_BYTES * n)
 }
 
 // The map of the module at o, unless it was read well before.
@@ -120,7 +117,7 @@ fn enter_map(
     o: usize,
     v: usize,
     n: usize,
-) -> Step
+) -> Result<usize, Refusal>
     requires { (length file.now ≤ file_limit) × (v ≤ visit_limit) × (visit_limit ≤ length t.old) × (seen_cells ≤ length seen.old) × (map_place o ≤ length file.now) × (get_or file.now o 0 ≡ module_kind) × (n ≡ le 4 file.now (count_place o)) × (n ≤ 0xffffffff) × Trusted file.now seen.old × (stop_count ≤ length stops.now) × Stopped file.now stops.now 0 }
     ensures { (result ≡ step_of (read_map file.now o v n (map_place o))) × Keeps file.now seen.old seen.new }
 {
@@ -128,45 +125,40 @@ fn enter_map(
     if rdb_seen::is_marked(seen, OTHER_MARKS + 2 * o) {
         return count_again(v, n, at);
     }
-    let r = rdb_map::check_map(file, stops, t, o, v, n, at);
-    let Step::End(e) = r else {
-        return r;
-    };
+    let end = rdb_map::check_map(file, stops, t, o, v, n, at)?;
     rdb_seen::mark(seen, OTHER_MARKS + 2 * o);
-    r
+    Ok(end)
 }
 
 // The constant at o, unless it was read well before.
-fn visit_constant(file: &[u8], seen: &mut [u32], o: usize, v: usize) -> Step
+fn visit_constant(file: &[u8], seen: &mut [u32], o: usize, v: usize) -> Result<usize, Refusal>
     requires { (length file.now ≤ file_limit) × (seen_cells ≤ length seen.old) × (o ≤ length file.now) × Trusted file.now seen.old }
     ensures { (result ≡ step_of (alone (read_constant file.now o) v)) × Keeps file.now seen.old seen.new }
 {
     if rdb_seen::is_marked(seen, OTHER_MARKS + 2 * o + 1) {
-        return Step::End(v);
+        return Ok(v);
     }
-    let r = rdb_record::read_constant(file, seen, o);
-    let Step::End(e) = r else {
-        return r;
-    };
+    rdb_record::read_constant(file, seen, o)?;
     rdb_seen::mark(seen, OTHER_MARKS + 2 * o + 1);
-    Step::End(v)
+    Ok(v)
 }
 
 // The constants of the n entries of the map at `at`.
-fn visit_constants(file: &[u8], seen: &mut [u32], n: usize, at: usize, v: usize) -> Step
+fn visit_constants(
+    file: &[u8],
+    seen: &mut [u32],
+    n: usize,
+    at: usize,
+    v: usize,
+) -> Result<usize, Refusal>
     requires { (length file.now ≤ file_limit) × (seen_cells ≤ length seen.old) × Stands file.now at n × Trusted file.now seen.old }
     ensures { ((es : List Entry) → Entered file.now at n es → result ≡ step_of (each (visit_constant file.now) es v)) × Keeps file.now seen.old seen.new }
 {
-    let mut i: usize = 0;
-    while i < n {
+    for i in 0..n {
         let o = pointer(number::le32_at(file, at + ENTRY_BYTES * i + 4));
-        let r = visit_constant(file, seen, o, v);
-        let Step::End(e) = r else {
-            return r;
-        };
-        i += 1;
+        visit_constant(file, seen, o, v)?;
     }
-    Step::End(v)
+    Ok(v)
 }
 
 // What the n entries of the map at `at` lead to, where `left` more modules may be entered.
@@ -181,23 +173,17 @@ fn visit_all(
     n: usize,
     at: usize,
     v: usize,
-) -> Step
+) -> Result<usize, Refusal>
     requires { (length file.now ≤ file_limit) × (v ≤ visit_limit) × (visit_limit ≤ length t.old) × (seen_cells ≤ length seen.old) × Stands file.now at n × Settled m file.now seen.old × (stop_count ≤ length stops.now) × Stopped file.now stops.now 0 }
     ensures { ((es : List Entry) → Entered file.now at n es → result ≡ step_of (each (visit_entity m left file.now) es v)) × Settled m file.now seen.new }
 {
-    let mut i: usize = 0;
     let mut w = v;
-    while i < n {
+    for i in 0..n {
         let p = at + ENTRY_BYTES * i;
         let o = pointer(number::le32_at(file, p + 4));
-        let r = visit_entity(file, stops, t, seen, m, left, p, o, w);
-        let Step::End(e) = r else {
-            return r;
-        };
-        w = e;
-        i += 1;
+        w = visit_entity(file, stops, t, seen, m, left, p, o, w)?;
     }
-    Step::End(w)
+    Ok(w)
 }
 
 // A module at o: its entries, then what they lead to.
@@ -211,23 +197,17 @@ fn visit_module(
     left: usize,
     o: usize,
     v: usize,
-) -> Step
+) -> Result<usize, Refusal>
     requires { (length file.now ≤ file_limit) × (v ≤ visit_limit) × (visit_limit ≤ length t.old) × (seen_cells ≤ length seen.old) × (o ≤ length file.now) × (get_or file.now o 0 ≡ module_kind) × Settled m file.now seen.old × (stop_count ≤ length stops.now) × Stopped file.now stops.now 0 }
     ensures { (result ≡ step_of (visit_module (visit_entity m left file.now) file.now o v)) × Settled m file.now seen.new }
 {
     let field = o + COUNT_PLACE;
     let at = o + MAP_PLACE;
     if file.len() < at {
-        return Step::Refused(Refusal {
-            no: 32,
-            place: field,
-        });
+        return Err(Rule::TypesField.at(field));
     }
     let n = pointer(number::le32_at(file, field));
-    let r = enter_map(file, stops, t, seen, o, v, n);
-    let Step::End(e) = r else {
-        return r;
-    };
+    enter_map(file, stops, t, seen, o, v, n)?;
     visit_all(file, stops, t, seen, m, left, n, at, v + n)
 }
 
@@ -243,22 +223,22 @@ fn visit_entity(
     place: usize,
     o: usize,
     v: usize,
-) -> Step
+) -> Result<usize, Refusal>
     requires { (length file.now ≤ file_limit) × (v ≤ visit_limit) × (visit_limit ≤ length t.old) × (seen_cells ≤ length seen.old) × (o ≤ length file.now) × Settled m file.now seen.old × (stop_count ≤ length stops.now) × Stopped file.now stops.now 0 }
     ensures { (result ≡ step_of (visit_entity m left file.now place o v)) × Settled m file.now seen.new }
 {
     if file.len() <= o {
-        return Step::Refused(Refusal { no: 32, place: o });
+        return Err(Rule::TypesField.at(o));
     }
     let k = file[o];
     if k == MODULE {
         if left == 0 {
-            return Step::Refused(Refusal { no: 36, place });
+            return Err(Rule::TypesNesting.at(place));
         }
         return visit_module(file, stops, t, seen, m, left - 1, o, v);
     }
     if is_reserved(k) {
-        return Step::Refused(Refusal { no: 34, place: o });
+        return Err(Rule::TypesValue.at(o));
     }
     visit_known(file, stops, t, seen, m, k, o, v)
 }
@@ -272,27 +252,18 @@ fn visit_group(
     k: u8,
     o: usize,
     v: usize,
-) -> Step
+) -> Result<usize, Refusal>
     requires { (length file.now ≤ file_limit) × (v ≤ visit_limit) × (visit_limit ≤ length t.old) × (seen_cells ≤ length seen.old) × (o ≤ length file.now) × Trusted file.now seen.old × (stop_count ≤ length stops.now) × Stopped file.now stops.now 0 }
     ensures { (result ≡ step_of (visit_group file.now k o v)) × Keeps file.now seen.old seen.new }
 {
     let field = o + COUNT_PLACE;
     let at = o + MAP_PLACE;
     if file.len() < at {
-        return Step::Refused(Refusal {
-            no: 32,
-            place: field,
-        });
+        return Err(Rule::TypesField.at(field));
     }
     let n = pointer(number::le32_at(file, field));
-    let r = rdb_map::check_map(file, stops, t, o, v, n, at);
-    let Step::End(e) = r else {
-        return r;
-    };
-    let q = rdb_record::read_notes(file, seen, is_annotated(k), e);
-    let Step::End(d) = q else {
-        return q;
-    };
+    let notes = rdb_map::check_map(file, stops, t, o, v, n, at)?;
+    rdb_record::read_notes(file, seen, is_annotated(k), notes)?;
     visit_constants(file, seen, n, at, v + n)
 }
 
@@ -306,45 +277,36 @@ fn visit_record(
     k: u8,
     o: usize,
     v: usize,
-) -> Step
+) -> Result<usize, Refusal>
     requires { (length file.now ≤ file_limit) × (v ≤ visit_limit) × (visit_limit ≤ length t.old) × (seen_cells ≤ length seen.old) × (o + 1 ≤ length file.now) × Trusted file.now seen.old × (stop_count ≤ length stops.now) × Stopped file.now stops.now 0 }
     ensures { (result ≡ step_of (visit_record m file.now k o v)) × Keeps file.now seen.old seen.new }
 {
     let from = o + 1;
     if k % 32 == ENUM {
-        let r = rdb_record::read_enum(file, seen, is_annotated(k), from);
-        let Step::End(e) = r else {
-            return r;
-        };
-        return Step::End(v);
+        rdb_record::read_enum(file, seen, is_annotated(k), from)?;
+        return Ok(v);
     }
     if k % 32 == INTERFACE {
-        let q = rdb_interface::read_interface(file, seen, m, is_annotated(k), from);
-        let Step::End(d) = q else {
-            return q;
-        };
-        return Step::End(v);
+        rdb_interface::read_interface(file, seen, m, is_annotated(k), from)?;
+        return Ok(v);
     }
     if k % 32 == GROUP {
         return visit_group(file, stops, t, seen, k, o, v);
     }
-    Step::End(v)
+    Ok(v)
 }
 
 // One that was read well before: a constant group's entries count again.
-fn visit_again(file: &[u8], k: u8, o: usize, v: usize) -> Step
+fn visit_again(file: &[u8], k: u8, o: usize, v: usize) -> Result<usize, Refusal>
     requires { (length file.now ≤ file_limit) × (v ≤ visit_limit) × (o ≤ length file.now) × Visited file.now k o }
     ensures { (m : SetCount) (u : ℕ) → Accepted (visit_record m file.now k o u) → result ≡ step_of (visit_record m file.now k o v) }
 {
     if k % 32 != GROUP {
-        return Step::End(v);
+        return Ok(v);
     }
     let n = pointer(number::le32_at(file, o + COUNT_PLACE));
-    let r = count_again(v, n, o + MAP_PLACE);
-    let Step::End(e) = r else {
-        return r;
-    };
-    Step::End(v + n)
+    count_again(v, n, o + MAP_PLACE)?;
+    Ok(v + n)
 }
 
 // The same, read now or before.
@@ -357,19 +319,16 @@ fn visit_known(
     k: u8,
     o: usize,
     v: usize,
-) -> Step
+) -> Result<usize, Refusal>
     requires { (length file.now ≤ file_limit) × (v ≤ visit_limit) × (visit_limit ≤ length t.old) × (seen_cells ≤ length seen.old) × (o + 1 ≤ length file.now) × (k ≡ get_or file.now o 0) × (module_kind < k) × Settled m file.now seen.old × (stop_count ≤ length stops.now) × Stopped file.now stops.now 0 }
     ensures { (result ≡ step_of (visit_record m file.now k o v)) × Settled m file.now seen.new }
 {
     if rdb_seen::is_marked(seen, OTHER_MARKS + 2 * o) {
         return visit_again(file, k, o, v);
     }
-    let r = visit_record(file, stops, t, seen, m, k, o, v);
-    let Step::End(e) = r else {
-        return r;
-    };
+    let w = visit_record(file, stops, t, seen, m, k, o, v)?;
     rdb_seen::mark(seen, OTHER_MARKS + 2 * o);
-    r
+    Ok(w)
 }
 
 const MAGIC: [u8; 7] = [85, 78, 79, 73, 68, 76, 255];
@@ -379,50 +338,48 @@ fn off_magic(file: &[u8]) -> bool
     requires { 16 ≤ length file.now }
     ensures { result ≡ some (off_magic file.now) 7 }
 {
-    let mut i: usize = 0;
-    while i < 7 {
+    for i in 0..7 {
         if file[i] != MAGIC[i] {
             return true;
         }
-        i += 1;
     }
     false
 }
 
 // The root map, and what its entries lead to.
-fn check_root(file: &[u8], stops: &[u32], t: &mut [u16], seen: &mut [u32], m: SetCount) -> Step
+fn check_root(
+    file: &[u8],
+    stops: &[u32],
+    t: &mut [u16],
+    seen: &mut [u32],
+    m: SetCount,
+) -> Result<usize, Refusal>
     requires { (16 ≤ length file.now) × (length file.now ≤ file_limit) × (visit_limit ≤ length t.old) × (seen_cells ≤ length seen.old) × Settled m file.now seen.old × (stop_count ≤ length stops.now) × Stopped file.now stops.now 0 }
     ensures { result ≡ step_of (read_root m file.now) }
 {
     let at = pointer(number::le32_at(file, 8));
     if file.len() < at {
-        return Step::Refused(Refusal { no: 32, place: 8 });
+        return Err(Rule::TypesField.at(8));
     }
     let n = pointer(number::le32_at(file, 12));
-    let r = rdb_map::check_map(file, stops, t, at, 0, n, at);
-    let Step::End(e) = r else {
-        return r;
-    };
+    rdb_map::check_map(file, stops, t, at, 0, n, at)?;
     visit_all(file, stops, t, seen, m, MODULE_LIMIT, n, at, n)
 }
 
-fn read_file(file: &[u8], m: SetCount) -> Step
+fn read_file(file: &[u8], m: SetCount) -> Result<usize, Refusal>
     ensures { result ≡ step_of (read_file m file.now) }
 {
     if FILE_LIMIT < file.len() {
-        return Step::Refused(Refusal {
-            no: 2,
-            place: FILE_LIMIT,
-        });
+        return Err(Rule::Long.at(FILE_LIMIT));
     }
     if file.len() < 16 {
-        return Step::Refused(Refusal { no: 31, place: 0 });
+        return Err(Rule::TypesHeader.at(0));
     }
     if off_magic(file) {
-        return Step::Refused(Refusal { no: 31, place: 0 });
+        return Err(Rule::TypesHeader.at(0));
     }
     if file[7] != 0 {
-        return Step::Refused(Refusal { no: 31, place: 7 });
+        return Err(Rule::TypesHeader.at(7));
     }
     let mut t = [0u16; VISIT_LIMIT];
     let mut seen = [0u32; SEEN_CELLS];
@@ -432,11 +389,8 @@ fn read_file(file: &[u8], m: SetCount) -> Step
 }
 
 // Whether a file follows document 001, read as `m` says: accepted with how many entries were visited, or the first refusal.
-pub fn check(file: &[u8], m: SetCount) -> Verdict
+pub fn check(file: &[u8], m: SetCount) -> Result<usize, Refusal>
     ensures { result ≡ verdict_of (read_file m file.now) }
 {
-    match read_file(file, m) {
-        Step::End(v) => Verdict::Accepted(v),
-        Step::Refused(why) => Verdict::Refused(why),
-    }
+    read_file(file, m)
 }

@@ -1,11 +1,9 @@
 -- What is said of the lists inside a part, by where they stand.
 -- Assumes nothing.
-use Rattle.std.specs.Prelude.{Bool, List, ℕ}
+use Rattle.std.specs.Prelude.{Bool, List, ℕ, None, Option, Some}
 use Rattle.number.specs.Choice.{when◌then◌else◌}
 use Rattle.rdb_interface.specs.declared.SetCount.{SetCount}
 use Rattle.rdb_interface.specs.Interface.{where_sets}
-use Rattle.rdb_path.specs.declared.Place.{Place}
-use Rattle.rdb_path.specs.declared.Place.TheVariants.{At, Nowhere}
 use Rattle.rdb_ends.specs.Ends.{parameter_end}
 use Rattle.rdb_places.specs.Places.{place_in}
 use Rattle.rdb_parts.specs.declared.PartAnswer.{PartAnswer}
@@ -20,9 +18,9 @@ note_text a s at j = when a then list_text s at j else answer.None
 unfoldable pub set_text : SetCount → ℕ → List ℕ → ℕ → ℕ → PartAnswer
 set_text m k s at j = where_sets m k (list_text s at j) answer.None
 
-unfoldable pub typed_in : List ℕ → Place → PartAnswer
-typed_in s (At p) = typed_at s p
-typed_in s Nowhere = answer.None
+unfoldable pub typed_in : List ℕ → Option ℕ → PartAnswer
+typed_in s (Some p) = typed_at s p
+typed_in s None = answer.None
 
 -- parameter j of those counted at `at`
 unfoldable pub parameter_text : List ℕ → ℕ → ℕ → PartAnswer

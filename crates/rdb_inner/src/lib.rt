@@ -1,4 +1,4 @@
-// The counted lists inside a part of an entity of a types.rdb, each element by its position from 0.
+//! The counted lists inside a part of an entity of a types.rdb, each element by its position from 0.
 #![tactic(auto)]
 
 ghost use Rattle.std.specs.Prelude.{◌≡◌, ◌≤◌, ◌<◌, length, get_or};
@@ -19,8 +19,6 @@ ghost use Rattle.rdb_inner.specs.Inside.{note_text, set_text, parameter_text};
 use rdb_interface::SetCount;
 use rdb_map::ENTRY_BYTES;
 use rdb_parts::{Inner, PartAnswer};
-use rdb_path::Place;
-use reading::Verdict;
 
 // Annotation j of those at `at`, where there are any.
 fn note_part(file: &[u8], annotated: bool, at: usize, j: usize) -> PartAnswer
@@ -97,12 +95,12 @@ fn member_note(file: &[u8], m: SetCount, o: usize, i: usize, j: usize) -> PartAn
     ensures { result ≡ nth (member_note j) i (members_of file.now o) }
 {
     match rdb_places::member_place(file, m, o, i) {
-        Place::At(p) => {
+        Some(p) => {
             let a = annotated(file, o);
             let q = rdb_ends::member_notes(file, p);
             note_part(file, a, q, j)
         }
-        Place::Nowhere => PartAnswer::None,
+        None => PartAnswer::None,
     }
 }
 
@@ -112,12 +110,12 @@ fn base_note(file: &[u8], m: SetCount, o: usize, i: usize, j: usize) -> PartAnsw
     ensures { result ≡ nth (base_note j) i (interface_list interface_bases m file.now o) }
 {
     match rdb_places::base_place(file, m, o, i) {
-        Place::At(p) => {
+        Some(p) => {
             let a = annotated(file, o);
             let q = rdb_ends::text_end(file, p);
             note_part(file, a, q, j)
         }
-        Place::Nowhere => PartAnswer::None,
+        None => PartAnswer::None,
     }
 }
 
@@ -127,12 +125,12 @@ fn optional_note(file: &[u8], m: SetCount, o: usize, i: usize, j: usize) -> Part
     ensures { result ≡ nth (base_note j) i (interface_list interface_optionals m file.now o) }
 {
     match rdb_places::optional_place(file, m, o, i) {
-        Place::At(p) => {
+        Some(p) => {
             let a = annotated(file, o);
             let q = rdb_ends::text_end(file, p);
             note_part(file, a, q, j)
         }
-        Place::Nowhere => PartAnswer::None,
+        None => PartAnswer::None,
     }
 }
 
@@ -142,11 +140,11 @@ fn get_exception(file: &[u8], m: SetCount, o: usize, i: usize, j: usize) -> Part
     ensures { result ≡ nth (attribute_get j) i (interface_list interface_attributes m file.now o) }
 {
     match rdb_places::attribute_place(file, m, o, i) {
-        Place::At(p) => {
+        Some(p) => {
             let q = rdb_ends::attribute_gets(file, p);
             rdb_parts::list_part(file, q, j)
         }
-        Place::Nowhere => PartAnswer::None,
+        None => PartAnswer::None,
     }
 }
 
@@ -156,11 +154,11 @@ fn set_exception(file: &[u8], m: SetCount, o: usize, i: usize, j: usize) -> Part
     ensures { result ≡ nth (attribute_set j) i (interface_list interface_attributes m file.now o) }
 {
     match rdb_places::attribute_place(file, m, o, i) {
-        Place::At(p) => {
+        Some(p) => {
             let q = rdb_ends::attribute_sets(file, p);
             set_part(file, m, file[p], q, j)
         }
-        Place::Nowhere => PartAnswer::None,
+        None => PartAnswer::None,
     }
 }
 
@@ -170,12 +168,12 @@ fn attribute_note(file: &[u8], m: SetCount, o: usize, i: usize, j: usize) -> Par
     ensures { result ≡ nth (attribute_note j) i (interface_list interface_attributes m file.now o) }
 {
     match rdb_places::attribute_place(file, m, o, i) {
-        Place::At(p) => {
+        Some(p) => {
             let a = annotated(file, o);
             let q = rdb_ends::attribute_notes(file, m, p);
             note_part(file, a, q, j)
         }
-        Place::Nowhere => PartAnswer::None,
+        None => PartAnswer::None,
     }
 }
 
@@ -185,11 +183,11 @@ fn parameter_of(file: &[u8], m: SetCount, o: usize, i: usize, j: usize) -> PartA
     ensures { result ≡ nth (method_parameter j) i (interface_list interface_methods m file.now o) }
 {
     match rdb_places::method_place(file, m, o, i) {
-        Place::At(p) => {
+        Some(p) => {
             let q = rdb_ends::method_parameters(file, p);
             parameter_part(file, q, j)
         }
-        Place::Nowhere => PartAnswer::None,
+        None => PartAnswer::None,
     }
 }
 
@@ -199,11 +197,11 @@ fn exception_of(file: &[u8], m: SetCount, o: usize, i: usize, j: usize) -> PartA
     ensures { result ≡ nth (method_exception j) i (interface_list interface_methods m file.now o) }
 {
     match rdb_places::method_place(file, m, o, i) {
-        Place::At(p) => {
+        Some(p) => {
             let q = rdb_ends::method_exceptions(file, p);
             rdb_parts::list_part(file, q, j)
         }
-        Place::Nowhere => PartAnswer::None,
+        None => PartAnswer::None,
     }
 }
 
@@ -213,12 +211,12 @@ fn method_note(file: &[u8], m: SetCount, o: usize, i: usize, j: usize) -> PartAn
     ensures { result ≡ nth (method_note j) i (interface_list interface_methods m file.now o) }
 {
     match rdb_places::method_place(file, m, o, i) {
-        Place::At(p) => {
+        Some(p) => {
             let a = annotated(file, o);
             let q = rdb_ends::method_notes(file, p);
             note_part(file, a, q, j)
         }
-        Place::Nowhere => PartAnswer::None,
+        None => PartAnswer::None,
     }
 }
 
@@ -247,12 +245,13 @@ fn find_inner(file: &[u8], m: SetCount, path: &[u8], which: Inner, i: usize, j: 
     ensures { result ≡ part_found (inner_at m file.now which i j) (entity_at file.now (cut path.now)) }
 {
     match rdb_path::entity_at(file, path) {
-        Place::At(o) => inner_at(file, m, which, i, j, o),
-        Place::Nowhere => PartAnswer::None,
+        Some(o) => inner_at(file, m, which, i, j, o),
+        None => PartAnswer::None,
     }
 }
 
-// Element j of a list inside part i of the entity that a dotted path leads to, both counted from 0; one that there is not is none.
+/// Element j of a list inside part i of the entity that a dotted path leads to, both counted from 0; one that there is
+/// not is none.
 pub fn inner_by_path(
     file: &[u8],
     m: SetCount,
@@ -264,7 +263,7 @@ pub fn inner_by_path(
     ensures { result ≡ ask_inner m (read_file m file.now) file.now path.now which i j }
 {
     match rdb_file::check(file, m) {
-        Verdict::Accepted(v) => find_inner(file, m, path, which, i, j),
-        Verdict::Refused(why) => PartAnswer::Refused(why),
+        Ok(_) => find_inner(file, m, path, which, i, j),
+        Err(why) => PartAnswer::Refused(why),
     }
 }

@@ -1,4 +1,4 @@
-// The line of a path of a types.rdb, passed through a buffer: what the path leads to, and the path.
+//! The line of a path of a types.rdb, passed through a buffer: what the path leads to, and the path.
 #![tactic(auto)]
 
 ghost use Rattle.std.specs.Prelude.{◌≡◌, ◌++◌, ◌+◌, ◌≤◌, ◌<◌, length, set};
@@ -15,11 +15,11 @@ ghost use Rattle.rdb_line.specs.Text.{step_text, path_text, path_end, line_text}
 ghost use Rattle.rdb_line.specs.Spelt.{word_room, line_room, place_limit, words_at, Spelt, Stored, line_of};
 ghost use Rattle.rdb_line.specs.declared.Target.TheVariants.{Entity, Constant};
 
-// No path has more words: below sixteen modules, one in another, a constant of a group.
+/// No path has more words: below sixteen modules, one in another, a constant of a group.
 pub const PATH_LIMIT: usize = 18;
 
-// What a path leads to, by its offset.
-#[derive(Drop)]
+/// What a path leads to, by its offset.
+#[derive(Clone, Copy, Debug, PartialEq, Eq)]
 pub enum Target {
     Entity(usize),
     Constant(usize),
@@ -31,7 +31,7 @@ fn pointer(x: u32) -> usize
     x as usize
 }
 
-// The path that goes on from the first words of another with the entry at p.
+/// The path that goes on from the first words of another with the entry at p.
 pub fn longer(places: [usize; PATH_LIMIT], depth: usize, p: usize) -> [usize; PATH_LIMIT]
     requires { depth < 18 }
     ensures { result ≡ set places depth p }
@@ -48,6 +48,7 @@ fn put_word(out: &mut [u8], from: usize, place: usize, file: &[u8], q: usize) ->
 {
     let mut i = q;
     let mut at = place;
+    // A `while`: the end of the word shows as it is passed, and a range would want a pass over it first.
     while file[i] != 0 {
         at = window::put_shown_byte(out, from, at, file, i);
         i += 1;
@@ -161,7 +162,7 @@ fn put_constant(
     put_end(out, from, path, file, places, depth)
 }
 
-// The line of what the path of the first `depth` entries leads to.
+/// The line of what the path of the first `depth` entries leads to.
 pub fn put_line(
     out: &mut [u8],
     from: usize,

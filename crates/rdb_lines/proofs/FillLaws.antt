@@ -1,5 +1,6 @@
 -- What a buffer gives of the listing, once its lines were met.
 -- Assumes nothing.
+use Rattle.std.specs.Prelude.{None, Some}
 use mathlib.Core.Path.{◌≡◌, refl, sym, ap, ◌∙◌, subst}
 use mathlib.Core.Bool.{Bool, true, false}
 use mathlib.Core.List.{List, [], ◌∷◌, ◌++◌, append_assoc, append-nil}
@@ -20,7 +21,6 @@ use Rattle.window.proofs.WindowLaws.{window-append, length-window, window_whole}
 use Rattle.rdb_line.specs.Text.{line_text, lines_text}
 use Rattle.rdb_line.specs.Spelt.{words_at}
 use Rattle.rdb_lines.specs.declared.Cursor.{Cursor}
-use Rattle.rdb_lines.specs.declared.Rest.TheVariants.{Over, At}
 use Rattle.rdb_lines.specs.declared.Pass.{Pass}
 use Rattle.rdb_lines.specs.Walk.{buffer_bytes, unpassed, passed, stepped, shown_line, pass_all, show_all, Walked, Fit, Ready}
 use Rattle.rdb_lines.specs.Rest.{paths_text, first, left_at, next_cursor, left_in, buffers, Begun, Fills}
@@ -197,7 +197,7 @@ module _ (s : List ℕ) (c : Cursor) {before after : List ℕ} {p : Pass} (w : W
       ∙ ap (λ (k : ℕ). sets before 0 (take k (drop c.place (text_from s c)))) n
 
   -- all that was left fits
-  pub Fills-over : {k : ℕ} → p.place < c.place + buffer_bytes → k ≡ p.place - c.place → Fills s c before (record { length = k; rest = Over }) after
+  pub Fills-over : {k : ℕ} → p.place < c.place + buffer_bytes → k ≡ p.place - c.place → Fills s c before (record { length = k; rest = None }) after
   unfolding left_in buffers
   Fills-over h e =
       let l : length (drop c.place (text_from s c)) ≡ p.place - c.place = length-drop c.place (text_from s c) ∙ ap (λ (k : ℕ). k - c.place) (sym (ended.over h)) in
@@ -244,7 +244,7 @@ module _ (s : List ℕ) (c : Cursor) {before after : List ℕ} {p : Pass} (w : W
           let m = ap length (lines_more last.line last.rest) ∙ length-append (line_text last.line) (lines_text last.rest) in
           omega (arith, g, m, last.start, last.reach, h)
 
-      Fills-next : Fills s c before (record { length = buffer_bytes; rest = At (next_cursor c p) }) after
+      Fills-next : Fills s c before (record { length = buffer_bytes; rest = Some (next_cursor c p) }) after
       unfolding left_in buffers
       Fills-next =
           let b = take buffer_bytes (drop c.place (text_from s c)) in
@@ -253,5 +253,5 @@ module _ (s : List ℕ) (c : Cursor) {before after : List ℕ} {p : Pass} (w : W
           let g = ap length e ∙ length-append b (left_at s (next_cursor c p)) in
           record { bytes = b; split = e; long = sym l; stored = filled; near = omega (arith, f.last, h); fewer = omega (arith, g, l); inside = omega (arith, Walked-kept w, n) }
 
-      pub Fills-full : {d : Cursor} → d ≡ next_cursor c p → Fills s c before (record { length = buffer_bytes; rest = At d }) after
-      Fills-full e = subst (λ (d : Cursor). Fills s c before (record { length = buffer_bytes; rest = At d }) after) (sym e) Fills-next
+      pub Fills-full : {d : Cursor} → d ≡ next_cursor c p → Fills s c before (record { length = buffer_bytes; rest = Some d }) after
+      Fills-full e = subst (λ (d : Cursor). Fills s c before (record { length = buffer_bytes; rest = Some d }) after) (sym e) Fills-next

@@ -1,14 +1,12 @@
 -- What is left of the listing at a cursor, and what each buffer gives of it.
 -- Assumes nothing.
-use Rattle.std.specs.Prelude.{◌≡◌, List, [], ◌++◌, ℕ, ◌+◌, ◌-◌, ◌≤◌, ◌<◌, length, drop}
+use Rattle.std.specs.Prelude.{◌≡◌, List, [], ◌++◌, ℕ, ◌+◌, ◌-◌, ◌≤◌, ◌<◌, length, drop, None, Option, Some}
 use Rattle.std.proofs.lemmas.List.Edits.{sets}
 use Rattle.rdb_path.specs.Reached.{Checked}
 use Rattle.rdb_list.specs.Listed.{list_of}
 use Rattle.rdb_line.specs.Text.{lines_text}
 use Rattle.rdb_line.specs.Spelt.{line_room}
 use Rattle.rdb_lines.specs.declared.Cursor.{Cursor}
-use Rattle.rdb_lines.specs.declared.Rest.{Rest}
-use Rattle.rdb_lines.specs.declared.Rest.TheVariants.{Over, At}
 use Rattle.rdb_lines.specs.declared.Filled.{Filled}
 use Rattle.rdb_lines.specs.declared.Pass.{Pass}
 use Rattle.rdb_lines.specs.Walk.{buffer_bytes}
@@ -29,23 +27,23 @@ left_at s c = drop c.place (lines_text (drop c.line (list_of s)))
 abbrev pub next_cursor : Cursor → Pass → Cursor
 next_cursor c p = record { line = c.line + (p.lines - 1); place = c.place + buffer_bytes - p.mark }
 
-unfoldable pub left_in : List ℕ → Rest → List ℕ
-left_in s Over = []
-left_in s (At c) = left_at s c
+unfoldable pub left_in : List ℕ → Option Cursor → List ℕ
+left_in s None = []
+left_in s (Some c) = left_at s c
 
 -- no more buffers than this are left
-unfoldable pub buffers : List ℕ → Rest → ℕ
-buffers s Over = 0
-buffers s (At c) = 1 + length (left_at s c)
+unfoldable pub buffers : List ℕ → Option Cursor → ℕ
+buffers s None = 0
+buffers s (Some c) = 1 + length (left_at s c)
 
 -- a buffer begins no farther from its line's first byte than a line is long
-abbrev pub Near : Rest → Type 0
-Near Over = Unit {0}
-Near (At c) = c.place ≤ line_room
+abbrev pub Near : Option Cursor → Type 0
+Near None = Unit {0}
+Near (Some c) = c.place ≤ line_room
 
 pub record Begun (s : List ℕ) (c : Cursor) : Type 0 where
   pub checked : Checked s
-  pub near : Near (At c)
+  pub near : Near (Some c)
 
 -- of what is left at c, the first part is at the front of the buffer, nothing else was changed, and the rest is left
 pub record Fills (s : List ℕ) (c : Cursor) (before : List ℕ) (r : Filled) (after : List ℕ) : Type 0 where
@@ -54,5 +52,5 @@ pub record Fills (s : List ℕ) (c : Cursor) (before : List ℕ) (r : Filled) (a
   pub long : r.length ≡ length bytes
   pub stored : after ≡ sets before 0 bytes
   pub near : Near r.rest
-  pub fewer : buffers s r.rest < buffers s (At c)
+  pub fewer : buffers s r.rest < buffers s (Some c)
   pub inside : r.length ≤ length after

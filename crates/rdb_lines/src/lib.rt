@@ -1,5 +1,6 @@
-// The listing of a types.rdb that was accepted, buffer by buffer: its text can be far longer than the file. For each buffer the entries are visited again:
-// lines that stand before the buffer's are counted, and none is spelt after its end.
+//! The listing of a types.rdb that was accepted, buffer by buffer: its text can be far longer than the file. For each
+//! buffer the entries are visited again: lines that stand before the buffer's are counted, and none is spelt after its
+//! end.
 #![tactic(auto)]
 
 ghost use Rattle.std.specs.Prelude.{◌≡◌, [], ◌∷◌, ◌+◌, ◌≤◌, ◌<◌};
@@ -20,29 +21,23 @@ const BUFFER: usize = 65536;
 
 const MODULE_LIMIT: usize = 16;
 
-// Where a buffer begins: at a byte of the text from the line of this number on, counted from 0.
-#[derive(Clone, Copy)]
+/// Where a buffer begins: at a byte of the text from the line of this number on, counted from 0.
+#[derive(Clone, Copy, Debug, PartialEq, Eq)]
 pub struct Cursor {
     pub line: usize,
     pub place: usize,
 }
 
-// What is left: nothing, or the text from a cursor on.
-#[derive(Drop)]
-pub enum Rest {
-    Over,
-    At(Cursor),
-}
-
-// How many bytes of the buffer were filled, and what is left after them.
-#[derive(Drop)]
+/// How many bytes of the buffer were filled, and what is left after them.
+#[derive(Clone, Copy, Debug, PartialEq, Eq)]
 pub struct Filled {
     pub length: usize,
-    pub rest: Rest,
+    pub rest: Option<Cursor>,
 }
 
-// How far the lines were passed: how many are to be left out first; of the others how many were passed, and their bytes; where the last of them begins.
-#[derive(Drop)]
+/// How far the lines were passed: how many are to be left out first; of the others how many were passed, and their
+/// bytes; where the last of them begins.
+#[derive(Clone, Copy, Debug, PartialEq, Eq)]
 pub struct Pass {
     pub skip: usize,
     pub lines: usize,
@@ -104,9 +99,8 @@ fn pass_constants(
     requires { Ready file.now places depth from p × (depth ≤ 17) × Holds (visit_constant file.now) file.now at n }
     ensures { Walked from (constant_lines file.now (words_at file.now places depth) at n 0) p out.old result out.new × Fit from result }
 {
-    let mut i: usize = 0;
     let mut q = p;
-    while i < n {
+    for i in 0..n {
         if from + BUFFER <= q.place {
             return q;
         }
@@ -114,7 +108,6 @@ fn pass_constants(
         let o = pointer(number::le32_at(file, e + 4));
         let path = rdb_line::longer(places, depth, e);
         q = pass_line(file, path, depth + 1, Target::Constant(o), from, q, out);
-        i += 1;
     }
     q
 }
@@ -190,9 +183,8 @@ fn pass_all(
     requires { Ready file.now places depth from p × (depth + left ≤ 16) × ((m : SetCount) × Reached m file.now at n) }
     ensures { Walked from (entity_lines (held_lines left file.now) file.now (words_at file.now places depth) at n 0) p out.old result out.new × Fit from result }
 {
-    let mut i: usize = 0;
     let mut q = p;
-    while i < n {
+    for i in 0..n {
         if from + BUFFER <= q.place {
             return q;
         }
@@ -201,7 +193,6 @@ fn pass_all(
         let path = rdb_line::longer(places, depth, e);
         let line = pass_line(file, path, depth + 1, Target::Entity(o), from, q, out);
         q = pass_held(file, path, depth + 1, left, o, from, line, out);
-        i += 1;
     }
     q
 }
@@ -217,7 +208,7 @@ fn next_cursor(c: Cursor, p: Pass) -> Cursor
     }
 }
 
-// The next bytes of the listing, as many as the buffer has.
+/// The next bytes of the listing, as many as the buffer has.
 pub fn fill(file: &[u8], c: Cursor, out: &mut [u8; BUFFER]) -> Filled
     requires { Begun file.now c }
     ensures { Fills file.now c out.old result out.new }
@@ -247,17 +238,17 @@ pub fn fill(file: &[u8], c: Cursor, out: &mut [u8; BUFFER]) -> Filled
     if from + BUFFER <= place {
         return Filled {
             length: BUFFER,
-            rest: Rest::At(next_cursor(c, p)),
+            rest: Some(next_cursor(c, p)),
         };
     }
     if place < from {
         return Filled {
             length: 0,
-            rest: Rest::Over,
+            rest: None,
         };
     }
     Filled {
         length: place - from,
-        rest: Rest::Over,
+        rest: None,
     }
 }

@@ -1,2 +1,2 @@
-// What a types.rdb holds, entry by entry.
+//! What a types.rdb holds, entry by entry.
 #![tactic(auto)]

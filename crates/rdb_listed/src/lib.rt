@@ -1,2 +1,2 @@
-// No code: what the listing of a types.rdb says of a path is what is answered about it.
+//! No code: what the listing of a types.rdb says of a path is what is answered about it.
 #![tactic(auto)]

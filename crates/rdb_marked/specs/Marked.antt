@@ -1,19 +1,16 @@
 -- The marked cases of types.rdb, as one table of what contracts cite.
 -- Assumes nothing.
-use Rattle.std.specs.Prelude.{true, List, [], ◌∷◌, ℕ, negsuc}
+use Rattle.rdb_value.specs.declared.Value.{Value}
+use Rattle.rdb.specs.declared.Entity.{Entity}
+use Rattle.reading.specs.declared.Refusal.{Refusal}
+use Rattle.std.specs.Prelude.{true, List, [], ◌∷◌, ℕ, negsuc, Err, None, Ok, Option, Result as Outcome, Some}
 use Rattle.std.specs.Float.{binary32, binary64}
 use Rattle.std.specs.Float.Ieee.{of_bits}
-use Rattle.reading.specs.declared.Verdict.{Verdict}
-use Rattle.reading.specs.declared.Verdict.TheVariants.{Accepted, Refused}
 use Rattle.rdb_text.specs.declared.Text.{Text}
 use Rattle.rdb_interface.specs.declared.SetCount.{SetCount}
 use Rattle.rdb_interface.specs.declared.SetCount.TheVariants.{Always, UnlessReadOnly}
 use Rattle.rdb_value.specs.declared.Value.TheVariants.{Boolean, Byte, Short, UnsignedShort, Long, UnsignedLong, Hyper, UnsignedHyper, Float, Double, FloatNan}
 use Rattle.rdb_file.specs.File.{read_file, verdict_of}
-use Rattle.rdb.specs.declared.EntityAnswer.{EntityAnswer}
-use Rattle.rdb.specs.declared.EntityAnswer.TheVariants as entities
-use Rattle.rdb.specs.declared.ConstantAnswer.{ConstantAnswer}
-use Rattle.rdb.specs.declared.ConstantAnswer.TheVariants as constants
 use Rattle.rdb.specs.Questions.{ask_entity, ask_constant}
 use Rattle.rdb_parts.specs.declared.Part.{Part}
 use Rattle.rdb_parts.specs.declared.Part.TheVariants as parts
@@ -33,9 +30,9 @@ pub data Task : Type 0 where
   inner : List ℕ → Inner → ℕ → ℕ → Task
 
 pub data Result : Type 0 where
-  checked : Verdict → Result
-  found : EntityAnswer → Result
-  valued : ConstantAnswer → Result
+  checked : Outcome ℕ Refusal → Result
+  found : Outcome (Option Entity) Refusal → Result
+  valued : Outcome (Option Value) Refusal → Result
   told : PartAnswer → Result
 
 unfoldable pub result_of : SetCount → List ℕ → Task → Result
@@ -53,21 +50,21 @@ pub record Case : Type 0 where
 
 -- refused with this number at this place
 unfoldable pub at : ℕ → ℕ → Result
-at n q = checked (Refused (record { no = n; place = q }))
+at n q = checked (Err (record { no = n; place = q }))
 
 -- the check, by the reading of document 001
 unfoldable pub checks : List ℕ → Result → Case
 checks s r = record { reading = Always; file = s; task = check; result = r }
 
 -- the entity at a path of `office`, as office suites write
-unfoldable pub leads : List ℕ → EntityAnswer → Case
+unfoldable pub leads : List ℕ → Outcome (Option Entity) Refusal → Case
 leads path a = record { reading = UnlessReadOnly; file = office; task = entity path; result = found a }
 
-unfoldable pub kind_at : ℕ → ℕ → EntityAnswer
-kind_at k o = entities.Found (record { kind = k; offset = o })
+unfoldable pub kind_at : ℕ → ℕ → Outcome (Option Entity) Refusal
+kind_at k o = Ok (Some (record { kind = k; offset = o }))
 
 -- the constant t.C.x of `office`
-unfoldable pub says : List ℕ → ConstantAnswer → Case
+unfoldable pub says : List ℕ → Outcome (Option Value) Refusal → Case
 says x a = record { reading = UnlessReadOnly; file = office; task = constant (0x74 ∷ 0x2e ∷ 0x43 ∷ 0x2e ∷ x); result = valued a }
 
 -- a part of the entity t.x of `office`
@@ -89,21 +86,21 @@ text a n = record { at = a; len = n }
 
 unfoldable pub table : List Case
 table =
-    checks empty (checked (Accepted 0))
+    checks empty (checked (Ok 0))
     ∷ checks short (at 31 0)
     ∷ checks wrong (at 31 0)
     ∷ checks newer (at 31 7)
     ∷ checks past (at 32 8)
-    ∷ checks typedef (checked (Accepted 1))
+    ∷ checks typedef (checked (Ok 1))
     ∷ checks above (at 33 23)
     ∷ checks reserved (at 34 18)
     ∷ checks accent (at 34 19)
     ∷ checks twice (at 35 27)
-    ∷ checks sixteen (checked (Accepted 17))
+    ∷ checks sixteen (checked (Ok 17))
     ∷ checks seventeen (at 36 37)
     -- both readings accept this one; the number of set exceptions of the one is the number of methods of the other
-    ∷ checks readonly (checked (Accepted 1))
-    ∷ record { reading = UnlessReadOnly; file = readonly; task = check; result = checked (Accepted 1) }
+    ∷ checks readonly (checked (Ok 1))
+    ∷ record { reading = UnlessReadOnly; file = readonly; task = check; result = checked (Ok 1) }
     ∷ part_of Always readonly 0x61 parts.Attribute (answers.Typed (record { kind = 2; name = text 36 1; of = text 41 1 }))
     ∷ part_of UnlessReadOnly readonly 0x61 parts.Attribute (answers.Typed (record { kind = 2; name = text 36 1; of = text 41 1 }))
     ∷ inner_of Always readonly 0x61 inners.SetException (answers.Text (text 54 1))
@@ -111,27 +108,27 @@ table =
     ∷ part_of Always readonly 0x61 parts.Method answers.None
     ∷ part_of UnlessReadOnly readonly 0x61 parts.Method (answers.Method (record { name = text 54 1; result = text 59 0 }))
     ∷ checks office (at 32 370)
-    ∷ record { reading = UnlessReadOnly; file = office; task = check; result = checked (Accepted 14) }
+    ∷ record { reading = UnlessReadOnly; file = office; task = check; result = checked (Ok 14) }
     -- t, t.C, t.E, t.I; a constant is no entity; t.X is none, and so is the empty path, since no key is empty here
     ∷ leads (0x74 ∷ []) (kind_at 0 427)
     ∷ leads (0x74 ∷ 0x2e ∷ 0x43 ∷ []) (kind_at 7 160)
     ∷ leads (0x74 ∷ 0x2e ∷ 0x45 ∷ []) (kind_at 1 245)
     ∷ leads (0x74 ∷ 0x2e ∷ 0x49 ∷ []) (kind_at 5 277)
-    ∷ leads (0x74 ∷ 0x2e ∷ 0x43 ∷ 0x2e ∷ 0x42 ∷ []) entities.None
-    ∷ leads (0x74 ∷ 0x2e ∷ 0x58 ∷ []) entities.None
-    ∷ leads [] entities.None
+    ∷ leads (0x74 ∷ 0x2e ∷ 0x43 ∷ 0x2e ∷ 0x42 ∷ []) (Ok None)
+    ∷ leads (0x74 ∷ 0x2e ∷ 0x58 ∷ []) (Ok None)
+    ∷ leads [] (Ok None)
     -- B, D, F, H, L, S, UH, UL, US and Y; the low half of the DOUBLE is what the writer left there, a binary32 of -0.1: the bits are as stored
-    ∷ says (0x42 ∷ []) (constants.Found (Boolean true))
-    ∷ says (0x44 ∷ []) (constants.Found (Double (of_bits binary64 0x41414141bdcccccd)))
-    ∷ says (0x46 ∷ []) (constants.Found (Float (of_bits binary32 0x3fc00000)))
-    ∷ says (0x48 ∷ []) (constants.Found (Hyper (negsuc 3)))
-    ∷ says (0x4c ∷ []) (constants.Found (Long (negsuc 2)))
-    ∷ says (0x53 ∷ []) (constants.Found (Short (negsuc 1)))
-    ∷ says (0x55 ∷ 0x48 ∷ []) (constants.Found (UnsignedHyper 5))
-    ∷ says (0x55 ∷ 0x4c ∷ []) (constants.Found (UnsignedLong 4294967295))
-    ∷ says (0x55 ∷ 0x53 ∷ []) (constants.Found (UnsignedShort 65535))
-    ∷ says (0x59 ∷ []) (constants.Found (Byte (negsuc 0)))
-    ∷ says (0x58 ∷ []) constants.None
+    ∷ says (0x42 ∷ []) (Ok (Some (Boolean true)))
+    ∷ says (0x44 ∷ []) (Ok (Some (Double (of_bits binary64 0x41414141bdcccccd))))
+    ∷ says (0x46 ∷ []) (Ok (Some (Float (of_bits binary32 0x3fc00000))))
+    ∷ says (0x48 ∷ []) (Ok (Some (Hyper (negsuc 3))))
+    ∷ says (0x4c ∷ []) (Ok (Some (Long (negsuc 2))))
+    ∷ says (0x53 ∷ []) (Ok (Some (Short (negsuc 1))))
+    ∷ says (0x55 ∷ 0x48 ∷ []) (Ok (Some (UnsignedHyper 5)))
+    ∷ says (0x55 ∷ 0x4c ∷ []) (Ok (Some (UnsignedLong 4294967295)))
+    ∷ says (0x55 ∷ 0x53 ∷ []) (Ok (Some (UnsignedShort 65535)))
+    ∷ says (0x59 ∷ []) (Ok (Some (Byte (negsuc 0))))
+    ∷ says (0x58 ∷ []) (Ok None)
     -- the third entry of t is t.I; the second constant of t.C is deprecated, the first is not
     ∷ record { reading = UnlessReadOnly; file = office; task = part (0x74 ∷ []) parts.Entry 2; result = told (answers.Entry (record { key = text 425 1; kind = 5; offset = 277 })) }
     ∷ has 0x43 parts.Entry 1 (answers.Entry (record { key = text 139 1; kind = 0x89; offset = 69 }))
@@ -158,7 +155,7 @@ table =
     -- the check comes first
     ∷ record { reading = Always; file = office; task = part (0x74 ∷ []) parts.Entry 0; result = told (answers.Refused (record { no = 32; place = 370 })) }
     -- the parts that `office` has none of
-    ∷ checks annotated (checked (Accepted 2))
+    ∷ checks annotated (checked (Ok 2))
     ∷ part_of Always annotated 0x65 parts.Note (answers.Text (text 51 1))
     ∷ inner_of Always annotated 0x65 inners.MemberNote (answers.Text (text 42 1))
     ∷ part_of Always annotated 0x69 parts.Note (answers.Text (text 175 1))
@@ -171,5 +168,5 @@ table =
     ∷ inner_of Always annotated 0x69 inners.Exception (answers.Text (text 157 1))
     ∷ inner_of Always annotated 0x69 inners.MethodNote (answers.Text (text 166 1))
     -- a.n is a NaN, with the bits as stored
-    ∷ record { reading = Always; file = nan; task = constant (0x61 ∷ 0x2e ∷ 0x6e ∷ []); result = valued (constants.Found (FloatNan 0x7fa00001)) }
+    ∷ record { reading = Always; file = nan; task = constant (0x61 ∷ 0x2e ∷ 0x6e ∷ []); result = valued (Ok (Some (FloatNan 0x7fa00001))) }
     ∷ []

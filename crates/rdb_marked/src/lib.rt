@@ -1,2 +1,2 @@
-// Marked cases of types.rdb, as one table. Definitions and a theorem only.
+//! Marked cases of types.rdb, as one table. Definitions and a theorem only.
 #![tactic(auto)]

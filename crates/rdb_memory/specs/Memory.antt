@@ -1,9 +1,9 @@
 -- What the check remembers of texts: by offset and class, which Len-Strings were read well. A field that names such a text is good wherever it stands.
 -- Assumes nothing.
-use Rattle.std.specs.Prelude.{◌≡◌, true, List, ℕ, ◌+◌, ◌*◌, ◌≤◌, length, get_or}
+use Rattle.reading.specs.declared.Refusal.{Refusal}
+use Rattle.std.specs.Prelude.{◌≡◌, true, List, ℕ, ◌+◌, ◌*◌, ◌≤◌, length, get_or, Result}
 use Rattle.number.specs.Limits.{file_limit}
 use Rattle.reading.specs.Got.{Got, step_of, Accepted}
-use Rattle.reading.specs.declared.Step.{Step}
 use Rattle.rdb_runs.specs.Runs.{run_count, Runs}
 use Rattle.rdb_seen.specs.Marks.{marked}
 use Rattle.rdb_text.specs.declared.Class.{Class}
@@ -58,6 +58,6 @@ pub record Learnt (s before after : List ℕ) : Type 0 where
   pub others : (i : ℕ) → other_marks ≤ i → marked after i ≡ marked before i
 
 -- a reader's step is what the definition gives, and the memory after it stands for what was read
-pub record Judged {X : Type 0} (s before after : List ℕ) (r : Step) (g : Got X) : Type 0 where
+pub record Judged {X : Type 0} (s before after : List ℕ) (r : Result ℕ Refusal) (g : Got X) : Type 0 where
   pub step : r ≡ step_of g
   pub memory : Learnt s before after

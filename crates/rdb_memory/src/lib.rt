@@ -1,11 +1,10 @@
 // Texts of a types.rdb, Len-Strings, Idx-Strings and counted lists of them, each read once: a memory that is lent along says which were read well.
 #![tactic(auto)]
 
-ghost use Rattle.std.specs.Prelude.{◌≡◌, true, ◌≤◌, ◌<◌, length};
+ghost use Rattle.std.specs.Prelude.{◌≡◌, true, ◌+◌, ◌≤◌, ◌<◌, length, Ok, IfOk};
 ghost use Rattle.number.specs.Limits.{file_limit};
 ghost use Rattle.number.specs.Part.{part};
 ghost use Rattle.reading.specs.Got.{step_of, many};
-ghost use Rattle.reading.specs.declared.Step.TheVariants.{End};
 ghost use Rattle.rdb_runs.specs.Runs.{run_count, Runs};
 ghost use Rattle.rdb_text.specs.Bytes.{suits};
 ghost use Rattle.rdb_text.specs.Text.{read_len, read_text, read_texts};
@@ -14,7 +13,7 @@ ghost use Rattle.rdb_memory.specs.Memory.{text_mark, Good, Filled, Remembers, Le
 use number::FILE_LIMIT;
 use rdb_runs::RUN_COUNT;
 use rdb_text::Class;
-use reading::{Refusal, Step};
+use reading::{Refusal, Rule};
 
 // The memory: the tables of runs, then the number of bytes that were judged one by one, then marks.
 const SPENT: usize = RUN_COUNT;
@@ -98,65 +97,76 @@ fn judge(file: &[u8], memory: &mut [u32], class: Class, from: usize, to: usize) 
 }
 
 // The Len-String at `at`, named by the field at `place`.
-fn read_len(file: &[u8], memory: &mut [u32], class: Class, place: usize, at: usize) -> Step
+#[tactic(auto, using(reading::proofs::Steps::walks, rdb_text::proofs::FieldLaws::fields, crate::proofs::JudgeLaws::judges), unfolding(rdb_text::specs::Text::read_len))]
+fn read_len(
+    file: &[u8],
+    memory: &mut [u32],
+    class: Class,
+    place: usize,
+    at: usize,
+) -> Result<usize, Refusal>
     requires { (length file.now ≤ file_limit) × (at ≤ 0xffffffff) × Remembers file.now memory.old }
-    ensures { Judged file.now memory.old memory.new result (read_len class file.now place at) }
+    ensures reads { Judged file.now memory.old memory.new result (read_len class file.now place at) }
+    ensures within { IfOk result (λ e. (at + 4 ≤ e) × (e ≤ length file.now)) }
 {
     let from = at + 4;
     if file.len() < from {
-        return Step::Refused(Refusal { no: 32, place });
+        return Err(Rule::TypesField.at(place));
     }
     let n = number::le32_at(file, at) as usize;
     if 0x80000000 <= n {
-        return Step::Refused(Refusal { no: 32, place });
+        return Err(Rule::TypesField.at(place));
     }
     let end = from + n;
     if file.len() < end {
-        return Step::Refused(Refusal { no: 32, place });
+        return Err(Rule::TypesField.at(place));
     }
     if judge(file, memory, class, from, end) {
-        return Step::End(end);
+        return Ok(end);
     }
-    Step::Refused(Refusal { no: 34, place })
+    Err(Rule::TypesValue.at(place))
 }
 
 // The same, remembered where it is read well.
-fn learn_len(file: &[u8], memory: &mut [u32], class: Class, place: usize, at: usize) -> Step
+fn learn_len(
+    file: &[u8],
+    memory: &mut [u32],
+    class: Class,
+    place: usize,
+    at: usize,
+) -> Result<usize, Refusal>
     requires { (length file.now ≤ file_limit) × (at ≤ 0xffffffff) × Remembers file.now memory.old }
-    ensures { Judged file.now memory.old memory.new result (read_len class file.now place at) }
+    ensures reads { Judged file.now memory.old memory.new result (read_len class file.now place at) }
+    ensures within { IfOk result (λ e. (at + 4 ≤ e) × (e ≤ length file.now)) }
 {
-    let r = read_len(file, memory, class, place, at);
-    let Step::End(end) = r else {
-        return r;
-    };
+    let end = read_len(file, memory, class, place, at)?;
     rdb_seen::mark(memory, text_mark(class, at));
-    r
+    Ok(end)
 }
 
 // The Idx-String at `at`, remembered where it is read well.
-fn learn_text(file: &[u8], memory: &mut [u32], class: Class, at: usize) -> Step
+#[tactic(auto, using(reading::proofs::Steps::walks, rdb_text::proofs::FieldLaws::fields, crate::proofs::JudgeLaws::judges), unfolding(rdb_text::specs::Text::read_text))]
+fn learn_text(file: &[u8], memory: &mut [u32], class: Class, at: usize) -> Result<usize, Refusal>
     requires { (length file.now ≤ file_limit) × (at ≤ length file.now) × Remembers file.now memory.old }
-    ensures { Judged file.now memory.old memory.new result (read_text class file.now at) }
+    ensures reads { Judged file.now memory.old memory.new result (read_text class file.now at) }
+    ensures within { IfOk result (λ e. (at + 4 ≤ e) × (e ≤ length file.now)) }
 {
     let end = at + 4;
     if file.len() < end {
-        return Step::Refused(Refusal { no: 32, place: at });
+        return Err(Rule::TypesField.at(at));
     }
     let v = number::le32_at(file, at) as usize;
     if v < 0x80000000 {
         return learn_len(file, memory, class, at, at);
     }
-    let r = learn_len(file, memory, class, at, v - 0x80000000);
-    let Step::End(e) = r else {
-        return r;
-    };
-    Step::End(end)
+    learn_len(file, memory, class, at, v - 0x80000000)?;
+    Ok(end)
 }
 
 // Where the Idx-String at `at` ends, if its text was read well before, or 0.
 fn known_end(file: &[u8], memory: &[u32], class: Class, at: usize) -> usize
     requires { (length file.now ≤ file_limit) × (at ≤ length file.now) × Remembers file.now memory.now }
-    ensures { 0 < result → End result ≡ step_of (read_text class file.now at) }
+    ensures { 0 < result → Ok result ≡ step_of (read_text class file.now at) }
 {
     let end = at + 4;
     if file.len() < end {
@@ -176,43 +186,53 @@ fn known_end(file: &[u8], memory: &[u32], class: Class, at: usize) -> usize
 }
 
 // The Idx-String at `at`. One that is known costs a look at its field and one at its mark.
-pub fn read_text(file: &[u8], memory: &mut [u32], class: Class, at: usize) -> Step
+pub fn read_text(file: &[u8], memory: &mut [u32], class: Class, at: usize) -> Result<usize, Refusal>
     requires { (length file.now ≤ file_limit) × (at ≤ length file.now) × Remembers file.now memory.old }
-    ensures { Judged file.now memory.old memory.new result (read_text class file.now at) }
+    ensures reads { Judged file.now memory.old memory.new result (read_text class file.now at) }
+    ensures within { IfOk result (λ e. (at + 4 ≤ e) × (e ≤ length file.now)) }
 {
     let e = known_end(file, memory, class, at);
     if 0 < e {
-        return Step::End(e);
+        return Ok(e);
     }
     learn_text(file, memory, class, at)
 }
 
 // n Idx-Strings.
-fn read_run(file: &[u8], memory: &mut [u32], class: Class, n: usize, at: usize) -> Step
+#[tactic(auto, using(reading::proofs::Loops::records, crate::proofs::JudgeLaws::judges))]
+fn read_run(
+    file: &[u8],
+    memory: &mut [u32],
+    class: Class,
+    n: usize,
+    at: usize,
+) -> Result<usize, Refusal>
     requires { (length file.now ≤ file_limit) × (at ≤ length file.now) × Remembers file.now memory.old }
-    ensures { Judged file.now memory.old memory.new result (many (read_text class file.now) n at) }
+    ensures reads { Judged file.now memory.old memory.new result (many (read_text class file.now) n at) }
+    ensures within { IfOk result (λ e. e ≤ length file.now) }
 {
-    let mut k: usize = 0;
     let mut p = at;
-    while k < n {
-        let r = read_text(file, memory, class, p);
-        let Step::End(e) = r else {
-            return r;
-        };
-        p = e;
-        k += 1;
+    for _ in 0..n {
+        p = read_text(file, memory, class, p)?;
     }
-    Step::End(p)
+    Ok(p)
 }
 
 // Their number, and that many.
-pub fn read_texts(file: &[u8], memory: &mut [u32], class: Class, at: usize) -> Step
+#[tactic(auto, using(reading::proofs::Steps::walks, rdb_text::proofs::FieldLaws::fields, crate::proofs::JudgeLaws::judges), unfolding(rdb_text::specs::Text::read_texts))]
+pub fn read_texts(
+    file: &[u8],
+    memory: &mut [u32],
+    class: Class,
+    at: usize,
+) -> Result<usize, Refusal>
     requires { (length file.now ≤ file_limit) × (at ≤ length file.now) × Remembers file.now memory.old }
-    ensures { Judged file.now memory.old memory.new result (read_texts class file.now at) }
+    ensures reads { Judged file.now memory.old memory.new result (read_texts class file.now at) }
+    ensures within { IfOk result (λ e. e ≤ length file.now) }
 {
     let from = at + 4;
     if file.len() < from {
-        return Step::Refused(Refusal { no: 32, place: at });
+        return Err(Rule::TypesField.at(at));
     }
     let n = number::le32_at(file, at) as usize;
     read_run(file, memory, class, n, from)

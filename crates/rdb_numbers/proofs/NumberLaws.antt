@@ -1,5 +1,7 @@
 -- Answers about a types.rdb as numbers.
 -- Assumes nothing.
+use Rattle.rdb_value.specs.declared.Value.{Value}
+use Rattle.std.specs.Prelude.{Err, Ok, Option, Result, Some}
 use mathlib.Core.Path.{◌≡◌, refl, sym, ap, ◌∙◌}
 use mathlib.Core.Bool.{false}
 use mathlib.Core.List.{List, [], ◌∷◌}
@@ -19,8 +21,6 @@ use Rattle.rdb_interface.specs.declared.SetCount.{SetCount}
 use Rattle.rdb_interface.specs.declared.SetCount.TheVariants.{Always, UnlessReadOnly}
 use Rattle.rdb_value.specs.Value.{value_of}
 use Rattle.rdb_value.proofs.ValueLaws.{kept, kind_kept}
-use Rattle.rdb.specs.declared.ConstantAnswer.{ConstantAnswer}
-use Rattle.rdb.specs.declared.ConstantAnswer.TheVariants as constants
 use Rattle.rdb.specs.Questions.{constant_said}
 use Rattle.rdb.proofs.AnswerLaws.{value_said}
 use Rattle.rdb_numbers.specs.Numbers.{by_reading, constant_numbers}
@@ -65,7 +65,7 @@ module _ (s : List ℕ) (o : ℕ) where
       let e : v ≡ le (value_size (get_or s o 0 % 128)) s (o + 1) = w.0 ∙ ap (λ (x : ℕ). le (value_size x) s (o + 1)) q in
       let n : k ≤ 9 = omega (arith, t.kind) in
       let b : no_boolean k v ≡ false = (λ i. no_boolean (q i) (e i)) ∙ t.boolean in
-      let z : constants.Found (value_of k v) ≡ constant_said (read_constant s o) = value_said s o a (λ i. value_of (q i) (e i)) in
+      let z : Ok (Some (value_of k v)) ≡ constant_said (read_constant s o) = value_said s o a (λ i. value_of (q i) (e i)) in
       (λ i. 0 ∷ sym (kind_kept k v n) i ∷ sym (kept k v w.1 (at_most k v b)) i ∷ []) ∙ ap constant_numbers z
 
 -- ---- the code's answers
@@ -78,6 +78,6 @@ module _ (list : List ℕ) {after : List ℕ} where
   pub then_numbers : {A : Type 0} (numbers : A → List ℕ) (x y : A) → after ≡ sets list 0 (numbers x) → x ≡ y → after ≡ sets list 0 (numbers y)
   then_numbers {A} numbers x y h e = h ∙ ap (λ (z : A). sets list 0 (numbers z)) e
 
-  pub refused_numbers : (w : Refusal) (y : ConstantAnswer) → after ≡ sets list 0 (refusal_numbers w) → constants.Refused w ≡ y → after ≡ sets list 0 (constant_numbers y)
+  pub refused_numbers : (w : Refusal) (y : Result (Option Value) Refusal) → after ≡ sets list 0 (refusal_numbers w) → Err w ≡ y → after ≡ sets list 0 (constant_numbers y)
   unfolding constant_numbers
-  refused_numbers w y h e = then_numbers constant_numbers (constants.Refused w) y h e
+  refused_numbers w y h e = then_numbers constant_numbers (Err w) y h e

@@ -1,19 +1,16 @@
 -- Answers about a types.rdb as numbers, by the number of a reading.
 -- Assumes nothing.
-use Rattle.std.specs.Prelude.{List, [], ◌∷◌, ℕ}
+use Rattle.rdb_value.specs.declared.Value.{Value}
+use Rattle.rdb.specs.declared.Entity.{Entity}
+use Rattle.reading.specs.declared.Refusal.{Refusal}
+use Rattle.std.specs.Prelude.{List, [], ◌∷◌, ℕ, Err, None, Ok, Option, Result, Some}
 use Rattle.number.specs.Choice.{when◌then◌else◌, ◌=?◌}
-use Rattle.reading.specs.declared.Verdict.{Verdict}
-use Rattle.reading.specs.declared.Verdict.TheVariants as verdict
 use Rattle.lookup.specs.Question.{malformed}
 use Rattle.numbers.specs.Numbers.{refusal_numbers}
 use Rattle.rdb_interface.specs.declared.SetCount.{SetCount}
 use Rattle.rdb_interface.specs.declared.SetCount.TheVariants.{Always, UnlessReadOnly}
 use Rattle.rdb_value.specs.Value.{value_kind, stored_of}
 use Rattle.rdb_file.specs.File.{read_file, verdict_of}
-use Rattle.rdb.specs.declared.EntityAnswer.{EntityAnswer}
-use Rattle.rdb.specs.declared.EntityAnswer.TheVariants as entity
-use Rattle.rdb.specs.declared.ConstantAnswer.{ConstantAnswer}
-use Rattle.rdb.specs.declared.ConstantAnswer.TheVariants as constants
 use Rattle.rdb.specs.Questions.{ask_entity, ask_constant}
 
 -- 0: as document 001 says; 1: as office suites write. With another number a question is malformed, whatever the file is
@@ -23,23 +20,23 @@ by_reading f other r =
     when r =? 1 then f UnlessReadOnly else
     other
 
-unfoldable pub check_by : ℕ → List ℕ → Verdict
-check_by r s = by_reading (λ m. verdict_of (read_file m s)) (verdict.Refused malformed) r
+unfoldable pub check_by : ℕ → List ℕ → Result ℕ Refusal
+check_by r s = by_reading (λ m. verdict_of (read_file m s)) (Err malformed) r
 
-unfoldable pub entity_by : ℕ → List ℕ → List ℕ → EntityAnswer
-entity_by r s path = by_reading (λ m. ask_entity (read_file m s) s path) (entity.Refused malformed) r
+unfoldable pub entity_by : ℕ → List ℕ → List ℕ → Result (Option Entity) Refusal
+entity_by r s path = by_reading (λ m. ask_entity (read_file m s) s path) (Err malformed) r
 
-unfoldable pub constant_by : ℕ → List ℕ → List ℕ → ConstantAnswer
-constant_by r s path = by_reading (λ m. ask_constant (read_file m s) s path) (constants.Refused malformed) r
+unfoldable pub constant_by : ℕ → List ℕ → List ℕ → Result (Option Value) Refusal
+constant_by r s path = by_reading (λ m. ask_constant (read_file m s) s path) (Err malformed) r
 
 -- kind byte and offset
-unfoldable pub entity_numbers : EntityAnswer → List ℕ
-entity_numbers (entity.Found x) = 0 ∷ x.kind ∷ x.offset ∷ []
-entity_numbers entity.None = 1 ∷ []
-entity_numbers (entity.Refused why) = refusal_numbers why
+unfoldable pub entity_numbers : Result (Option Entity) Refusal → List ℕ
+entity_numbers (Ok (Some x)) = 0 ∷ x.kind ∷ x.offset ∷ []
+entity_numbers (Ok None) = 1 ∷ []
+entity_numbers (Err why) = refusal_numbers why
 
 -- kind, 0 to 9, and the value as stored
-unfoldable pub constant_numbers : ConstantAnswer → List ℕ
-constant_numbers (constants.Found v) = 0 ∷ value_kind v ∷ stored_of v ∷ []
-constant_numbers constants.None = 1 ∷ []
-constant_numbers (constants.Refused why) = refusal_numbers why
+unfoldable pub constant_numbers : Result (Option Value) Refusal → List ℕ
+constant_numbers (Ok (Some v)) = 0 ∷ value_kind v ∷ stored_of v ∷ []
+constant_numbers (Ok None) = 1 ∷ []
+constant_numbers (Err why) = refusal_numbers why

@@ -1,4 +1,5 @@
-// Answers about a types.rdb as numbers, for C and Rust: by the number of a reading, written at the front of a list that has room for any answer.
+//! Answers about a types.rdb as numbers, for C and Rust: by the number of a reading, written at the front of a list
+//! that has room for any answer.
 #![tactic(auto)]
 
 ghost use Rattle.std.specs.Prelude.{◌≡◌, ◌+◌, ◌^◌, ◌≤◌, ◌<◌, length};
@@ -13,52 +14,52 @@ ghost use Rattle.rdb_path.specs.Reached.{Checked};
 ghost use Rattle.rdb.specs.Questions.{constant_said, constant_found, ask_constant};
 ghost use Rattle.rdb_numbers.specs.Numbers.{check_by, entity_by, constant_by, entity_numbers, constant_numbers};
 
-use rdb::EntityAnswer;
+use rdb::Entity;
 use rdb_interface::SetCount;
-use rdb_path::Place;
-use reading::{Refusal, Verdict};
+use reading::{Refusal, Rule};
 
-// The check by the number of the reading: 0 as document 001 says, 1 as office suites write; with another number it is malformed.
-pub fn check_by(file: &[u8], reading: u64) -> Verdict
+/// The check by the number of the reading: 0 as document 001 says, 1 as office suites write; with another number it is
+/// malformed.
+pub fn check_by(file: &[u8], reading: u64) -> Result<usize, Refusal>
     ensures { result ≡ check_by reading file.now }
 {
     match reading {
         0 => rdb::check(file, SetCount::Always),
         1 => rdb::check(file, SetCount::UnlessReadOnly),
-        _ => Verdict::Refused(Refusal { no: 20, place: 0 }),
+        _ => Err(Rule::Question.at(0)),
     }
 }
 
-fn entity_by(file: &[u8], reading: u64, path: &[u8]) -> EntityAnswer
+fn entity_by(file: &[u8], reading: u64, path: &[u8]) -> Result<Option<Entity>, Refusal>
     ensures { result ≡ entity_by reading file.now path.now }
 {
     match reading {
         0 => rdb::entity_by_path(file, SetCount::Always, path),
         1 => rdb::entity_by_path(file, SetCount::UnlessReadOnly, path),
-        _ => EntityAnswer::Refused(Refusal { no: 20, place: 0 }),
+        _ => Err(Rule::Question.at(0)),
     }
 }
 
-fn put_told(a: EntityAnswer, answer: &mut [u64])
+fn put_told(a: Result<Option<Entity>, Refusal>, answer: &mut [u64])
     requires { room ≤ length answer.old }
     ensures { answer.new ≡ sets answer.old 0 (entity_numbers a) }
 {
     match a {
-        EntityAnswer::Found(x) => {
+        Ok(Some(x)) => {
             let kind = x.kind as u64;
             let offset = x.offset as u64;
             answer[0] = 0;
             answer[1] = kind;
             answer[2] = offset;
         }
-        EntityAnswer::None => {
+        Ok(None) => {
             answer[0] = 1;
         }
-        EntityAnswer::Refused(why) => numbers::put_refusal(why, answer),
+        Err(why) => numbers::put_refusal(why, answer),
     }
 }
 
-// An entity by its path.
+/// An entity by its path.
 pub fn put_entity(file: &[u8], reading: u64, path: &[u8], answer: &mut [u64])
     requires { room ≤ length answer.old }
     ensures { answer.new ≡ sets answer.old 0 (entity_numbers (entity_by reading file.now path.now)) }
@@ -113,8 +114,8 @@ fn put_found(file: &[u8], path: &[u8], answer: &mut [u64])
     ensures { answer.new ≡ sets answer.old 0 (constant_numbers (constant_found file.now (constant_at file.now (cut path.now)))) }
 {
     match rdb_path::constant_at(file, path) {
-        Place::At(o) => put_stored(file, o, answer),
-        Place::Nowhere => {
+        Some(o) => put_stored(file, o, answer),
+        None => {
             answer[0] = 1;
         }
     }
@@ -126,12 +127,12 @@ fn put_asked(file: &[u8], m: SetCount, path: &[u8], answer: &mut [u64])
     ensures { answer.new ≡ sets answer.old 0 (constant_numbers (ask_constant (read_file m file.now) file.now path.now)) }
 {
     match rdb_file::check(file, m) {
-        Verdict::Accepted(v) => put_found(file, path, answer),
-        Verdict::Refused(why) => numbers::put_refusal(why, answer),
+        Ok(_) => put_found(file, path, answer),
+        Err(why) => numbers::put_refusal(why, answer),
     }
 }
 
-// A constant by its path.
+/// A constant by its path.
 pub fn put_constant(file: &[u8], reading: u64, path: &[u8], answer: &mut [u64])
     requires { room ≤ length answer.old }
     ensures { answer.new ≡ sets answer.old 0 (constant_numbers (constant_by reading file.now path.now)) }
@@ -139,6 +140,6 @@ pub fn put_constant(file: &[u8], reading: u64, path: &[u8], answer: &mut [u64])
     match reading {
         0 => put_asked(file, SetCount::Always, path, answer),
         1 => put_asked(file, SetCount::UnlessReadOnly, path, answer),
-        _ => numbers::put_refusal(Refusal { no: 20, place: 0 }, answer),
+        _ => numbers::put_refusal(Rule::Question.at(0), answer),
     }
 }

@@ -1,17 +1,15 @@
 -- What is said of a text, an attribute or a parameter, by where it stands.
 -- Assumes nothing.
-use Rattle.std.specs.Prelude.{List, ℕ, ◌+◌, ◌<◌, length, get_or}
-use Rattle.rdb_path.specs.declared.Place.{Place}
-use Rattle.rdb_path.specs.declared.Place.TheVariants.{At, Nowhere}
+use Rattle.std.specs.Prelude.{List, ℕ, ◌+◌, ◌<◌, length, get_or, None, Option, Some}
 use Rattle.rdb_ends.specs.Ends.{text_of, text_end}
 use Rattle.rdb_ends.specs.Here.{TextHere}
 use Rattle.rdb_places.specs.Places.{place_in}
 use Rattle.rdb_parts.specs.declared.PartAnswer.{PartAnswer}
 use Rattle.rdb_parts.specs.declared.PartAnswer.TheVariants as answer
 
-unfoldable pub text_in : List ℕ → Place → PartAnswer
-text_in s (At p) = answer.Text (text_of s p)
-text_in s Nowhere = answer.None
+unfoldable pub text_in : List ℕ → Option ℕ → PartAnswer
+text_in s (Some p) = answer.Text (text_of s p)
+text_in s None = answer.None
 
 -- text j of the counted list at `at`
 unfoldable pub list_text : List ℕ → ℕ → ℕ → PartAnswer

@@ -1,4 +1,4 @@
-// The counted parts of an entity of a types.rdb, each by its position from 0.
+//! The counted parts of an entity of a types.rdb, each by its position from 0.
 #![tactic(auto)]
 
 ghost use Rattle.std.specs.Prelude.{◌≡◌, ◌≤◌, length};
@@ -14,13 +14,13 @@ ghost use Rattle.rdb_parts.specs.Said.{list_text, typed_at, TypedHere};
 
 use rdb_interface::SetCount;
 use rdb_map::ENTRY_BYTES;
-use rdb_path::Place;
 use rdb_text::Text;
-use reading::{Refusal, Verdict};
+use reading::Refusal;
 
-// A counted list of an entity: the entries of a module or a constant group; the members of an enum; the mandatory bases, optional bases, attributes and
-// methods of an interface; the annotations of an enum, an interface or a constant group.
-#[derive(Clone, Copy)]
+/// A counted list of an entity: the entries of a module or a constant group; the members of an enum; the mandatory
+/// bases, optional bases, attributes and methods of an interface; the annotations of an enum, an interface or a
+/// constant group.
+#[derive(Clone, Copy, Debug, PartialEq, Eq)]
 pub enum Part {
     Entry,
     Member,
@@ -31,9 +31,9 @@ pub enum Part {
     Note,
 }
 
-// A counted list of one of those parts: the annotations of a constant, a member, a base, an attribute or a method, an attribute's exceptions, a method's
-// parameters and exceptions.
-#[derive(Clone, Copy)]
+/// A counted list of one of those parts: the annotations of a constant, a member, a base, an attribute or a method, an
+/// attribute's exceptions, a method's parameters and exceptions.
+#[derive(Clone, Copy, Debug, PartialEq, Eq)]
 pub enum Inner {
     EntryNote,
     MemberNote,
@@ -47,7 +47,7 @@ pub enum Inner {
     MethodNote,
 }
 
-// An entry of a map: its key without the NUL, the kind byte of its payload, and the payload's offset.
+/// An entry of a map: its key without the NUL, the kind byte of its payload, and the payload's offset.
 #[derive(Clone, Copy)]
 pub struct EntryPart {
     pub key: Text,
@@ -55,14 +55,14 @@ pub struct EntryPart {
     pub offset: usize,
 }
 
-// A member of an enum, its value as stored.
+/// A member of an enum, its value as stored.
 #[derive(Clone, Copy)]
 pub struct MemberPart {
     pub name: Text,
     pub value: u32,
 }
 
-// An attribute with its kind byte, or a parameter with its direction byte.
+/// An attribute with its kind byte, or a parameter with its direction byte.
 #[derive(Clone, Copy)]
 pub struct TypedPart {
     pub kind: u8,
@@ -70,14 +70,14 @@ pub struct TypedPart {
     pub of: Text,
 }
 
-// A method, with its return type.
+/// A method, with its return type.
 #[derive(Clone, Copy)]
 pub struct MethodPart {
     pub name: Text,
     pub result: Text,
 }
 
-// A base, an exception or an annotation is its text.
+/// A base, an exception or an annotation is its text.
 #[derive(Clone, Copy)]
 pub enum PartAnswer {
     Text(Text),
@@ -89,7 +89,7 @@ pub enum PartAnswer {
     Refused(Refusal),
 }
 
-// Text j of the counted list at `at`.
+/// Text j of the counted list at `at`.
 pub fn list_part(file: &[u8], at: usize, j: usize) -> PartAnswer
     requires { (length file.now ≤ file_limit) × ListHere file.now at }
     ensures { result ≡ list_text file.now at j }
@@ -102,7 +102,7 @@ pub fn list_part(file: &[u8], at: usize, j: usize) -> PartAnswer
     PartAnswer::None
 }
 
-// A byte, a name and a type.
+/// A byte, a name and a type.
 pub fn typed_at(file: &[u8], p: usize) -> PartAnswer
     requires { (length file.now ≤ file_limit) × TypedHere file.now p }
     ensures { result ≡ typed_at file.now p }
@@ -146,13 +146,13 @@ fn member_part(file: &[u8], m: SetCount, o: usize, i: usize) -> PartAnswer
     ensures { result ≡ nth member_said i (members_of file.now o) }
 {
     match rdb_places::member_place(file, m, o, i) {
-        Place::At(p) => {
+        Some(p) => {
             let name = rdb_ends::text_at(file, p);
             let q = rdb_ends::text_end(file, p);
             let value = number::le32_at(file, q);
             PartAnswer::Member(MemberPart { name, value })
         }
-        Place::Nowhere => PartAnswer::None,
+        None => PartAnswer::None,
     }
 }
 
@@ -162,8 +162,8 @@ fn base_part(file: &[u8], m: SetCount, o: usize, i: usize) -> PartAnswer
     ensures { result ≡ nth base_said i (interface_list interface_bases m file.now o) }
 {
     match rdb_places::base_place(file, m, o, i) {
-        Place::At(p) => PartAnswer::Text(rdb_ends::text_at(file, p)),
-        Place::Nowhere => PartAnswer::None,
+        Some(p) => PartAnswer::Text(rdb_ends::text_at(file, p)),
+        None => PartAnswer::None,
     }
 }
 
@@ -173,8 +173,8 @@ fn optional_part(file: &[u8], m: SetCount, o: usize, i: usize) -> PartAnswer
     ensures { result ≡ nth base_said i (interface_list interface_optionals m file.now o) }
 {
     match rdb_places::optional_place(file, m, o, i) {
-        Place::At(p) => PartAnswer::Text(rdb_ends::text_at(file, p)),
-        Place::Nowhere => PartAnswer::None,
+        Some(p) => PartAnswer::Text(rdb_ends::text_at(file, p)),
+        None => PartAnswer::None,
     }
 }
 
@@ -184,8 +184,8 @@ fn attribute_part(file: &[u8], m: SetCount, o: usize, i: usize) -> PartAnswer
     ensures { result ≡ nth attribute_said i (interface_list interface_attributes m file.now o) }
 {
     match rdb_places::attribute_place(file, m, o, i) {
-        Place::At(p) => typed_at(file, p),
-        Place::Nowhere => PartAnswer::None,
+        Some(p) => typed_at(file, p),
+        None => PartAnswer::None,
     }
 }
 
@@ -195,13 +195,13 @@ fn method_part(file: &[u8], m: SetCount, o: usize, i: usize) -> PartAnswer
     ensures { result ≡ nth method_said i (interface_list interface_methods m file.now o) }
 {
     match rdb_places::method_place(file, m, o, i) {
-        Place::At(p) => {
+        Some(p) => {
             let name = rdb_ends::text_at(file, p);
             let q = rdb_ends::text_end(file, p);
             let result = rdb_ends::text_at(file, q);
             PartAnswer::Method(MethodPart { name, result })
         }
-        Place::Nowhere => PartAnswer::None,
+        None => PartAnswer::None,
     }
 }
 
@@ -211,8 +211,8 @@ fn own_note(file: &[u8], m: SetCount, o: usize, i: usize) -> PartAnswer
     ensures { result ≡ text_at i (notes_of m file.now o) }
 {
     match rdb_places::notes_place(file, m, o) {
-        Place::At(p) => list_part(file, p, i),
-        Place::Nowhere => PartAnswer::None,
+        Some(p) => list_part(file, p, i),
+        None => PartAnswer::None,
     }
 }
 
@@ -238,17 +238,17 @@ fn find_part(file: &[u8], m: SetCount, path: &[u8], which: Part, i: usize) -> Pa
     ensures { result ≡ part_found (part_at m file.now which i) (entity_at file.now (cut path.now)) }
 {
     match rdb_path::entity_at(file, path) {
-        Place::At(o) => part_at(file, m, which, i, o),
-        Place::Nowhere => PartAnswer::None,
+        Some(o) => part_at(file, m, which, i, o),
+        None => PartAnswer::None,
     }
 }
 
-// A part of the entity that a dotted path leads to, by its position from 0; one that there is not is none.
+/// A part of the entity that a dotted path leads to, by its position from 0; one that there is not is none.
 pub fn part_by_path(file: &[u8], m: SetCount, path: &[u8], which: Part, i: usize) -> PartAnswer
     ensures { result ≡ ask_part m (read_file m file.now) file.now path.now which i }
 {
     match rdb_file::check(file, m) {
-        Verdict::Accepted(v) => find_part(file, m, path, which, i),
-        Verdict::Refused(why) => PartAnswer::Refused(why),
+        Ok(_) => find_part(file, m, path, which, i),
+        Err(why) => PartAnswer::Refused(why),
     }
 }

@@ -1,10 +1,8 @@
 -- A place that was found, as the code tells it.
 -- Assumes nothing.
-use Rattle.std.proofs.Math.Option.{Option, none, some}
-use Rattle.std.specs.Prelude.{ℕ}
-use Rattle.rdb_path.specs.declared.Place.{Place}
-use Rattle.rdb_path.specs.declared.Place.TheVariants.{At, Nowhere}
+use Rattle.std.proofs.Math.Option.{Option as Found, none, some}
+use Rattle.std.specs.Prelude.{ℕ, None, Option, Some}
 
-unfoldable pub place_of : Option ℕ → Place
-place_of none = Nowhere
-place_of (some o) = At o
+unfoldable pub place_of : Found ℕ → Option ℕ
+place_of none = None
+place_of (some o) = Some o

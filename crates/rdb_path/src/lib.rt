@@ -15,13 +15,6 @@ ghost use Rattle.rdb_path.specs.Place.{place_of};
 use rdb_file::{COUNT_PLACE, GROUP, MAP_PLACE, MODULE};
 use rdb_map::ENTRY_BYTES;
 
-// Where something stands, if anywhere.
-#[derive(Drop)]
-pub enum Place {
-    At(usize),
-    Nowhere,
-}
-
 fn pointer(x: u32) -> usize
     ensures { result ≡ x }
 {
@@ -33,14 +26,12 @@ fn dot_from(path: &[u8], from: usize) -> usize
     requires { from ≤ length path.now }
     ensures { result ≡ scan (dot_at path.now) (length path.now - from) from }
 {
-    let mut i = from;
-    while i < path.len() {
+    for i in from..path.len() {
         if path[i] == 0x2e {
             return i;
         }
-        i += 1;
     }
-    i
+    path.len()
 }
 
 // Where the last word of the path starts.
@@ -77,30 +68,28 @@ fn find_entry(file: &[u8], at: usize, n: usize, word: &[u8]) -> usize
     requires { (length file.now ≤ file_limit) × Keyed file.now at n }
     ensures { result ≡ scan (is_called file.now at word.now) n 0 }
 {
-    let mut i: usize = 0;
-    while i < n {
+    for i in 0..n {
         if is_called(file, at, i, word) {
             return i;
         }
-        i += 1;
     }
-    i
+    n
 }
 
 // Its payload.
-fn payload_of(file: &[u8], at: usize, n: usize, word: &[u8]) -> Place
+fn payload_of(file: &[u8], at: usize, n: usize, word: &[u8]) -> Option<usize>
     requires { (length file.now ≤ file_limit) × Keyed file.now at n }
     ensures { result ≡ place_of (payload_of file.now at n word.now) }
 {
     let i = find_entry(file, at, n, word);
     if i < n {
-        return Place::At(pointer(number::le32_at(file, at + ENTRY_BYTES * i + 4)));
+        return Some(pointer(number::le32_at(file, at + ENTRY_BYTES * i + 4)));
     }
-    Place::Nowhere
+    None
 }
 
 // The entity that the path leads to.
-pub fn entity_at(file: &[u8], path: &[u8]) -> Place
+pub fn entity_at(file: &[u8], path: &[u8]) -> Option<usize>
     requires { Checked file.now }
     ensures { result ≡ place_of (entity_at file.now (cut path.now)) }
 {
@@ -110,11 +99,11 @@ pub fn entity_at(file: &[u8], path: &[u8]) -> Place
     let mut to = dot_from(path, 0);
     while to < path.len() {
         let found = payload_of(file, at, n, &path[from..to]);
-        let Place::At(o) = found else {
+        let Some(o) = found else {
             return found;
         };
         if file[o] != MODULE {
-            return Place::Nowhere;
+            return None;
         }
         at = o + MAP_PLACE;
         n = pointer(number::le32_at(file, o + COUNT_PLACE));
@@ -125,28 +114,28 @@ pub fn entity_at(file: &[u8], path: &[u8]) -> Place
 }
 
 // The constant of that name, if the entity at o is a constant group.
-fn constant_in(file: &[u8], o: usize, word: &[u8]) -> Place
+fn constant_in(file: &[u8], o: usize, word: &[u8]) -> Option<usize>
     requires { (length file.now ≤ file_limit) × ((m : SetCount) × Visited m file.now o) }
     ensures { result ≡ place_of (constant_in file.now word.now o) }
 {
     if file[o] % 32 != GROUP {
-        return Place::Nowhere;
+        return None;
     }
     let n = pointer(number::le32_at(file, o + COUNT_PLACE));
     payload_of(file, o + MAP_PLACE, n, word)
 }
 
 // The constant that the path leads to.
-pub fn constant_at(file: &[u8], path: &[u8]) -> Place
+pub fn constant_at(file: &[u8], path: &[u8]) -> Option<usize>
     requires { Checked file.now }
     ensures { result ≡ place_of (constant_at file.now (cut path.now)) }
 {
     let from = last_word(path);
     if from == 0 {
-        return Place::Nowhere;
+        return None;
     }
     let group = entity_at(file, &path[..from - 1]);
-    let Place::At(o) = group else {
+    let Some(o) = group else {
         return group;
     };
     constant_in(file, o, &path[from..])

@@ -1,4 +1,4 @@
-// Where the elements of an entity's counted lists stand in an accepted types.rdb.
+//! Where the elements of an entity's counted lists stand in an accepted types.rdb.
 #![tactic(auto)]
 
 ghost use Rattle.std.specs.Prelude.{◌≡◌, true, ◌+◌, ◌≤◌, length, get_or};
@@ -17,18 +17,24 @@ use rdb_ends::Item;
 use rdb_file::{ENUM, GROUP, INTERFACE, MODULE};
 use rdb_interface::SetCount;
 use rdb_map::ENTRY_BYTES;
-use rdb_path::Place;
 
 // Element i of the counted list at `at`.
-fn item_place(file: &[u8], item: Item, m: SetCount, annotated: bool, at: usize, i: usize) -> Place
+fn item_place(
+    file: &[u8],
+    item: Item,
+    m: SetCount,
+    annotated: bool,
+    at: usize,
+    i: usize,
+) -> Option<usize>
     requires { (length file.now ≤ file_limit) × Accepted (counted (read_item item m annotated file.now) file.now at) }
     ensures { result ≡ place_in (item_end item m annotated file.now) file.now at i }
 {
     let n = rdb_ends::count_at(file, at);
     if i < n {
-        return Place::At(rdb_ends::items_after(file, item, m, annotated, i, at + 4));
+        return Some(rdb_ends::items_after(file, item, m, annotated, i, at + 4));
     }
-    Place::Nowhere
+    None
 }
 
 // Where the lists of an interface start, after its kind byte at o.
@@ -63,68 +69,68 @@ fn own_notes_at(file: &[u8], m: SetCount, annotated: bool, o: usize) -> usize
     rdb_ends::items_end(file, Item::Method, m, annotated, p)
 }
 
-// Member i of the entity at o.
-pub fn member_place(file: &[u8], m: SetCount, o: usize, i: usize) -> Place
+/// Member i of the entity at o.
+pub fn member_place(file: &[u8], m: SetCount, o: usize, i: usize) -> Option<usize>
     requires { (length file.now ≤ file_limit) × Visited m file.now o }
     ensures { result ≡ member_place m file.now o i }
 {
     let k = file[o];
     if k % 32 != ENUM {
-        return Place::Nowhere;
+        return None;
     }
     let a = rdb_file::is_annotated(k);
     item_place(file, Item::Member, m, a, o + 1, i)
 }
 
-// Mandatory base i.
-pub fn base_place(file: &[u8], m: SetCount, o: usize, i: usize) -> Place
+/// Mandatory base i.
+pub fn base_place(file: &[u8], m: SetCount, o: usize, i: usize) -> Option<usize>
     requires { (length file.now ≤ file_limit) × Visited m file.now o }
     ensures { result ≡ base_place m file.now o i }
 {
     let k = file[o];
     if k % 32 != INTERFACE {
-        return Place::Nowhere;
+        return None;
     }
     let a = rdb_file::is_annotated(k);
     item_place(file, Item::Base, m, a, o + 1, i)
 }
 
-// Optional base i.
-pub fn optional_place(file: &[u8], m: SetCount, o: usize, i: usize) -> Place
+/// Optional base i.
+pub fn optional_place(file: &[u8], m: SetCount, o: usize, i: usize) -> Option<usize>
     requires { (length file.now ≤ file_limit) × Visited m file.now o }
     ensures { result ≡ optional_place m file.now o i }
 {
     let k = file[o];
     if k % 32 != INTERFACE {
-        return Place::Nowhere;
+        return None;
     }
     let a = rdb_file::is_annotated(k);
     let p = optionals_at(file, m, a, o);
     item_place(file, Item::Base, m, a, p, i)
 }
 
-// Attribute i.
-pub fn attribute_place(file: &[u8], m: SetCount, o: usize, i: usize) -> Place
+/// Attribute i.
+pub fn attribute_place(file: &[u8], m: SetCount, o: usize, i: usize) -> Option<usize>
     requires { (length file.now ≤ file_limit) × Visited m file.now o }
     ensures { result ≡ attribute_place m file.now o i }
 {
     let k = file[o];
     if k % 32 != INTERFACE {
-        return Place::Nowhere;
+        return None;
     }
     let a = rdb_file::is_annotated(k);
     let p = attributes_at(file, m, a, o);
     item_place(file, Item::Attribute, m, a, p, i)
 }
 
-// Method i.
-pub fn method_place(file: &[u8], m: SetCount, o: usize, i: usize) -> Place
+/// Method i.
+pub fn method_place(file: &[u8], m: SetCount, o: usize, i: usize) -> Option<usize>
     requires { (length file.now ≤ file_limit) × Visited m file.now o }
     ensures { result ≡ method_place m file.now o i }
 {
     let k = file[o];
     if k % 32 != INTERFACE {
-        return Place::Nowhere;
+        return None;
     }
     let a = rdb_file::is_annotated(k);
     let p = methods_at(file, m, a, o);
@@ -132,36 +138,36 @@ pub fn method_place(file: &[u8], m: SetCount, o: usize, i: usize) -> Place
 }
 
 // The counted annotations of the entity at o, which is annotated.
-fn noted_place(file: &[u8], m: SetCount, o: usize) -> Place
+fn noted_place(file: &[u8], m: SetCount, o: usize) -> Option<usize>
     requires { (length file.now ≤ file_limit) × Visited m file.now o × (is_annotated (get_or file.now o 0) ≡ true) }
     ensures { result ≡ notes_place m file.now o }
 {
     let k = file[o];
     if k % 32 == ENUM {
-        return Place::At(rdb_ends::items_end(file, Item::Member, m, true, o + 1));
+        return Some(rdb_ends::items_end(file, Item::Member, m, true, o + 1));
     }
     if k % 32 == INTERFACE {
-        return Place::At(own_notes_at(file, m, true, o));
+        return Some(own_notes_at(file, m, true, o));
     }
     if k % 32 == GROUP {
         let n = rdb_ends::count_at(file, o + 1);
-        return Place::At(o + 5 + ENTRY_BYTES * n);
+        return Some(o + 5 + ENTRY_BYTES * n);
     }
-    Place::Nowhere
+    None
 }
 
-// Those of any entity.
-pub fn notes_place(file: &[u8], m: SetCount, o: usize) -> Place
+/// Those of any entity.
+pub fn notes_place(file: &[u8], m: SetCount, o: usize) -> Option<usize>
     requires { (length file.now ≤ file_limit) × Visited m file.now o }
     ensures { result ≡ notes_place m file.now o }
 {
     if rdb_file::is_annotated(file[o]) {
         return noted_place(file, m, o);
     }
-    Place::Nowhere
+    None
 }
 
-// The number of constants of the entity at o.
+/// The number of constants of the entity at o.
 pub fn constant_count(file: &[u8], o: usize) -> usize
     requires { (m : SetCount) × Visited m file.now o }
     ensures { result ≡ constant_count file.now o }
@@ -172,7 +178,7 @@ pub fn constant_count(file: &[u8], o: usize) -> usize
     rdb_ends::count_at(file, o + 1)
 }
 
-// The number of its entries.
+/// The number of its entries.
 pub fn entry_count(file: &[u8], o: usize) -> usize
     requires { (m : SetCount) × Visited m file.now o }
     ensures { result ≡ entry_count file.now o }

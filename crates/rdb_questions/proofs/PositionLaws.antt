@@ -1,11 +1,12 @@
 -- Answers asked with a position that a word spells.
 -- Assumes nothing.
+use Rattle.std.specs.Prelude.{Err, Ok, Result}
 use mathlib.Core.Path.{◌≡◌}
 use mathlib.Core.Bool.{Bool}
 use mathlib.Core.List.{List}
 use Prim.Native.Nat.{ℕ}
-use Rattle.words.specs.declared.Number.{Number}
-use Rattle.words.specs.declared.Number.TheVariants.{Is, NotDecimal, TooLarge}
+use Rattle.words.specs.declared.NumberError.{NumberError}
+use Rattle.words.specs.declared.NumberError.TheVariants.{NotDecimal, TooLarge}
 use Rattle.rdb_interface.specs.declared.SetCount.{SetCount}
 use Rattle.rdb_file.specs.File.{read_file}
 use Rattle.rdb_parts.specs.declared.PartAnswer.{PartAnswer}
@@ -24,15 +25,15 @@ use Rattle.rdb_questions.specs.Lines.{with_position}
 pub told_Opens : (b : Bool) (m : SetCount) (f : ℕ → PartAnswer) (s path before : List ℕ) {a : PartAnswer} {r : Begun} → a ≡ said_of f (read_file m s) s path → r ≡ telling a → Opens b (say_part s (said_of f (read_file m s) s path)) s before r before
 told_Opens b m f s path before e k = rw (← e) (telling-Opens b s before _ (rw e (Small-said m f s path)) k)
 
-module _ (s before after : List ℕ) (r : Begun) (what : List ℕ) (n : Number) (ask : ℕ → Saying) where
-  pub position_is : (i : ℕ) → n ≡ Is i → ((b : Bool) → Opens b (ask i) s before r after) → (b : Bool) → Opens b (with_position what n ask) s before r after
+module _ (s before after : List ℕ) (r : Begun) (what : List ℕ) (n : Result ℕ NumberError) (ask : ℕ → Saying) where
+  pub position_is : (i : ℕ) → n ≡ Ok i → ((b : Bool) → Opens b (ask i) s before r after) → (b : Bool) → Opens b (with_position what n ask) s before r after
   unfolding with_position
   position_is i e h b = rw e (h b)
 
-  pub position_not_decimal : (said : Said) → n ≡ NotDecimal → Says (mistaken (not_decimal_mistake what)) before said after → r ≡ spoken said → (b : Bool) → Opens b (with_position what n ask) s before r after
+  pub position_not_decimal : (said : Said) → n ≡ Err NotDecimal → Says (mistaken (not_decimal_mistake what)) before said after → r ≡ spoken said → (b : Bool) → Opens b (with_position what n ask) s before r after
   unfolding with_position
   position_not_decimal said e h k b = rw e (said_Opens b _ s before after said h k)
 
-  pub position_too_large : (said : Said) → n ≡ TooLarge → Says (mistaken (too_large_mistake what)) before said after → r ≡ spoken said → (b : Bool) → Opens b (with_position what n ask) s before r after
+  pub position_too_large : (said : Said) → n ≡ Err TooLarge → Says (mistaken (too_large_mistake what)) before said after → r ≡ spoken said → (b : Bool) → Opens b (with_position what n ask) s before r after
   unfolding with_position
   position_too_large said e h k b = rw e (said_Opens b _ s before after said h k)

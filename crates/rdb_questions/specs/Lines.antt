@@ -1,9 +1,9 @@
 -- The answer to a line about a types.rdb, by its words.
 -- Assumes nothing.
-use Rattle.std.specs.Prelude.{Bool, List, ◌++◌, ℕ}
+use Rattle.std.specs.Prelude.{Bool, List, ◌++◌, ℕ, Err, Ok, Result}
 use Rattle.ascii.specs.Ascii.{ascii}
-use Rattle.words.specs.declared.Number.{Number}
-use Rattle.words.specs.declared.Number.TheVariants.{Is, NotDecimal, TooLarge}
+use Rattle.words.specs.declared.NumberError.{NumberError}
+use Rattle.words.specs.declared.NumberError.TheVariants.{NotDecimal, TooLarge}
 use Rattle.words.specs.Numbers.{number_of}
 use Rattle.words.specs.Words.{word_in}
 use Rattle.reading.specs.Got.{Got, got, bad}
@@ -33,10 +33,10 @@ unfoldable pub paths_saying : Bool → SetCount → List ℕ → Saying
 paths_saying in_batch m s = saying (paths_answer in_batch (read_file m s) s) (verdict_why (verdict_of (read_file m s)))
 
 -- a word that is a position; what it is told as
-unfoldable pub with_position : List ℕ → Number → (ℕ → Saying) → Saying
-with_position what (Is i) ask = ask i
-with_position what NotDecimal ask = mistaken (not_decimal_mistake what)
-with_position what TooLarge ask = mistaken (too_large_mistake what)
+unfoldable pub with_position : List ℕ → Result ℕ NumberError → (ℕ → Saying) → Saying
+with_position what (Ok i) ask = ask i
+with_position what (Err NotDecimal) ask = mistaken (not_decimal_mistake what)
+with_position what (Err TooLarge) ask = mistaken (too_large_mistake what)
 
 -- of a part
 abbrev pub the_position : List ℕ

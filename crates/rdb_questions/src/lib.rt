@@ -1,4 +1,4 @@
-// The answer to a command about a types.rdb, from the words of its line.
+//! The answer to a command about a types.rdb, from the words of its line.
 #![tactic(auto)]
 
 ghost use Rattle.std.specs.Prelude.{Bool};
@@ -11,17 +11,16 @@ ghost use Rattle.rdb_questions.specs.Lines.{paths_saying, part_saying, second_sa
 use rdb_interface::SetCount;
 use rdb_parts::{Inner, Part};
 use rdb_tasks::Asked;
-use reading::Verdict;
 use said::{ANSWER_ROOM, Said};
 use streamed::Begun;
-use words::Number;
+use words::NumberError;
 
 fn ask_list(m: SetCount, file: &[u8], text: &mut [u8; ANSWER_ROOM]) -> Begun
     ensures { (b : Bool) → Opens b (paths_saying b m file.now) file.now text.old result text.new }
 {
     match rdb_file::check(file, m) {
-        Verdict::Accepted(_) => streamed::paths(),
-        Verdict::Refused(why) => streamed::said(said::refused(why, text)),
+        Ok(_) => streamed::paths(),
+        Err(why) => streamed::said(said::refused(why, text)),
     }
 }
 
@@ -67,13 +66,11 @@ fn part_at(
     ensures { (b : Bool) → Opens b (part_saying m file.now path.now which position.now) file.now text.old result text.new }
 {
     match words::number_of(position) {
-        Number::Is(i) => {
-            streamed::tell(rdb_parts::part_by_path(file, m, path, which, i as usize))
-        }
-        Number::NotDecimal => {
+        Ok(i) => { streamed::tell(rdb_parts::part_by_path(file, m, path, which, i as usize)) }
+        Err(NumberError::NotDecimal) => {
             streamed::said(said::mistake(b"error the position is not decimal\n", text))
         }
-        Number::TooLarge => streamed::said(said::mistake(
+        Err(NumberError::TooLarge) => streamed::said(said::mistake(
             b"error the position does not fit 64 bits\n",
             text,
         )),
@@ -93,14 +90,12 @@ fn inner_at(
     ensures { (b : Bool) → Opens b (second_saying m file.now path.now which i position.now) file.now text.old result text.new }
 {
     match words::number_of(position) {
-        Number::Is(j) => streamed::tell(rdb_inner::inner_by_path(
-            file, m, path, which, i, j as usize,
-        )),
-        Number::NotDecimal => streamed::said(said::mistake(
+        Ok(j) => streamed::tell(rdb_inner::inner_by_path(file, m, path, which, i, j as usize)),
+        Err(NumberError::NotDecimal) => streamed::said(said::mistake(
             b"error the second position is not decimal\n",
             text,
         )),
-        Number::TooLarge => streamed::said(said::mistake(
+        Err(NumberError::TooLarge) => streamed::said(said::mistake(
             b"error the second position does not fit 64 bits\n",
             text,
         )),
@@ -120,11 +115,11 @@ fn inner_of(
     ensures { (b : Bool) → Opens b (inner_saying m file.now path.now which first.now second.now) file.now text.old result text.new }
 {
     match words::number_of(first) {
-        Number::Is(i) => inner_at(file, m, path, which, i as usize, second, text),
-        Number::NotDecimal => {
+        Ok(i) => inner_at(file, m, path, which, i as usize, second, text),
+        Err(NumberError::NotDecimal) => {
             streamed::said(said::mistake(b"error the position is not decimal\n", text))
         }
-        Number::TooLarge => streamed::said(said::mistake(
+        Err(NumberError::TooLarge) => streamed::said(said::mistake(
             b"error the position does not fit 64 bits\n",
             text,
         )),
@@ -172,7 +167,7 @@ fn ask_inner(
     inner_of(file, m, &line[p..q], which, &line[a..b], &line[c..d], text)
 }
 
-// What the answer to the words about the file begins with; its name is the third word.
+/// What the answer to the words about the file begins with; its name is the third word.
 pub fn open(
     m: SetCount,
     asked: Asked,

@@ -1,2 +1,2 @@
-// No code: the two readings of a types.rdb agree where no interface has a read-only attribute.
+//! No code: the two readings of a types.rdb agree where no interface has a read-only attribute.
 #![tactic(auto)]

@@ -1,4 +1,5 @@
-// The value of a constant of a types.rdb as it is printed, from its stored bytes. Each writer answers the place after what it wrote.
+//! The value of a constant of a types.rdb as it is printed, from its stored bytes. Each writer answers the place after
+//! what it wrote.
 #![tactic(auto)]
 
 ghost use Rattle.std.specs.Prelude.{◌≡◌, ◌++◌, ℕ, ◌+◌, ◌*◌, ◌%◌, ◌^◌, ◌≤◌, ◌<◌, length, get_or};
@@ -31,11 +32,9 @@ fn put_bits(out: &mut [u8], at: usize, file: &[u8], from: usize, k: usize) -> us
     requires { (from + k ≤ length file.now) × (at + 2 * k ≤ length out.old) }
     ensures { (result ≡ at + 2 * k) × (out.new ≡ sets out.old at (hex_of (2 * k) (le k file.now from))) }
 {
-    let mut left = k;
     let mut next = at;
-    while 0 < left {
-        left -= 1;
-        next = text::put_hex(out, next, file, from + left, 1);
+    for i in 0..k {
+        next = text::put_hex(out, next, file, from + (k - 1 - i), 1);
     }
     next
 }
@@ -128,7 +127,7 @@ fn put_stored(out: &mut [u8], at: usize, file: &[u8], kind: u8, from: usize) -> 
     put_double(out, at, file, from)
 }
 
-// The value of the constant whose kind byte is at o.
+/// The value of the constant whose kind byte is at o.
 pub fn put_value(out: &mut [u8], at: usize, file: &[u8], o: usize) -> usize
     requires { (o + 1 + value_size (get_or file.now o 0 % 128) ≤ length file.now) × (length file.now ≤ file_limit) × Room out.old at 36 }
     ensures { Wrote out.old at (value_text (value_in file.now o)) result out.new × (result ≤ at + 36) }

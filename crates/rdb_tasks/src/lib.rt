@@ -1,4 +1,4 @@
-// What a line asks about a types.rdb, by its second word, with `part` its fifth too, and the number of its words.
+//! What a line asks about a types.rdb, by its second word, with `part` its fifth too, and the number of its words.
 #![tactic(auto)]
 
 ghost use Rattle.std.specs.Prelude.{◌≡◌, ◌+◌, ◌≤◌};
@@ -10,8 +10,8 @@ use rdb_interface::SetCount;
 use rdb_parts::{Inner, Part};
 use said::{ANSWER_ROOM, Said, Why};
 
-// `Part` and `Inner` ask for a part of an entity, and `Which` for one that there is not.
-#[derive(Clone, Copy)]
+/// `Part` and `Inner` ask for a part of an entity, and `Which` for one that there is not.
+#[derive(Clone, Copy, Debug, PartialEq, Eq)]
 pub enum Asked {
     Check,
     List,
@@ -23,7 +23,7 @@ pub enum Asked {
     Unknown,
 }
 
-// Whether the first word is one of a command about a types.rdb.
+/// Whether the first word is one of a command about a types.rdb.
 pub fn is_types(word: &[u8]) -> bool
     ensures { result ≡ is_types word.now }
 {
@@ -33,7 +33,7 @@ pub fn is_types(word: &[u8]) -> bool
     words::is_same(word, b"office")
 }
 
-// How it has the file read.
+/// How it has the file read.
 pub fn reading_of(word: &[u8]) -> SetCount
     ensures { result ≡ reading_of word.now }
 {
@@ -115,7 +115,7 @@ fn which_of(word: &[u8]) -> Asked
     note_of(word)
 }
 
-// What the second word asks for, and with `part` the fifth.
+/// What the second word asks for, and with `part` the fifth.
 pub fn asked_of(word: &[u8], which: &[u8]) -> Asked
     ensures { result ≡ asked_of word.now which.now }
 {
@@ -137,7 +137,7 @@ pub fn asked_of(word: &[u8], which: &[u8]) -> Asked
     Asked::Unknown
 }
 
-// Whether it has that many words.
+/// Whether it has that many words.
 pub fn has_words(asked: Asked, n: usize) -> bool
     ensures { result ≡ has_words asked n }
 {
@@ -193,7 +193,7 @@ fn put_words(asked: Asked, text: &mut [u8; ANSWER_ROOM], at: usize) -> usize
     }
 }
 
-// The words that a command takes.
+/// The words that a command takes.
 pub fn usage(m: SetCount, asked: Asked, text: &mut [u8; ANSWER_ROOM]) -> Said
     ensures { Says (mistaken (usage_text m asked)) text.old result text.new }
 {

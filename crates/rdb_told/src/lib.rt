@@ -1,4 +1,4 @@
-// The line that tells a part of an entity of a types.rdb, buffer by buffer: its texts may be longer than a buffer.
+//! The line that tells a part of an entity of a types.rdb, buffer by buffer: its texts may be longer than a buffer.
 #![tactic(auto)]
 
 ghost use Rattle.std.specs.Prelude.{◌≡◌, ◌++◌, ◌+◌, ◌≤◌, length};
@@ -15,15 +15,15 @@ use rdb_text::Text;
 use reading::Refusal;
 use said::Why;
 
-// How many bytes of the buffer were filled, the place in the line after them, and whether they are its last.
-#[derive(Drop)]
+/// How many bytes of the buffer were filled, the place in the line after them, and whether they are its last.
+#[derive(Clone, Copy, Debug, PartialEq, Eq)]
 pub struct Filled {
     pub length: usize,
     pub place: usize,
     pub ends: bool,
 }
 
-// Whether the line tells a part, or why there is none to tell.
+/// Whether the line tells a part, or why there is none to tell.
 pub fn why_of(a: PartAnswer) -> Why
     ensures { result ≡ part_why a }
 {
@@ -158,7 +158,7 @@ fn put_part(out: &mut [u8], from: usize, file: &[u8], a: PartAnswer) -> usize
     }
 }
 
-// The bytes of the line from `place` on.
+/// The bytes of the line from `place` on.
 pub fn fill(file: &[u8], a: PartAnswer, place: usize, out: &mut [u8; 65536]) -> Filled
     requires { Small file.now a }
     ensures { Fills (part_text file.now a) place out.old result out.new }

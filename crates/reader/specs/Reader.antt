@@ -1,9 +1,9 @@
 -- A file decoded, and the check's answer. Both are shut: the crates above use the laws below them.
 -- Assumes nothing.
-use Rattle.std.specs.Prelude.{List, ℕ}
+use Rattle.reading.specs.declared.Refusal.{Refusal}
+use Rattle.std.specs.Prelude.{List, ℕ, Result}
 use Rattle.reading.specs.Got.{Got}
 use Rattle.typelib.specs.Typelib.{Typelib, read_typelib, verdict_of}
-use Rattle.reading.specs.declared.Verdict.{Verdict}
 pub mod Laws
 pub mod Chains
 pub mod Marked
@@ -14,5 +14,5 @@ pub decode : List ℕ → Got Typelib
 decode s = read_typelib s
 
 -- accepted with n, or document 01's number and place
-pub check_of : List ℕ → Verdict
+pub check_of : List ℕ → Result ℕ Refusal
 check_of s = verdict_of (decode s)

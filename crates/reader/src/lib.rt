@@ -9,7 +9,7 @@ ghost use Rattle.reader.specs.Records.{Bytes};
 ghost use Rattle.reader.specs.Reader.{decode, check_of};
 ghost use Rattle.reader.specs.Layout.{LaidOut};
 
-pub use reading::{Refusal, Verdict};
+pub use reading::Refusal;
 
 pub mod entry;
 pub mod record;
@@ -25,7 +25,7 @@ pub const FURTHER_ASTRING: u8 = types::FURTHER_ASTRING;
 pub const STRINGS_MINOR: u8 = types::STRINGS_MINOR;
 
 // Where the parts of an accepted file stand: its number of interfaces, and the offsets of directory and pool.
-#[derive(Clone, Copy)]
+#[derive(Clone, Copy, Debug, PartialEq, Eq)]
 pub struct Layout {
     pub count: usize,
     pub directory: usize,
@@ -33,7 +33,7 @@ pub struct Layout {
 }
 
 // Whether a file follows document 01: accepted with its number of interfaces, or the first refusal in the document's order.
-pub fn check(file: &[u8]) -> Verdict
+pub fn check(file: &[u8]) -> Result<usize, Refusal>
     ensures value { result ≡ check_of file.now }
     ensures bytes { Bytes file.now }
 {

@@ -10,7 +10,7 @@ use crate::NEWEST;
 use types::Class;
 
 // What stands after a type's prefix: nothing; an index; an argument number; two of them and an element; two of them.
-#[derive(Drop)]
+#[derive(Clone, Copy, Debug, PartialEq, Eq)]
 pub enum Form {
     Simple,
     Interface,
@@ -82,11 +82,9 @@ pub fn params_end(pool: &[u8], n: usize, at: usize) -> usize
     requires { Stands (Rows (ShowsParam pool.now) n at) × (length pool.now ≤ file_limit) }
     ensures { Ends (Rows (ShowsParam pool.now) n at) result }
 {
-    let mut k: usize = 0;
     let mut p = at;
-    while k < n {
+    for _ in 0..n {
         p = type_end(pool, p + 1);
-        k += 1;
     }
     p
 }
@@ -130,11 +128,9 @@ pub fn methods_end(pool: &[u8], n: usize, at: usize) -> usize
     requires { Stands (Rows (ShowsMethod pool.now) n at) × (length pool.now ≤ file_limit) }
     ensures { Ends (Rows (ShowsMethod pool.now) n at) result }
 {
-    let mut k: usize = 0;
     let mut p = at;
-    while k < n {
+    for _ in 0..n {
         p = method_end(pool, p);
-        k += 1;
     }
     p
 }

@@ -1,10 +1,9 @@
 -- What reading a record gives: a value with the position after it, or a refusal's number with its place.
 -- Assumes nothing.
-use Rattle.std.specs.Prelude.{◌≡◌, List, [], ◌∷◌, ℕ, zero, suc, ◌+◌, length, get_or}
+use Rattle.reading.specs.declared.Refusal.{Refusal}
+use Rattle.std.specs.Prelude.{◌≡◌, List, [], ◌∷◌, ℕ, zero, suc, ◌+◌, length, get_or, Err, Ok, Result}
 use Rattle.number.specs.Choice.{when◌then◌else◌, ◌<?◌, ◌≤?◌}
 use Rattle.number.specs.Number.{Endian, big, num}
-use Rattle.reading.specs.declared.Step.{Step}
-use Rattle.reading.specs.declared.Step.TheVariants.{End, Refused}
 use Rattle.reading.specs.declared.Context.{Context}
 
 pub data Got (X : Type 0) : Type 0 where
@@ -12,9 +11,9 @@ pub data Got (X : Type 0) : Type 0 where
   bad : ℕ → ℕ → Got X
 
 -- the answer of a reader that keeps no value
-unfoldable pub step_of : {X : Type 0} → Got X → Step
-step_of (got x e) = End e
-step_of (bad n q) = Refused (record { no = n; place = q })
+unfoldable pub step_of : {X : Type 0} → Got X → Result ℕ Refusal
+step_of (got x e) = Ok e
+step_of (bad n q) = Err (record { no = n; place = q })
 
 -- go on with what was read and its end, or pass the refusal up
 unfoldable pub next : {X Y : Type 0} → Got X → (X → ℕ → Got Y) → Got Y

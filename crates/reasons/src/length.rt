@@ -1,4 +1,4 @@
-// How a file's length differs from the one in its header, in plain words, from `at` on.
+//! How a file's length differs from the one in its header, in plain words, from `at` on.
 ghost use Rattle.std.specs.Prelude.{◌≡◌, ◌++◌, ◌+◌, ◌≤◌, ◌<◌, length};
 ghost use Rattle.ascii.specs.Ascii.{ascii};
 ghost use Rattle.decimal.specs.Digits.{digits_of};
@@ -7,9 +7,9 @@ ghost use Rattle.failures.specs.Room.{room};
 ghost use Rattle.reasons.specs.Lengths.{cut_text, without_text, padded_text, said_length, length_text};
 
 use failures::ROOM;
-use reading::{Refusal, Verdict};
+use reading::Refusal;
 
-// The length that the header gives.
+/// The length that the header gives.
 pub fn said_length(file: &[u8]) -> usize
     ensures { result ≡ said_length file.now }
 {
@@ -44,18 +44,18 @@ fn put_refused(why: Refusal, text: &mut [u8; ROOM], at: usize) -> usize
 }
 
 // The verdict on them.
-fn put_without(v: Verdict, text: &mut [u8; ROOM], at: usize) -> usize
+fn put_without(v: Result<usize, Refusal>, text: &mut [u8; ROOM], at: usize) -> usize
     requires { at + 80 ≤ room }
     ensures { Wrote text.old at (without_text v) result text.new × (result ≤ at + 80) }
 {
     match v {
-        Verdict::Accepted(n) => text::put_bytes(text, at, b"; without them the file is accepted"),
-        Verdict::Refused(why) => put_refused(why, text, at),
+        Ok(n) => text::put_bytes(text, at, b"; without them the file is accepted"),
+        Err(why) => put_refused(why, text, at),
     }
 }
 
 // 30: n bytes follow.
-fn put_padded(n: u64, v: Verdict, text: &mut [u8; ROOM], at: usize) -> usize
+fn put_padded(n: u64, v: Result<usize, Refusal>, text: &mut [u8; ROOM], at: usize) -> usize
     requires { at + 192 ≤ room }
     ensures { Wrote text.old at (padded_text n v) result text.new × (result ≤ at + 192) }
 {
@@ -68,7 +68,7 @@ fn put_padded(n: u64, v: Verdict, text: &mut [u8; ROOM], at: usize) -> usize
     put_without(v, text, rest)
 }
 
-// The two together, with the verdict on the first `said` bytes of a file that has more.
+/// The two together, with the verdict on the first `said` bytes of a file that has more.
 pub fn put_length(file: &[u8], said: usize, text: &mut [u8; ROOM], at: usize) -> usize
     requires { at + 192 ≤ room }
     ensures { Wrote text.old at (length_text file.now said) result text.new × (result ≤ at + 192) }

@@ -1,4 +1,4 @@
-// The reason of a refusal in plain words: one line for standard error, made whole at the front of a lent buffer.
+//! The reason of a refusal in plain words: one line for standard error, made whole at the front of a lent buffer.
 #![tactic(auto)]
 
 mod length;
@@ -13,7 +13,7 @@ ghost use Rattle.reasons.specs.Refusals.{key_limit, place_text, key_text, where_
 ghost use Rattle.reasons.specs.Lengths.{said_length, length_text, wrong_length_text};
 
 use failures::ROOM;
-use reading::Refusal;
+use reading::{Refusal, Rule};
 
 // An index in the first of two files, from `at` on.
 fn put_index(place: u64, text: &mut [u8; ROOM], at: usize) -> usize
@@ -25,6 +25,7 @@ fn put_index(place: u64, text: &mut [u8; ROOM], at: usize) -> usize
 }
 
 // What the place counts, from `at` on.
+// A number, no enum: the clause promises `place_text` of every number.
 fn put_place(no: u8, place: u64, text: &mut [u8; ROOM], at: usize) -> usize
     requires { at + 64 ≤ room }
     ensures { Wrote text.old at (place_text no place) result text.new × (result ≤ at + 64) }
@@ -76,6 +77,7 @@ fn put_wrong(why: Refusal, file: &[u8], text: &mut [u8; ROOM], at: usize) -> usi
 }
 
 // Those and the rule, from `at` on to the line's end.
+// A number, no enum: the clause promises `why_text` of every number.
 fn put_why(
     why: Refusal,
     rule: u8,
@@ -93,7 +95,8 @@ fn put_why(
     text::put_bytes(text, end, b"\n")
 }
 
-// The refusal of one file: its rule for 8 and 16 (0 for none), and the key of the interface it is of (none where it is empty).
+/// The refusal of one file: its rule for 8 and 16 (0 for none), and the key of the interface it is of (none where it is empty).
+// A number, no enum: the clause promises `refused_text` of every number.
 pub fn refused(name: &[u8], why: Refusal, rule: u8, key: &[u8], text: &mut [u8; ROOM]) -> usize
     requires { (length name.now ≤ word_limit) × (length key.now ≤ key_limit) }
     ensures { Made (refused_text name.now why rule key.now) text.old result text.new }
@@ -102,7 +105,7 @@ pub fn refused(name: &[u8], why: Refusal, rule: u8, key: &[u8], text: &mut [u8; 
     put_why(why, rule, b", in ", key, text, at)
 }
 
-// The refusal of a file whose length is not the one in its header, 29 or 30.
+/// The refusal of a file whose length is not the one in its header, 29 or 30.
 pub fn wrong_length(name: &[u8], file: &[u8], why: Refusal, text: &mut [u8; ROOM]) -> usize
     requires { length name.now ≤ word_limit }
     ensures { Made (wrong_length_text name.now why file.now) text.old result text.new }
@@ -111,15 +114,16 @@ pub fn wrong_length(name: &[u8], file: &[u8], why: Refusal, text: &mut [u8; ROOM
     put_wrong(why, file, text, at)
 }
 
-// The refusal of a question, 20: by the word that is at fault, 0 for none.
+/// The refusal of a question, 20: by the word that is at fault, 0 for none.
+// A number, no enum: the clause promises `asked_text` of every number.
 pub fn asked(name: &[u8], word: u8, text: &mut [u8; ROOM]) -> usize
     requires { length name.now ≤ word_limit }
     ensures { Made (asked_text name.now word) text.old result text.new }
 {
-    refused(name, Refusal { no: 20, place: 0 }, word, b"", text)
+    refused(name, Rule::Question.at(0), word, b"", text)
 }
 
-// The refusal of the union of two files, and the key of the interface of the first that it is of.
+/// The refusal of the union of two files, and the key of the interface of the first that it is of.
 pub fn united(first: &[u8], second: &[u8], why: Refusal, key: &[u8], text: &mut [u8; ROOM]) -> usize
     requires { (length first.now + length second.now ≤ word_limit) × (length key.now ≤ key_limit) }
     ensures { Made (united_text first.now second.now why key.now) text.old result text.new }

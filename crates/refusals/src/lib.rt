@@ -1,4 +1,4 @@
-// Why a line was refused, in words on standard error: its words, one of its files, or the union of them.
+//! Why a line was refused, in words on standard error: its words, one of its files, or the union of them.
 #![tactic(auto)]
 
 ghost use Rattle.std.specs.Prelude.{◌≤◌, length};
@@ -114,7 +114,7 @@ fn say_words(line: &[u8], separator: u8, text: &mut [u8; ROOM])
     }
 }
 
-// A question, or its file, which has these bytes.
+/// A question, or its file, which has these bytes.
 pub fn say_asked(line: &[u8], separator: u8, why: Refusal, file: &[u8], text: &mut [u8; ROOM])
     requires { length line.now ≤ word_limit }
 {
@@ -124,7 +124,7 @@ pub fn say_asked(line: &[u8], separator: u8, why: Refusal, file: &[u8], text: &m
     say_bytes(line, separator, 1, why, file, text)
 }
 
-// The line, or of its files the one that is meant.
+/// The line, or of its files the one that is meant.
 pub fn say(
     line: &[u8],
     separator: u8,
@@ -203,7 +203,7 @@ fn say_link(
     say_before(line, separator, k, why, text)
 }
 
-// A pile: the file that was refused, or the link of those before with the next.
+/// A pile: the file that was refused, or the link of those before with the next.
 pub fn say_step(
     line: &[u8],
     separator: u8,

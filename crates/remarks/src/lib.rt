@@ -1,4 +1,4 @@
-// Lines on standard error: why a file, a question or a link was refused. Each goes out in one write.
+//! Lines on standard error: why a file, a question or a link was refused. Each goes out in one write.
 #![tactic(auto)]
 
 ghost use Rattle.std.specs.Prelude.{◌≡◌, ◌+◌, ◌≤◌, length};
@@ -10,7 +10,7 @@ ghost use Rattle.remarks.specs.Words.{faulty_word};
 use failures::ROOM;
 use faults::Fault;
 use rdb_interface::SetCount;
-use reading::{Refusal, Verdict};
+use reading::Refusal;
 use verbs::Question;
 
 // By the name of a malformed question: 3 where it is at fault, else the other word.
@@ -61,7 +61,7 @@ fn refused_inside(name: &[u8], file: &[u8], why: Refusal, text: &mut [u8; ROOM])
     refused_by(name, file, why, faults::fault_of(file, why), &mut key, text);
 }
 
-// Why the descriptor of entry i, from 1, is not in what was salvaged of a file.
+/// Why the descriptor of entry i, from 1, is not in what was salvaged of a file.
 pub fn changed(name: &[u8], file: &[u8], i: usize, why: Refusal, text: &mut [u8; ROOM])
     requires { length name.now ≤ word_limit }
 {
@@ -109,7 +109,7 @@ pub fn refused(name: &[u8], file: &[u8], why: Refusal, text: &mut [u8; ROOM])
 
 // Where a types.rdb is refused as document 001 reads it, whether `office` accepts it.
 fn other_reading(name: &[u8], file: &[u8], text: &mut [u8; ROOM]) {
-    if let Verdict::Accepted(_) = rdb_file::check(file, SetCount::UnlessReadOnly) {
+    if let Ok(_) = rdb_file::check(file, SetCount::UnlessReadOnly) {
         streams::error(
             name,
             b"error office suites write it so: `xpt office` accepts it, reading no set exceptions for read-only attributes\n",
@@ -118,7 +118,7 @@ fn other_reading(name: &[u8], file: &[u8], text: &mut [u8; ROOM]) {
     }
 }
 
-// Why a types.rdb was refused, read as m says.
+/// Why a types.rdb was refused, read as m says.
 pub fn types_refused(name: &[u8], file: &[u8], m: SetCount, why: Refusal, text: &mut [u8; ROOM])
     requires { length name.now ≤ word_limit }
 {
@@ -129,7 +129,7 @@ pub fn types_refused(name: &[u8], file: &[u8], m: SetCount, why: Refusal, text: 
     }
 }
 
-// Why a file was not adopted. Its directory does not fit where libxpt counts it, which is not what the check asks of it.
+/// Why a file was not adopted. Its directory does not fit where libxpt counts it, which is not what the check asks of it.
 pub fn unadopted(name: &[u8], file: &[u8], why: Refusal, text: &mut [u8; ROOM])
     requires { length name.now ≤ word_limit }
 {
@@ -141,7 +141,7 @@ pub fn unadopted(name: &[u8], file: &[u8], why: Refusal, text: &mut [u8; ROOM])
     refused(name, file, why, text)
 }
 
-// Why a question about a file was refused, where the file is accepted; its own words come after the file's.
+/// Why a question about a file was refused, where the file is accepted; its own words come after the file's.
 pub fn asked(name: &[u8], question: Question, word: &[u8], text: &mut [u8; ROOM])
     requires { length name.now ≤ word_limit }
 {

@@ -1,4 +1,4 @@
-// Tables filled from files: the rows of a file's entries stand from `from` on.
+//! Tables filled from files: the rows of a file's entries stand from `from` on.
 #![tactic(auto)]
 
 ghost use Rattle.std.specs.Prelude.{◌≡◌, List, ℕ, ◌+◌, ◌≤◌, ◌<◌, length};
@@ -38,7 +38,7 @@ fn own_of(file: &[u8], l: Layout, i: usize) -> u32
     reader::entry::descriptor_pointer(file, l, i) as u32
 }
 
-// The pool pointers of the keys of a file's entries.
+/// The pool pointers of the keys of a file's entries.
 pub fn note_pointers(
     file: &[u8],
     l: Layout,
@@ -50,24 +50,20 @@ pub fn note_pointers(
     ensures { Noted (SpaceOf file.now l) spaces.old spaces.new from l.count × Noted (NameOf file.now l) names.old names.new from l.count }
 {
     let count = l.count;
-    let mut i: usize = 0;
-    while i < count {
+    for i in 0..count {
         spaces[from + i] = space_of(file, l, i);
         names[from + i] = name_of(file, l, i);
-        i += 1;
     }
 }
 
-// The pool pointers of their descriptors.
+/// The pool pointers of their descriptors.
 pub fn note_own(file: &[u8], l: Layout, from: usize, own: &mut [u32; ROW_LIMIT])
     requires { Lies file.now l × (from + l.count ≤ row_limit) × (row_limit ≡ length own.old) }
     ensures { Noted (OwnOf file.now l) own.old own.new from l.count }
 {
     let count = l.count;
-    let mut i: usize = 0;
-    while i < count {
+    for i in 0..count {
         own[from + i] = own_of(file, l, i);
-        i += 1;
     }
 }
 
@@ -89,7 +85,7 @@ fn low_of(file: &[u8], l: Layout, i: usize) -> u64
     number::u64_at(file, at + 8)
 }
 
-// Their IIDs.
+/// Their IIDs.
 pub fn note_iids(
     file: &[u8],
     l: Layout,
@@ -101,11 +97,9 @@ pub fn note_iids(
     ensures { Noted (HighOf file.now l) high.old high.new from l.count × Noted (LowOf file.now l) low.old low.new from l.count }
 {
     let count = l.count;
-    let mut i: usize = 0;
-    while i < count {
+    for i in 0..count {
         high[from + i] = high_of(file, l, i);
         low[from + i] = low_of(file, l, i);
-        i += 1;
     }
 }
 
@@ -162,7 +156,7 @@ fn up_of(
     firsts[j - 1] + 1
 }
 
-// The same of every row.
+/// The same of every row.
 pub fn note_up(
     first: &[u8],
     l: Layout,
@@ -177,9 +171,7 @@ pub fn note_up(
 {
     let n = l.count;
     let m = k.count;
-    let mut i: usize = 0;
-    while i < n + m {
+    for i in 0..n + m {
         up[i] = up_of(first, l, second, k, firsts, holders, i);
-        i += 1;
     }
 }

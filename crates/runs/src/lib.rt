@@ -1,5 +1,5 @@
-// The command of a line, from its bytes to standard output, standard error and files. Its words are parted by a separator, which is a space in a batch
-// and a zero byte between arguments.
+//! The command of a line, from its bytes to standard output, standard error and files. Its words are parted by a separator, which is a space in a batch
+//! and a zero byte between arguments.
 #![tactic(auto)]
 
 ghost use Rattle.std.specs.Prelude.{List, ℕ, ◌≤◌, length};
@@ -21,7 +21,6 @@ use failures::ROOM;
 use held::Wanting;
 use kept::{Kept, STORE_ROOM};
 use link::Which;
-use made::Save;
 use number::FILE_LIMIT;
 use said::{ANSWER_ROOM, Said, Why};
 use saving::Saved;
@@ -29,7 +28,7 @@ use streamed::Stream;
 use tasks::Task;
 use told::{Ran, Told};
 
-// The answer to the line, from the files that are kept under the names in it.
+/// The answer to the line, from the files that are kept under the names in it.
 pub fn answer_kept(
     line: &[u8],
     separator: u8,
@@ -137,7 +136,7 @@ fn say_changes(
 )
     requires { (length line.now ≤ word_limit) × Tidy rows.now kept }
 {
-    if let Saved::Done = saved {
+    if saved.is_ok() {
         changes::say(line, separator, kept, rows, store, out, work, text);
     }
 }
@@ -161,8 +160,8 @@ fn reply_with(
     let save = reply.save;
     let length = reply.said.length;
     match save {
-        Save::Nothing => say_reply(line, separator, reply, head, kept, rows, store, text),
-        Save::FirstBytes(n) => {
+        None => say_reply(line, separator, reply, head, kept, rows, store, text),
+        Some(n) => {
             let saved = told::save_output(rt, line, separator, n, out);
             let told = told::say_saved(line, separator, saved, length, head, text);
             say_changes(line, separator, saved, kept, rows, store, out, work, text);
@@ -239,7 +238,7 @@ fn run_few(
     Ran { kept, told }
 }
 
-// The command of a line.
+/// The command of a line.
 pub fn run(
     rt: &HostRuntime,
     line: &[u8],

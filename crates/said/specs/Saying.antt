@@ -1,9 +1,8 @@
 -- What is said: a line, and whether it answers, refuses or tells a mistake; and what a writer of such a line promises.
 -- Assumes nothing.
-use Rattle.std.specs.Prelude.{◌≡◌, List, ℕ, ◌≤◌, length}
+use Rattle.reading.specs.declared.Refusal.{Refusal}
+use Rattle.std.specs.Prelude.{◌≡◌, List, ℕ, ◌≤◌, length, Err, Ok, Result}
 use Rattle.std.proofs.lemmas.List.Edits.{sets}
-use Rattle.reading.specs.declared.Verdict.{Verdict}
-use Rattle.reading.specs.declared.Verdict.TheVariants as verdict
 use Rattle.text.specs.Line.{line_of}
 use Rattle.said.specs.declared.Why.{Why}
 use Rattle.said.specs.declared.Why.TheVariants.{Answered, Refused, Mistaken}
@@ -31,10 +30,10 @@ saying text why = record { text = text; why = why }
 abbrev pub mistaken : List ℕ → Saying
 mistaken text = saying text Mistaken
 
-unfoldable pub verdict_why : Verdict → Why
-verdict_why (verdict.Accepted n) = Answered
-verdict_why (verdict.Refused x) = Refused x
+unfoldable pub verdict_why : Result ℕ Refusal → Why
+verdict_why (Ok n) = Answered
+verdict_why (Err x) = Refused x
 
 -- the line of a verdict, and why
-unfoldable pub say_verdict : Verdict → Saying
+unfoldable pub say_verdict : Result ℕ Refusal → Saying
 say_verdict v = saying (line_of v) (verdict_why v)

@@ -1,9 +1,8 @@
 -- Words and lines that answers of every kind are said with, as ASCII codes, each line with its newline.
 -- Assumes nothing.
-use Rattle.std.specs.Prelude.{List, [], ◌∷◌, ◌++◌, ℕ}
+use Rattle.std.specs.Prelude.{List, [], ◌∷◌, ◌++◌, ℕ, Err}
 use Rattle.decimal.specs.Digits.{digits_of}
 use Rattle.reading.specs.declared.Refusal.{Refusal}
-use Rattle.reading.specs.declared.Verdict.TheVariants.{Refused}
 use Rattle.text.specs.Line.{line_of, space, newline}
 
 -- `found `, with its space
@@ -36,7 +35,7 @@ none_line = nothing ++ newline
 
 -- `refused NO PLACE`
 abbrev pub refused_line : Refusal → List ℕ
-refused_line why = line_of (Refused why)
+refused_line why = line_of (Err why)
 
 -- `error `, with its space
 abbrev pub error : List ℕ

@@ -1,4 +1,4 @@
-// A line that is said, its newline included, at the front of a buffer: its room, its length and why; a mistake, a number, none, a refusal.
+//! A line that is said, its newline included, at the front of a buffer: its room, its length and why; a mistake, a number, none, a refusal.
 #![tactic(auto)]
 
 ghost use Rattle.std.specs.Prelude.{◌+◌, ◌≤◌, length};
@@ -9,25 +9,25 @@ ghost use Rattle.said.specs.Saying.{answer_room, Says, saying, mistaken};
 
 use reading::Refusal;
 
-// Room for every answer that is made whole: all but listings, tables, and the parts and paths of a types.rdb. A line, and up to 1,024 of three numbers.
+/// Room for every answer that is made whole: all but listings, tables, and the parts and paths of a types.rdb. A line, and up to 1,024 of three numbers.
 pub const ANSWER_ROOM: usize = 65536;
 
-// Whether a command was answered, was refused, or had a mistake in its words.
-#[derive(Drop)]
+/// Whether a command was answered, was refused, or had a mistake in its words.
+#[derive(Clone, Copy, Debug, PartialEq, Eq)]
 pub enum Why {
     Answered,
     Refused(Refusal),
     Mistaken,
 }
 
-// What was made at the front of the line's buffer: its length, newline included, and why.
-#[derive(Drop)]
+/// What was made at the front of the line's buffer: its length, newline included, and why.
+#[derive(Clone, Copy, Debug, PartialEq, Eq)]
 pub struct Said {
     pub length: usize,
     pub why: Why,
 }
 
-// A mistake in the words.
+/// A mistake in the words.
 pub fn mistake(text: &[u8], line: &mut [u8; ANSWER_ROOM]) -> Said
     requires { length text.now ≤ answer_room }
     ensures { Says (mistaken text.now) line.old result line.new }
@@ -39,21 +39,21 @@ pub fn mistake(text: &[u8], line: &mut [u8; ANSWER_ROOM]) -> Said
     }
 }
 
-// The index is not decimal.
+/// The index is not decimal.
 pub fn index_not_decimal(line: &mut [u8; ANSWER_ROOM]) -> Said
     ensures { Says (mistaken (not_decimal_mistake the_index)) line.old result line.new }
 {
     mistake(b"error the index is not decimal\n", line)
 }
 
-// The index does not fit 64 bits.
+/// The index does not fit 64 bits.
 pub fn index_too_large(line: &mut [u8; ANSWER_ROOM]) -> Said
     ensures { Says (mistaken (too_large_mistake the_index)) line.old result line.new }
 {
     mistake(b"error the index does not fit 64 bits\n", line)
 }
 
-// An answer that is a label and a number.
+/// An answer that is a label and a number.
 pub fn numbered(label: &[u8], n: u64, line: &mut [u8; ANSWER_ROOM]) -> Said
     requires { length label.now ≤ 64 }
     ensures { Says (saying (numbered label.now n) Answered) line.old result line.new }
@@ -66,7 +66,7 @@ pub fn numbered(label: &[u8], n: u64, line: &mut [u8; ANSWER_ROOM]) -> Said
     }
 }
 
-// The answer `none`.
+/// The answer `none`.
 pub fn none(line: &mut [u8; ANSWER_ROOM]) -> Said
     ensures { Says (saying none_line Answered) line.old result line.new }
 {
@@ -77,7 +77,7 @@ pub fn none(line: &mut [u8; ANSWER_ROOM]) -> Said
     }
 }
 
-// A label, a refusal's number and place, and a newline, from `at` on.
+/// A label, a refusal's number and place, and a newline, from `at` on.
 pub fn put_refusal(label: &[u8], why: Refusal, line: &mut [u8; ANSWER_ROOM], at: usize) -> usize
     requires { at + length label.now ≤ 64 }
     ensures { Wrote line.old at (placed label.now why) result line.new × (result ≤ answer_room) }
@@ -89,7 +89,7 @@ pub fn put_refusal(label: &[u8], why: Refusal, line: &mut [u8; ANSWER_ROOM], at:
     text::put_bytes(line, end, b"\n")
 }
 
-// A refusal.
+/// A refusal.
 pub fn refused(why: Refusal, line: &mut [u8; ANSWER_ROOM]) -> Said
     ensures { Says (saying (refused_line why) (Refused why)) line.old result line.new }
 {

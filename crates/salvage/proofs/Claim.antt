@@ -15,8 +15,8 @@ use Rattle.reader.specs.Values.{Typelib, entries_in}
 use Rattle.reader.specs.Records.{Bytes}
 use Rattle.reader.specs.Reader.{decode}
 use Rattle.meaning.specs.Meaning.{meaning}
-use Rattle.facts.specs.Link.{normal_entries}
-use Rattle.stock.specs.Uses.{normal_length}
+use Rattle.meaning.specs.Facts.Link.{normal_entries}
+use Rattle.meaning.specs.Stock.Uses.{normal_length}
 use Rattle.joining.specs.Outcome.{Outcome, refused, written, refusal, encoded, in_room}
 use Rattle.link.specs.Outcome.{normal_of, normalise_in}
 use Rattle.link.specs.Demand.{Means}

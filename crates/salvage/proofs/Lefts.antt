@@ -1,5 +1,6 @@
 -- What the tables of a judged file tell, as its cleared copy and its three lists.
 -- Assumes nothing.
+use Rattle.std.specs.Prelude.{Err, Ok, Result, ℕ}
 use mathlib.Core.Path.{◌≡◌, refl, sym, ap, ◌∙◌, subst}
 use mathlib.Core.Bool.{Bool, true, false}
 use mathlib.Core.List.{List, map}
@@ -20,8 +21,6 @@ use Rattle.typelib.specs.Typelib.{Fronted, pool_of, context_of}
 use Rattle.typelib.proofs.FrontLaws.{fronted_header}
 use Rattle.rules.specs.Shows.{Bytes}
 use Rattle.reader.specs.Reader.{decode}
-use Rattle.joining.specs.declared.Normalised.{Normalised}
-use Rattle.joining.specs.declared.Normalised.TheVariants as normalised
 use Rattle.link.specs.Outcome.{normalise_in, normalise_answer, normalise_buffer}
 use Rattle.mend.specs.Left.{readable, Report, report, index_of, number_of, place_of, report_of, reports_of}
 use Rattle.mend.specs.Cleared.{clear_all, cleared}
@@ -29,7 +28,6 @@ use Rattle.mend.specs.Tables.{Judged, Parents, number_in, place_in, number_for}
 use Rattle.mend.proofs.Entries.{says}
 use Rattle.mend.proofs.Accepts.{indexed}
 use Rattle.mend.proofs.Tells.{Parents-in, number_told, place_told}
-use Rattle.salvage.specs.declared.Salvaged.TheVariants as salvaged
 use Rattle.salvage.specs.Salvage.{too_short, Lent, outcome_of, Salvages}
 use Rattle.salvage.specs.Tables.{clear_by, list_by, index_at, reported_at}
 use Rattle.salvage.proofs.Tables.{cleared_by, listed_by, copied_whole}
@@ -111,16 +109,16 @@ module _ (s : List ℕ) (h : Header) (w : Fronted s h) (pool : List ℕ) (m : po
   same : outcome_of s l ≡ normalise_in (length l.out) copy
   same = outcome_left s h w pool m u l long bytes ∙ ap (normalise_in (length l.out)) (sym copy_is)
 
-  pub ends_refused : (x : Refusal) {r : Normalised} {out : List ℕ} → r ≡ normalise_answer copy l.out → out ≡ normalise_buffer copy l.out → r ≡ normalised.Refused x
-      → Salvages s l (salvaged.Refused x) (record { indexes = l.indexes; numbers = l.numbers; places = l.places; out = out })
+  pub ends_refused : (x : Refusal) {r : Result ℕ Refusal} {out : List ℕ} → r ≡ normalise_answer copy l.out → out ≡ normalise_buffer copy l.out → r ≡ Err x
+      → Salvages s l (Err x) (record { indexes = l.indexes; numbers = l.numbers; places = l.places; out = out })
   ends_refused x a b q = left_refused s copy l same x a b q
 
-  pub ends_written : (n changed : ℕ) {r : Normalised} {out indexes numbers places : List ℕ} → r ≡ normalise_answer copy l.out → out ≡ normalise_buffer copy l.out → r ≡ normalised.Written n
+  pub ends_written : (n changed : ℕ) {r : Result ℕ Refusal} {out indexes numbers places : List ℕ} → r ≡ normalise_answer copy l.out → out ≡ normalise_buffer copy l.out → r ≡ Ok n
       → changed ≡ length (list_by (number_in own ups h.count) index_at h.count)
       → indexes ≡ sets l.indexes 0 (list_by (number_in own ups h.count) index_at h.count)
       → numbers ≡ sets l.numbers 0 (list_by (number_in own ups h.count) (reported_at (number_in own ups h.count)) h.count)
       → places ≡ sets l.places 0 (list_by (number_in own ups h.count) (place_in own at h.directory) h.count)
-      → Salvages s l (salvaged.Written (record { length = n; changed = changed })) (record { indexes = indexes; numbers = numbers; places = places; out = out })
+      → Salvages s l (Ok (record { length = n; changed = changed })) (record { indexes = indexes; numbers = numbers; places = places; out = out })
   ends_written n changed a b q c i k p =
       left_written s copy l same (reports_of h s (readable h s w.rows)) (reports_left s h w pool m u l long bytes) n changed a b q (c ∙ judged_count s h w own at ups j)
       (i ∙ ap (sets l.indexes 0) (judged_indexes s h w own at ups j)) (k ∙ ap (sets l.numbers 0) (judged_numbers s h w own at ups j)) (p ∙ ap (sets l.places 0) (judged_places s h w own at ups j))

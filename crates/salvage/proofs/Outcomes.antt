@@ -1,5 +1,6 @@
 -- The outcome of salvaging a file: its refusals, and that what is left is written as the cleared file's normal form.
 -- Assumes nothing.
+use Rattle.std.specs.Prelude.{Err, Ok, Result, ℕ}
 use mathlib.Core.Path.{◌≡◌, refl, sym, ap, ◌∙◌}
 use mathlib.Core.Bool.{true, false}
 use mathlib.Core.List.{List, map}
@@ -26,14 +27,11 @@ use Rattle.rules.proofs.Whole as whole
 use Rattle.reader.specs.Reader.{decode}
 use Rattle.reader.specs.Reader.Laws as reader
 use Rattle.joining.specs.Outcome.{Outcome, refused, written, refusal, in_room, after, normalised_as}
-use Rattle.joining.specs.declared.Normalised.{Normalised}
-use Rattle.joining.specs.declared.Normalised.TheVariants as normalised
 use Rattle.link.specs.Outcome.{normal_of, normalise_in, normalise_answer, normalise_buffer}
 use Rattle.mend.specs.Left.{readable, left_in, Report, index_of, number_of, place_of, reports_of, left, left_behind, behind_front, read_left}
 use Rattle.mend.specs.Cleared.{cleared}
 use Rattle.mend.proofs.Entries.{says, key_at_lem}
 use Rattle.mend.proofs.Mends.{accepts, way_left, cleared-Bytes}
-use Rattle.salvage.specs.declared.Salvaged.TheVariants as salvaged
 use Rattle.salvage.specs.Salvage.{too_short, in_lists, salvage_of, reports_in, salvaged_as, listed, Lent, room_in, outcome_of, Salvages}
 
 -- ---- a file that was read is decoded
@@ -46,7 +44,7 @@ decoded_read s b t e h = whole.shown_accepted s b t (reader.accepted_shows s h) 
 
 -- ---- a refusal changes nothing
 
-pub refuses : (s : List ℕ) (l : Lent) (x : Refusal) → outcome_of s l ≡ refused x → Salvages s l (salvaged.Refused x) l
+pub refuses : (s : List ℕ) (l : Lent) (x : Refusal) → outcome_of s l ≡ refused x → Salvages s l (Err x) l
 unfolding salvaged_as after listed
 refuses s l x e = record {
   answer = sym (ap (λ (o : Outcome Refusal). salvaged_as o (reports_in (read_left s))) e);
@@ -116,19 +114,19 @@ module _ (s : List ℕ) (h : Header) (w : Fronted s h) (pool : List ℕ) (m : po
 
 -- ---- the answers
 
-normal_written : (o : Outcome Refusal) (n : ℕ) → normalised_as o ≡ normalised.Written n → (b : List ℕ) × (o ≡ written b) × (length b ≡ n)
+normal_written : (o : Outcome Refusal) (n : ℕ) → normalised_as o ≡ Ok n → (b : List ℕ) × (o ≡ written b) × (length b ≡ n)
 unfolding normalised_as
 normal_written (refused x) n e = absurd (let z : ◌≡◌ {A = ℕ} 0 1 = cc in omega arith)
 normal_written (written b) n e = (b, refl, cc)
 
-normal_refused : (o : Outcome Refusal) (x : Refusal) → normalised_as o ≡ normalised.Refused x → o ≡ refused x
+normal_refused : (o : Outcome Refusal) (x : Refusal) → normalised_as o ≡ Err x → o ≡ refused x
 unfolding normalised_as
 normal_refused (refused y) x e = cc
 normal_refused (written b) x e = absurd (let z : ◌≡◌ {A = ℕ} 0 1 = cc in omega arith)
 
 module _ (s copy : List ℕ) (l : Lent) (same : outcome_of s l ≡ normalise_in (length l.out) copy) where
-  pub left_refused : (x : Refusal) {r : Normalised} {out : List ℕ} → r ≡ normalise_answer copy l.out → out ≡ normalise_buffer copy l.out → r ≡ normalised.Refused x
-      → Salvages s l (salvaged.Refused x) (record { indexes = l.indexes; numbers = l.numbers; places = l.places; out = out })
+  pub left_refused : (x : Refusal) {r : Result ℕ Refusal} {out : List ℕ} → r ≡ normalise_answer copy l.out → out ≡ normalise_buffer copy l.out → r ≡ Err x
+      → Salvages s l (Err x) (record { indexes = l.indexes; numbers = l.numbers; places = l.places; out = out })
   unfolding normalise_answer normalise_buffer
   left_refused x a b q =
       let p = same ∙ normal_refused _ x (sym a ∙ q) in
@@ -137,15 +135,15 @@ module _ (s copy : List ℕ) (l : Lent) (same : outcome_of s l ≡ normalise_in 
 
   -- the lists are written in the order of the reports
   module _ (rs : List Report) (told : reports_in (read_left s) ≡ rs) where
-    pub left_written : (n changed : ℕ) {r : Normalised} {out indexes numbers places : List ℕ} → r ≡ normalise_answer copy l.out → out ≡ normalise_buffer copy l.out → r ≡ normalised.Written n
+    pub left_written : (n changed : ℕ) {r : Result ℕ Refusal} {out indexes numbers places : List ℕ} → r ≡ normalise_answer copy l.out → out ≡ normalise_buffer copy l.out → r ≡ Ok n
         → changed ≡ length rs → indexes ≡ sets l.indexes 0 (map index_of rs) → numbers ≡ sets l.numbers 0 (map number_of rs) → places ≡ sets l.places 0 (map place_of rs)
-        → Salvages s l (salvaged.Written (record { length = n; changed = changed })) (record { indexes = indexes; numbers = numbers; places = places; out = out })
+        → Salvages s l (Ok (record { length = n; changed = changed })) (record { indexes = indexes; numbers = numbers; places = places; out = out })
     unfolding normalise_answer normalise_buffer salvaged_as listed after
     left_written n changed a b q c i k p =
         let o = normal_written _ n (sym a ∙ q) in
         let y = same ∙ o.1 in
         record {
-          answer = (λ j. salvaged.Written (record { length = sym o.2 j; changed = c j })) ∙ sym (λ j. salvaged_as (y j) (told j));
+          answer = (λ j. Ok (record { length = sym o.2 j; changed = c j })) ∙ sym (λ j. salvaged_as (y j) (told j));
           out = b ∙ sym (ap (λ (z : Outcome Refusal). after z l.out) same);
           indexes = i ∙ sym (λ j. listed (y j) index_of (told j) l.indexes);
           numbers = k ∙ sym (λ j. listed (y j) number_of (told j) l.numbers);

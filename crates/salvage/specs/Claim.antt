@@ -6,8 +6,8 @@ use Rattle.reader.specs.Values.{Typelib, entries_in}
 use Rattle.reader.specs.Records.{Bytes}
 use Rattle.reader.specs.Reader.{decode}
 use Rattle.meaning.specs.Meaning.{meaning}
-use Rattle.facts.specs.Facts.{MeanSame}
-use Rattle.facts.specs.Union.{union}
+use Rattle.meaning.specs.Facts.Facts.{MeanSame}
+use Rattle.meaning.specs.Facts.Union.{union}
 use Rattle.joining.specs.Outcome.{written}
 use Rattle.link.specs.Outcome.{normal_of, normalise_in}
 use Rattle.link.specs.Theorems.{FormOf}

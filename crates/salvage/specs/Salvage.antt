@@ -1,6 +1,7 @@
 -- Document 02, #110: the answer, every byte of the output buffer, and every number of the three lists.
 -- Assumes nothing.
-use Rattle.std.specs.Prelude.{◌≡◌, Bool, true, List, [], map, ℕ, length}
+use Rattle.salvage.specs.declared.Remains.{Remains}
+use Rattle.std.specs.Prelude.{◌≡◌, Bool, true, List, [], map, ℕ, length, Err, Ok, Result}
 use Rattle.std.proofs.lemmas.List.Edits.{sets}
 use Rattle.number.specs.Limits.{entry_limit}
 use Rattle.number.specs.Choice.{when◌then◌else◌, ◌<?◌}
@@ -8,12 +9,10 @@ use Rattle.reading.specs.Got.{Got, got, bad}
 use Rattle.reading.specs.declared.Refusal.{Refusal}
 use Rattle.reader.specs.Values.{entries_in}
 use Rattle.meaning.specs.Meaning.{meaning}
-use Rattle.facts.specs.Link.{normal_entries}
-use Rattle.stock.specs.Uses.{normal_length}
+use Rattle.meaning.specs.Facts.Link.{normal_entries}
+use Rattle.meaning.specs.Stock.Uses.{normal_length}
 use Rattle.joining.specs.Outcome.{Outcome, refused, written, refusal, encoded, in_room, after}
 use Rattle.mend.specs.Left.{Report, index_of, number_of, place_of, Left, left, read_left}
-use Rattle.salvage.specs.declared.Salvaged.{Salvaged}
-use Rattle.salvage.specs.declared.Salvaged.TheVariants as salvaged
 
 -- the lengths of the three lists and of the output buffer
 pub record Room : Type 0 where
@@ -43,9 +42,9 @@ reports_in (bad n q) = []
 reports_in (got (left t rs) e) = rs
 
 -- the answer: the length of what is written, and the number of reports
-unfoldable pub salvaged_as : Outcome Refusal → List Report → Salvaged
-salvaged_as (refused x) rs = salvaged.Refused x
-salvaged_as (written bytes) rs = salvaged.Written (record { length = length bytes; changed = length rs })
+unfoldable pub salvaged_as : Outcome Refusal → List Report → Result Remains Refusal
+salvaged_as (refused x) rs = Err x
+salvaged_as (written bytes) rs = Ok (record { length = length bytes; changed = length rs })
 
 -- a list afterwards: what `part` tells of each report stands at its front, and the rest is as it was; on a refusal all is as it was
 unfoldable pub listed : Outcome Refusal → (Report → ℕ) → List Report → List ℕ → List ℕ
@@ -68,7 +67,7 @@ unfoldable pub outcome_of : List ℕ → Lent → Outcome Refusal
 outcome_of s l = salvage_of (room_in l) (read_left s)
 
 -- what salvaging the file s answers, and leaves in what is lent
-pub record Salvages (s : List ℕ) (before : Lent) (r : Salvaged) (after_it : Lent) : Type 0 where
+pub record Salvages (s : List ℕ) (before : Lent) (r : Result Remains Refusal) (after_it : Lent) : Type 0 where
   pub answer : r ≡ salvaged_as (outcome_of s before) (reports_in (read_left s))
   pub out : after_it.out ≡ after (outcome_of s before) before.out
   pub indexes : after_it.indexes ≡ listed (outcome_of s before) index_of (reports_in (read_left s)) before.indexes

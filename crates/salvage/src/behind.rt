@@ -9,11 +9,10 @@ ghost use Rattle.mend.specs.Tables.{Judged, number_in};
 ghost use Rattle.salvage.specs.Salvage.{Salvages, too_short};
 ghost use Rattle.salvage.specs.Tables.{clear_by};
 
-use crate::{Remains, Salvaged};
+use crate::Remains;
 use head::Header;
-use joining::Normalised;
 use number::{ENTRY_LIMIT, ENTRY_WIDTH};
-use reading::{Context, Refusal};
+use reading::{Context, Refusal, Rule};
 
 // What is reported of each entry, into tables, and the file with those descriptor pointers cleared, into a copy.
 fn mend_copy(
@@ -51,7 +50,7 @@ fn salvage_left(
     numbers: &mut [u64],
     places: &mut [u64],
     out: &mut [u8],
-) -> Salvaged
+) -> Result<Remains, Refusal>
     requires { Fronted file.now h × (pool.now ≡ pool_of h file.now) × (length copy.old ≡ length file.now) × (h.count ≤ scan (repeated (key_on file.now pool.now h.directory)) h.count 0) × (too_short (length indexes.old) (length numbers.old) (length places.old) ≡ false) }
     ensures { Salvages file.now (record { indexes = indexes.old; numbers = numbers.old; places = places.old; out = out.old }) result (record { indexes = indexes.new; numbers = numbers.new; places = places.new; out = out.new }) }
 {
@@ -60,15 +59,15 @@ fn salvage_left(
     let mut ups = [0usize; ENTRY_LIMIT];
     mend_copy(file, pool, h, copy, &mut own, &mut at, &mut ups);
     match link::normalise_accepted(copy, out) {
-        Normalised::Written(length) => {
+        Ok(length) => {
             let n = h.count;
             let d = h.directory;
             let changed = crate::reports::put_reports(
                 &own, &at, &ups, n, d, indexes, numbers, places,
             );
-            Salvaged::Written(Remains { length, changed })
+            Ok(Remains { length, changed })
         }
-        Normalised::Refused(why) => Salvaged::Refused(why),
+        Err(why) => Err(why),
     }
 }
 
@@ -95,7 +94,7 @@ fn salvage_behind(
     numbers: &mut [u64],
     places: &mut [u64],
     out: &mut [u8],
-) -> Salvaged
+) -> Result<Remains, Refusal>
     requires { Fronted file.now h × (pool.now ≡ pool_of h file.now) × (length copy.old ≡ length file.now) }
     ensures { Salvages file.now (record { indexes = indexes.old; numbers = numbers.old; places = places.old; out = out.old }) result (record { indexes = indexes.new; numbers = numbers.new; places = places.new; out = out.new }) }
 {
@@ -103,16 +102,10 @@ fn salvage_behind(
     let d = h.directory;
     let i = typelib::first_repeated(file, pool, n, d);
     if i < n {
-        return Salvaged::Refused(Refusal {
-            no: 18,
-            place: d + ENTRY_WIDTH * i,
-        });
+        return Err(Rule::KeyTwice.at(d + ENTRY_WIDTH * i));
     }
     if too_short(indexes.len(), numbers.len(), places.len()) {
-        return Salvaged::Refused(Refusal {
-            no: 38,
-            place: ENTRY_LIMIT,
-        });
+        return Err(Rule::Reports.at(ENTRY_LIMIT));
     }
     salvage_left(file, pool, h, copy, indexes, numbers, places, out)
 }
@@ -126,7 +119,7 @@ pub fn salvage_front(
     numbers: &mut [u64],
     places: &mut [u64],
     out: &mut [u8],
-) -> Salvaged
+) -> Result<Remains, Refusal>
     requires { Fronted file.now h × (file_limit ≤ length work.old) }
     ensures { Salvages file.now (record { indexes = indexes.old; numbers = numbers.old; places = places.old; out = out.old }) result (record { indexes = indexes.new; numbers = numbers.new; places = places.new; out = out.new }) }
 {

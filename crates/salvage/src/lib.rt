@@ -5,7 +5,6 @@ ghost use Rattle.std.specs.Prelude.{◌≤◌, length};
 ghost use Rattle.number.specs.Limits.{file_limit};
 ghost use Rattle.salvage.specs.Salvage.{Salvages};
 
-use head::Head;
 use number::FILE_LIMIT;
 use reading::Refusal;
 
@@ -20,12 +19,6 @@ pub struct Remains {
     pub changed: usize,
 }
 
-#[derive(Drop)]
-pub enum Salvaged {
-    Written(Remains),
-    Refused(Refusal),
-}
-
 // With room for a copy of any file.
 fn salvage_in(
     file: &[u8],
@@ -34,15 +27,13 @@ fn salvage_in(
     numbers: &mut [u64],
     places: &mut [u64],
     out: &mut [u8],
-) -> Salvaged
+) -> Result<Remains, Refusal>
     requires { file_limit ≤ length work.old }
     ensures { Salvages file.now (record { indexes = indexes.old; numbers = numbers.old; places = places.old; out = out.old }) result (record { indexes = indexes.new; numbers = numbers.new; places = places.new; out = out.new }) }
 {
     match typelib::check_front(file) {
-        Head::Read(h) => {
-            crate::behind::salvage_front(file, h, work, indexes, numbers, places, out)
-        }
-        Head::Refused(why) => Salvaged::Refused(why),
+        Ok(h) => { crate::behind::salvage_front(file, h, work, indexes, numbers, places, out) }
+        Err(why) => Err(why),
     }
 }
 
@@ -54,7 +45,7 @@ pub fn salvage_with(
     numbers: &mut [u64],
     places: &mut [u64],
     out: &mut [u8],
-) -> Salvaged
+) -> Result<Remains, Refusal>
     ensures { Salvages file.now (record { indexes = indexes.old; numbers = numbers.old; places = places.old; out = out.old }) result (record { indexes = indexes.new; numbers = numbers.new; places = places.new; out = out.new }) }
 {
     salvage_in(file, work, indexes, numbers, places, out)
@@ -67,7 +58,7 @@ pub fn salvage(
     numbers: &mut [u64],
     places: &mut [u64],
     out: &mut [u8],
-) -> Salvaged
+) -> Result<Remains, Refusal>
     ensures { Salvages file.now (record { indexes = indexes.old; numbers = numbers.old; places = places.old; out = out.old }) result (record { indexes = indexes.new; numbers = numbers.new; places = places.new; out = out.new }) }
 {
     let mut work = [0u8; FILE_LIMIT];

@@ -8,7 +8,7 @@ use native.Mathlib.Omega.{arith}
 use lib.ListN.{length, length-append, get_or, take, drop}
 use lib.Seq.{sets, get_or-take, take-suc, take_all}
 use Rattle.decimal.proofs.Stores.{front, chain}
-use Rattle.facts.proofs.Sets.{get_or-map, length-map}
+use Rattle.meaning.proofs.Facts.Sets.{get_or-map, length-map}
 use Rattle.text.specs.Writing.{Wrote}
 use Rattle.text.proofs.WritingLaws.{Wrote-then, Wrote-as}
 use Rattle.text.specs.Line.{newline}

@@ -1,6 +1,6 @@
 -- Document 02, #110, on the command line: the text that answers `salvage FILE OUT`.
 -- Assumes nothing.
-use Rattle.std.specs.Prelude.{Bool, false, List, [], ◌∷◌, ◌++◌, ℕ, length}
+use Rattle.std.specs.Prelude.{Bool, false, List, [], ◌∷◌, ◌++◌, ℕ, length, Result}
 use Rattle.number.specs.Limits.{entry_limit}
 use Rattle.number.specs.Choice.{when◌then◌else◌, ◌=?◌}
 use Rattle.reading.specs.declared.Refusal.{Refusal}
@@ -10,7 +10,6 @@ use Rattle.text.specs.Line.{space, newline}
 use Rattle.said.specs.declared.Why.TheVariants.{Answered, Refused}
 use Rattle.said.specs.Texts.{refused_line, written}
 use Rattle.said.specs.Saying.{Saying, saying}
-use Rattle.joining.specs.declared.Normalised.{Normalised}
 use Rattle.joining.specs.Outcome as joining
 use Rattle.joining.specs.Outcome.{Outcome, after, normalised_as}
 use Rattle.listed.specs.Text.{shown, closing}
@@ -57,7 +56,7 @@ unfoldable pub salvage_saying : Bool → List ℕ → List ℕ → Saying
 salvage_saying in_batch s out = saying_salvaged in_batch (salvage_in (length out) s) (reports_in (read_left s))
 
 -- whether it is written, and how many bytes
-unfoldable pub salvage_answer : List ℕ → List ℕ → Normalised
+unfoldable pub salvage_answer : List ℕ → List ℕ → Result ℕ Refusal
 salvage_answer s out = normalised_as (salvage_in (length out) s)
 
 -- the output buffer afterwards

@@ -1,4 +1,4 @@
-// What salvaging a file is answered with: the text, and what is written.
+//! What salvaging a file is answered with: the text, and what is written.
 #![tactic(auto)]
 
 ghost use Rattle.std.specs.Prelude.{◌≡◌, ◌++◌, ◌+◌, ◌*◌, ◌≤◌, ◌<◌, length, take, drop};
@@ -12,16 +12,15 @@ ghost use Rattle.salvaging.specs.Text.{numbers_line, changed_line, in_one_line};
 ghost use Rattle.salvaging.specs.Lists.{list_lines, list_text};
 ghost use Rattle.salvaging.specs.Tells.{Tells};
 
-use joining::Normalised;
 use number::{ENTRY_LIMIT, FILE_LIMIT};
+use reading::Refusal;
 use said::{ANSWER_ROOM, Said, Why};
-use salvage::Salvaged;
 
-// What was said, and what was written.
+/// What was said, and what was written.
 #[derive(Drop)]
 pub struct Told {
     pub said: Said,
-    pub done: Normalised,
+    pub done: Result<usize, Refusal>,
 }
 
 // The line of one report, from `at` on.
@@ -123,22 +122,22 @@ fn salvage_listed(
     ensures { Tells in_batch file.now out.old text.old result out.new text.new }
 {
     match salvage::salvage_with(file, work, indexes, numbers, places, out) {
-        Salvaged::Written(left) => {
+        Ok(left) => {
             let n = left.length;
             let changed = left.changed;
             Told {
                 said: written(n, changed, indexes, numbers, places, in_batch, text),
-                done: Normalised::Written(n),
+                done: Ok(n),
             }
         }
-        Salvaged::Refused(why) => Told {
+        Err(why) => Told {
             said: said::refused(why, text),
-            done: Normalised::Refused(why),
+            done: Err(why),
         },
     }
 }
 
-// What is left of a file into `out`, and what is said of it into `text`; `work` has room for a copy.
+/// What is left of a file into `out`, and what is said of it into `text`; `work` has room for a copy.
 pub fn salvage(
     file: &[u8],
     in_batch: bool,

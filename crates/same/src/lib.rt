@@ -14,6 +14,7 @@ ghost use Rattle.same.specs.Match.{row_of, Rowed, HasType, HasParam, HasSignatur
 
 use number::ROW_LIMIT;
 use reader::record::Form;
+use std::cmp::Ordering;
 
 // The references r of the first file and s of the second have the same key.
 fn same_row(first: &[u16; ROW_LIMIT], n: usize, r: usize, s: usize) -> bool
@@ -58,9 +59,9 @@ fn same_names(pool: &[u8], a: usize, other: &[u8], b: usize) -> bool
 {
     let o = key::compare_words(pool, a - 1, other, b - 1);
     match o {
-        key::Order::Before => false,
-        key::Order::Same => true,
-        key::Order::After => false,
+        Ordering::Less => false,
+        Ordering::Equal => true,
+        Ordering::Greater => false,
     }
 }
 

@@ -1,6 +1,7 @@
 -- The lines of the lookups' answers, and of mistakes in their words, as ASCII codes, each with its newline.
 -- Assumes nothing.
-use Rattle.std.specs.Prelude.{List, [], ◌∷◌, ◌++◌, ℕ}
+use Rattle.reading.specs.declared.Refusal.{Refusal}
+use Rattle.std.specs.Prelude.{List, [], ◌∷◌, ◌++◌, ℕ, Err, None, Ok, Option, Result, Some}
 use Rattle.decimal.specs.Digits.{digits_of}
 use Rattle.text.specs.Line.{space, newline}
 use Rattle.said.specs.Texts.{found, nothing, undetermined, numbered, none_line, refused_line, error}
@@ -9,14 +10,10 @@ use Rattle.lookup.specs.declared.Slot.TheVariants as slot
 use Rattle.lookup.specs.declared.FoundMethod.{FoundMethod}
 use Rattle.lookup.specs.declared.Value.{Value}
 use Rattle.lookup.specs.declared.Value.TheVariants.{I16, I32, U16, U32}
-use Rattle.lookup.specs.declared.InterfaceAnswer.{InterfaceAnswer}
-use Rattle.lookup.specs.declared.InterfaceAnswer.TheVariants as interface
-use Rattle.lookup.specs.declared.CountedAnswer.{CountedAnswer}
-use Rattle.lookup.specs.declared.CountedAnswer.TheVariants as counted
-use Rattle.lookup.specs.declared.MethodAnswer.{MethodAnswer}
-use Rattle.lookup.specs.declared.MethodAnswer.TheVariants as method
-use Rattle.lookup.specs.declared.ConstantAnswer.{ConstantAnswer}
-use Rattle.lookup.specs.declared.ConstantAnswer.TheVariants as constant
+use Rattle.halving.specs.declared.Looked.{Looked}
+use Rattle.halving.specs.declared.Looked.TheVariants as halved
+use Rattle.lookup.specs.declared.Search.{Search}
+use Rattle.lookup.specs.declared.Search.TheVariants as search
 use Rattle.printed.specs.Listing.{mark, slot_text, value_text}
 
 -- ---- words of answers
@@ -40,16 +37,16 @@ in_total = 32 ∷ 116 ∷ 111 ∷ 116 ∷ 97 ∷ 108 ∷ 32 ∷ []
 -- ---- answers
 
 -- `found INDEX`, `none` or `refused NO PLACE`
-unfoldable pub interface_text : InterfaceAnswer → List ℕ
-interface_text (interface.Found i) = numbered found i
-interface_text interface.None = none_line
-interface_text (interface.Refused why) = refused_line why
+unfoldable pub interface_text : Result (Option ℕ) Refusal → List ℕ
+interface_text (Ok (Some i)) = numbered found i
+interface_text (Ok None) = none_line
+interface_text (Err why) = refused_line why
 
 -- `found INDEX looked K`, `none looked K` or `refused NO PLACE`
-unfoldable pub counted_text : CountedAnswer → List ℕ
-counted_text (counted.Found i k) = ((found ++ digits_of i) ++ (looked ++ digits_of k)) ++ newline
-counted_text (counted.None k) = numbered (nothing ++ looked) k
-counted_text (counted.Refused why) = refused_line why
+unfoldable pub counted_text : Result Looked Refusal → List ℕ
+counted_text (Ok (halved.Found i k)) = ((found ++ digits_of i) ++ (looked ++ digits_of k)) ++ newline
+counted_text (Ok (halved.None k)) = numbered (nothing ++ looked) k
+counted_text (Err why) = refused_line why
 
 -- ` slot N` or ` slot ? ANCESTOR`
 unfoldable pub slot_part : Slot → List ℕ
@@ -69,11 +66,11 @@ found_text m =
     ++ newline
 
 -- that, `none`, `undetermined INDEX` or `refused NO PLACE`
-unfoldable pub method_text : MethodAnswer → List ℕ
-method_text (method.Found m) = found_text m
-method_text method.None = none_line
-method_text (method.Undetermined i) = numbered undetermined i
-method_text (method.Refused why) = refused_line why
+unfoldable pub method_text : Result (Search FoundMethod) Refusal → List ℕ
+method_text (Ok (search.Found m)) = found_text m
+method_text (Ok search.None) = none_line
+method_text (Ok (search.Undetermined i)) = numbered undetermined i
+method_text (Err why) = refused_line why
 
 -- `i16 `, `i32 `, `u16 ` or `u32 `, with its space
 unfoldable pub kind_text : Value → List ℕ
@@ -83,11 +80,11 @@ kind_text (U16 n) = 117 ∷ 49 ∷ 54 ∷ 32 ∷ []
 kind_text (U32 n) = 117 ∷ 51 ∷ 50 ∷ 32 ∷ []
 
 -- `found KIND VALUE`, `none`, `undetermined INDEX` or `refused NO PLACE`
-unfoldable pub constant_text : ConstantAnswer → List ℕ
-constant_text (constant.Found v) = ((found ++ kind_text v) ++ value_text v) ++ newline
-constant_text constant.None = none_line
-constant_text (constant.Undetermined i) = numbered undetermined i
-constant_text (constant.Refused why) = refused_line why
+unfoldable pub constant_text : Result (Search Value) Refusal → List ℕ
+constant_text (Ok (search.Found v)) = ((found ++ kind_text v) ++ value_text v) ++ newline
+constant_text (Ok search.None) = none_line
+constant_text (Ok (search.Undetermined i)) = numbered undetermined i
+constant_text (Err why) = refused_line why
 
 -- ---- mistakes
 

@@ -1,11 +1,11 @@
-// The line that tells a lookup's answer, its newline included, at the front of a buffer.
+//! The line that tells a lookup's answer, its newline included, at the front of a buffer.
 #![tactic(auto)]
 
-ghost use Rattle.std.specs.Prelude.{◌≡◌, ◌++◌, ℕ, ◌+◌, ◌^◌, ◌≤◌, ◌<◌, length};
+ghost use Rattle.std.specs.Prelude.{◌≡◌, ◌++◌, ℕ, ◌+◌, ◌^◌, ◌≤◌, ◌<◌, length, Ok};
 ghost use Rattle.text.specs.Line.{newline};
 ghost use Rattle.lookup.specs.Constant.{signed};
-ghost use Rattle.lookup.specs.declared.ConstantAnswer.TheVariants as constant;
-ghost use Rattle.lookup.specs.declared.CountedAnswer.TheVariants as counted;
+ghost use Rattle.halving.specs.declared.Looked.TheVariants as halved;
+ghost use Rattle.lookup.specs.declared.Search.TheVariants as search;
 ghost use Rattle.text.specs.Signed.{signed_text};
 ghost use Rattle.text.specs.Writing.{Wrote};
 ghost use Rattle.said.specs.declared.Why.TheVariants.{Answered};
@@ -13,25 +13,26 @@ ghost use Rattle.sayings.specs.Texts.{slot_part, total_part, found_text};
 ghost use Rattle.said.specs.Saying.{Says, saying};
 ghost use Rattle.sayings.specs.Sayings.{say_interface, say_counted, say_method, say_constant};
 
-use lookup::{
-    ConstantAnswer, CountedAnswer, FoundMethod, InterfaceAnswer, MethodAnswer, Slot, Value,
-};
+use halving::Looked;
+use lookup::{FoundMethod, Search, Slot, Value};
+use reading::Refusal;
 use said::{ANSWER_ROOM, Said, Why};
 
-// What an interface's index, or none, is said as.
-pub fn interface(a: InterfaceAnswer, line: &mut [u8; ANSWER_ROOM]) -> Said
+/// What an interface's index, or none, is said as.
+#[tactic(auto, unfolding(crate::specs::Sayings::say_interface, crate::specs::Sayings::interface_why, crate::specs::Texts::interface_text))]
+pub fn interface(a: Result<Option<usize>, Refusal>, line: &mut [u8; ANSWER_ROOM]) -> Said
     ensures { Says (say_interface a) line.old result line.new }
 {
     match a {
-        InterfaceAnswer::Found(i) => said::numbered(b"found ", i as u64, line),
-        InterfaceAnswer::None => said::none(line),
-        InterfaceAnswer::Refused(why) => said::refused(why, line),
+        Ok(Some(i)) => said::numbered(b"found ", i as u64, line),
+        Ok(None) => said::none(line),
+        Err(why) => said::refused(why, line),
     }
 }
 
 // The index of an interface, and the number of entries looked at.
 fn looked(i: u64, k: u64, line: &mut [u8; ANSWER_ROOM]) -> Said
-    ensures { Says (say_counted (counted.Found i k)) line.old result line.new }
+    ensures { Says (say_counted (Ok (halved.Found i k))) line.old result line.new }
 {
     let at = text::put_labelled(line, 0, b"found ", i);
     let end = text::put_labelled(line, at, b" looked ", k);
@@ -42,14 +43,15 @@ fn looked(i: u64, k: u64, line: &mut [u8; ANSWER_ROOM]) -> Said
     }
 }
 
-// That, or none.
-pub fn counted(a: CountedAnswer, line: &mut [u8; ANSWER_ROOM]) -> Said
+/// That, or none.
+#[tactic(auto, unfolding(crate::specs::Sayings::say_counted, crate::specs::Sayings::counted_why, crate::specs::Texts::counted_text))]
+pub fn counted(a: Result<Looked, Refusal>, line: &mut [u8; ANSWER_ROOM]) -> Said
     ensures { Says (say_counted a) line.old result line.new }
 {
     match a {
-        CountedAnswer::Found(i, k) => looked(i as u64, k as u64, line),
-        CountedAnswer::None(k) => said::numbered(b"none looked ", k as u64, line),
-        CountedAnswer::Refused(why) => said::refused(why, line),
+        Ok(Looked::Found(i, k)) => looked(i as u64, k as u64, line),
+        Ok(Looked::None(k)) => said::numbered(b"none looked ", k as u64, line),
+        Err(why) => said::refused(why, line),
     }
 }
 
@@ -96,14 +98,15 @@ fn found(m: FoundMethod, line: &mut [u8; ANSWER_ROOM]) -> Said
     }
 }
 
-pub fn method(a: MethodAnswer, line: &mut [u8; ANSWER_ROOM]) -> Said
+#[tactic(auto, unfolding(crate::specs::Sayings::say_method, crate::specs::Sayings::method_why, crate::specs::Texts::method_text))]
+pub fn method(a: Result<Search<FoundMethod>, Refusal>, line: &mut [u8; ANSWER_ROOM]) -> Said
     ensures { Says (say_method a) line.old result line.new }
 {
     match a {
-        MethodAnswer::Found(m) => found(m, line),
-        MethodAnswer::None => said::none(line),
-        MethodAnswer::Undetermined(i) => said::numbered(b"undetermined ", i as u64, line),
-        MethodAnswer::Refused(why) => said::refused(why, line),
+        Ok(Search::Found(m)) => found(m, line),
+        Ok(Search::None) => said::none(line),
+        Ok(Search::Undetermined(i)) => said::numbered(b"undetermined ", i as u64, line),
+        Err(why) => said::refused(why, line),
     }
 }
 
@@ -123,7 +126,7 @@ fn complement(label: &[u8], half: u64, v: u64, line: &mut [u8; ANSWER_ROOM]) -> 
 
 // A constant's value, with its kind.
 fn value(v: Value, line: &mut [u8; ANSWER_ROOM]) -> Said
-    ensures { Says (say_constant (constant.Found v)) line.old result line.new }
+    ensures { Says (say_constant (Ok (search.Found v))) line.old result line.new }
 {
     match v {
         Value::I16(x) => complement(b"found i16 ", 32768, signed::bits_16(x), line),
@@ -133,13 +136,14 @@ fn value(v: Value, line: &mut [u8; ANSWER_ROOM]) -> Said
     }
 }
 
-pub fn constant(a: ConstantAnswer, line: &mut [u8; ANSWER_ROOM]) -> Said
+#[tactic(auto, unfolding(crate::specs::Sayings::say_constant, crate::specs::Sayings::constant_why, crate::specs::Texts::constant_text))]
+pub fn constant(a: Result<Search<Value>, Refusal>, line: &mut [u8; ANSWER_ROOM]) -> Said
     ensures { Says (say_constant a) line.old result line.new }
 {
     match a {
-        ConstantAnswer::Found(v) => value(v, line),
-        ConstantAnswer::None => said::none(line),
-        ConstantAnswer::Undetermined(i) => said::numbered(b"undetermined ", i as u64, line),
-        ConstantAnswer::Refused(why) => said::refused(why, line),
+        Ok(Search::Found(v)) => value(v, line),
+        Ok(Search::None) => said::none(line),
+        Ok(Search::Undetermined(i)) => said::numbered(b"undetermined ", i as u64, line),
+        Err(why) => said::refused(why, line),
     }
 }

@@ -1,4 +1,4 @@
-// The rule that a refusal is of, in plain words, written from a place of a lent buffer on.
+//! The rule that a refusal is of, in plain words, written from a place of a lent buffer on.
 #![tactic(auto)]
 
 ghost use Rattle.std.specs.Prelude.{◌+◌, ◌≤◌};
@@ -9,6 +9,7 @@ ghost use Rattle.sentences.specs.Sentences.{position_text, between_text, word_te
 use failures::ROOM;
 
 // 8, by the rule.
+// A number, no enum: the clause promises `position_text` of every number.
 fn put_position(rule: u8, text: &mut [u8; ROOM], at: usize) -> usize
     requires { at + 192 ≤ room }
     ensures { Wrote text.old at (position_text rule) result text.new × (result ≤ at + 192) }
@@ -44,6 +45,7 @@ fn put_position(rule: u8, text: &mut [u8; ROOM], at: usize) -> usize
 }
 
 // 16, by the rule.
+// A number, no enum: the clause promises `between_text` of every number.
 fn put_between(rule: u8, text: &mut [u8; ROOM], at: usize) -> usize
     requires { at + 192 ≤ room }
     ensures { Wrote text.old at (between_text rule) result text.new × (result ≤ at + 192) }
@@ -82,6 +84,7 @@ fn put_between(rule: u8, text: &mut [u8; ROOM], at: usize) -> usize
 }
 
 // 20, by the word that is at fault.
+// A number, no enum: the clause promises `word_text` of every number.
 fn put_word(rule: u8, text: &mut [u8; ROOM], at: usize) -> usize
     requires { at + 192 ≤ room }
     ensures { Wrote text.old at (word_text rule) result text.new × (result ≤ at + 192) }
@@ -116,6 +119,7 @@ fn put_word(rule: u8, text: &mut [u8; ROOM], at: usize) -> usize
 }
 
 // 1 to 5, 7 and 8: the header.
+// Numbers, no enums: the clause promises `header_text` of every number.
 fn put_header(no: u8, rule: u8, text: &mut [u8; ROOM], at: usize) -> usize
     requires { at + 192 ≤ room }
     ensures { Wrote text.old at (header_text no rule) result text.new × (result ≤ at + 192) }
@@ -140,6 +144,7 @@ fn put_header(no: u8, rule: u8, text: &mut [u8; ROOM], at: usize) -> usize
 }
 
 // 9 to 14: annotations, the directory, pointers and reserved bits.
+// A number, no enum: the clause promises `directory_text` of every number.
 fn put_directory(no: u8, text: &mut [u8; ROOM], at: usize) -> usize
     requires { at + 192 ≤ room }
     ensures { Wrote text.old at (directory_text no) result text.new × (result ≤ at + 192) }
@@ -175,6 +180,7 @@ fn put_directory(no: u8, text: &mut [u8; ROOM], at: usize) -> usize
 }
 
 // 15 to 20: descriptors, rules across entries, questions.
+// Numbers, no enums: the clause promises `own_text` of every number.
 fn put_own(no: u8, rule: u8, text: &mut [u8; ROOM], at: usize) -> usize
     requires { at + 192 ≤ room }
     ensures { Wrote text.old at (own_text no rule) result text.new × (result ≤ at + 192) }
@@ -194,6 +200,7 @@ fn put_own(no: u8, rule: u8, text: &mut [u8; ROOM], at: usize) -> usize
 }
 
 // 21 to 27: links and outputs.
+// A number, no enum: the clause promises `link_text` of every number.
 fn put_link(no: u8, text: &mut [u8; ROOM], at: usize) -> usize
     requires { at + 192 ≤ room }
     ensures { Wrote text.old at (link_text no) result text.new × (result ≤ at + 192) }
@@ -218,6 +225,7 @@ fn put_link(no: u8, text: &mut [u8; ROOM], at: usize) -> usize
 }
 
 // 31 to 37: a types.rdb.
+// A number, no enum: the clause promises `types_text` of every number.
 fn put_types(no: u8, text: &mut [u8; ROOM], at: usize) -> usize
     requires { at + 192 ≤ room }
     ensures { Wrote text.old at (types_text no) result text.new × (result ≤ at + 192) }
@@ -253,6 +261,7 @@ fn put_types(no: u8, text: &mut [u8; ROOM], at: usize) -> usize
     }
 }
 
+// Numbers, no enums: the clause promises `sentence_text` of every number.
 pub fn put_sentence(no: u8, rule: u8, text: &mut [u8; ROOM], at: usize) -> usize
     requires { at + 192 ≤ room }
     ensures { Wrote text.old at (sentence_text no rule) result text.new × (result ≤ at + 192) }

@@ -1,10 +1,10 @@
-// Signed numbers as natural ones, and natural ones as signed.
+//! Signed numbers as natural ones, and natural ones as signed.
 #![tactic(auto)]
 
 ghost use Rattle.std.specs.Prelude.{◌≡◌};
 ghost use Rattle.signed.specs.Bits.{bits_of, or_zero, signed};
 
-// The bits of a number, two's complement.
+/// The bits of a number, two's complement.
 pub fn bits_16(x: i16) -> u64
     ensures { result ≡ bits_of 16 x }
 {
@@ -25,7 +25,7 @@ pub fn bits_32(x: i32) -> u64
     }
 }
 
-// A number that the system gave; 0 where it is below 0.
+/// A number that the system gave; 0 where it is below 0.
 pub fn unsigned(n: i32) -> u64
     ensures { result ≡ or_zero n }
 {
@@ -36,7 +36,7 @@ pub fn unsigned(n: i32) -> u64
     0
 }
 
-// Two's complement of eight bits.
+/// Two's complement of eight bits.
 pub fn to_i8(x: u8) -> i8
     ensures { result ≡ signed 7 x }
 {
@@ -47,7 +47,7 @@ pub fn to_i8(x: u8) -> i8
     }
 }
 
-// Of sixteen bits.
+/// Of sixteen bits.
 pub fn to_i16(x: u16) -> i16
     ensures { result ≡ signed 15 x }
 {
@@ -58,7 +58,7 @@ pub fn to_i16(x: u16) -> i16
     }
 }
 
-// Of 32 bits.
+/// Of 32 bits.
 pub fn to_i32(x: u32) -> i32
     ensures { result ≡ signed 31 x }
 {
@@ -69,7 +69,7 @@ pub fn to_i32(x: u32) -> i32
     }
 }
 
-// Of 64 bits.
+/// Of 64 bits.
 pub fn to_i64(x: u64) -> i64
     ensures { result ≡ signed 63 x }
 {

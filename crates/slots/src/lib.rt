@@ -1,4 +1,4 @@
-// The table of an interface, made line by line: from the highest interface known down to the asked one.
+//! The table of an interface, made line by line: from the highest interface known down to the asked one.
 #![tactic(auto)]
 
 mod levels;
@@ -15,9 +15,9 @@ ghost use Rattle.slots.specs.Cursor.{RowsLeft, no_rows, row_turns, Stepped, Begi
 use lookup::Slot;
 use reader::Layout;
 
-// Where the table of the asked interface goes on: the owner's methods that are left, the place of the next in the pool and its slot; and how many
-// interfaces come after the owner, which are the first of the asked one's chain.
-#[derive(Clone, Copy)]
+/// Where the table of the asked interface goes on: the owner's methods that are left, the place of the next in the pool and its slot; and how many
+/// interfaces come after the owner, which are the first of the asked one's chain.
+#[derive(Clone, Copy, Debug, PartialEq, Eq)]
 pub struct TableAt {
     pub asked: usize,
     pub steps: usize,
@@ -27,14 +27,14 @@ pub struct TableAt {
     pub slot: Slot,
 }
 
-// The place after what was written, and where the table goes on.
-#[derive(Drop)]
+/// The place after what was written, and where the table goes on.
+#[derive(Clone, Copy, Debug, PartialEq, Eq)]
 pub struct Piece {
     pub at: usize,
     pub table: TableAt,
 }
 
-// Whether nothing is left.
+/// Whether nothing is left.
 pub fn is_over(t: TableAt) -> bool
     ensures { result ≡ no_rows t }
 {
@@ -92,7 +92,7 @@ fn put_next(file: &[u8], pool: &[u8], l: Layout, t: TableAt, out: &mut [u8], at:
     }
 }
 
-// What comes next, at most one line of it, where something is left.
+/// What comes next, at most one line of it, where something is left.
 pub fn put_piece(
     file: &[u8],
     pool: &[u8],
@@ -128,7 +128,7 @@ fn begin_at(file: &[u8], pool: &[u8], l: Layout, index: usize) -> TableAt
     }
 }
 
-// Where the table of the interface of an index starts, after its first line; with the total of its slots.
+/// Where the table of the interface of an index starts, after its first line; with the total of its slots.
 pub fn begin(file: &[u8], l: Layout, index: usize) -> TableAt
     requires { Lies file.now l × (1 ≤ index) × (index ≤ l.count) }
     ensures { Begins file.now l index result }

@@ -1,4 +1,4 @@
-// The line of a method, written whole.
+//! The line of a method, written whole.
 ghost use Rattle.std.specs.Prelude.{List, ◌++◌, ℕ, ◌+◌, ◌-◌, ◌≤◌};
 ghost use Rattle.text.specs.Line.{space};
 ghost use Rattle.reader.specs.Values.{Entry, keys_in};
@@ -51,7 +51,7 @@ fn put_call(pool: &[u8], from: usize, out: &mut [u8], at: usize) -> usize
     text::put_bytes(out, end, b"\n")
 }
 
-// The line of the method at `from`, which has this slot and this owner.
+/// The line of the method at `from`, which has this slot and this owner.
 pub fn put_row(
     file: &[u8],
     pool: &[u8],

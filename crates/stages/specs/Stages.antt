@@ -6,9 +6,9 @@ use Rattle.key.specs.First.{first_same, Filled}
 use Rattle.sorting.specs.Table.{Rowed}
 use Rattle.reader.specs.Records.{ShowsOwn}
 use Rattle.meaning.specs.Meaning.{meaning}
-use Rattle.facts.specs.Link as facts
-use Rattle.facts.specs.Link.{link_entries}
-use Rattle.stock.specs.Uses.{normal_length}
+use Rattle.meaning.specs.Facts.Link as facts
+use Rattle.meaning.specs.Facts.Link.{link_entries}
+use Rattle.meaning.specs.Stock.Uses.{normal_length}
 use Rattle.rows.specs.Rows.{key_of_row, iid_of_row, descriptor_of_row, above_row}
 use Rattle.iids.specs.Joined.{holder, held, joined, two_numbers, shared_number}
 use Rattle.tables.specs.Chains.{endless_row, up_first}

@@ -1,5 +1,5 @@
-// 23: rows whose descriptor means another than that of their mate.
-// The files are s and t, their pools p and q, and their layouts l and k.
+//! 23: rows whose descriptor means another than that of their mate.
+//! The files are s and t, their pools p and q, and their layouts l and k.
 ghost use Rattle.std.specs.Prelude.{◌≡◌, true, false, ◌+◌, ◌≤◌, ◌<◌, length, get_or};
 ghost use Rattle.number.specs.Limits.{entry_limit, row_limit};
 ghost use Rattle.number.specs.Scan.{scan};
@@ -56,12 +56,10 @@ fn pair_earlier(
     requires { (i ≤ entry_limit) × AtMost mates.now i row_limit × (entry_limit ≡ length mates.now) × (row_limit ≡ length own.now) }
     ensures { result ≡ true → Earlier mates.now own.now a b i }
 {
-    let mut r: usize = 0;
-    while r < i {
+    for r in 0..i {
         if has_pair(mates, own, r, a, b) {
             return true;
         }
-        r += 1;
     }
     false
 }
@@ -131,7 +129,7 @@ fn raised(top: usize, a: usize) -> usize {
     top
 }
 
-// The lowest row of the first file that has, with its mate, two different descriptors, or the number of its rows.
+/// The lowest row of the first file that has, with its mate, two different descriptors, or the number of its rows.
 pub fn first_two_descriptors(
     s: &[u8],
     p: &[u8],
@@ -147,14 +145,12 @@ pub fn first_two_descriptors(
     ensures { Gives (HoldBoth s.now p.now l t.now q.now k) (λ x. scan (two_meanings x.first x.second (cell mates.now)) l.count 0) result }
 {
     let n = l.count;
-    let mut i: usize = 0;
     let mut top: usize = 0;
-    while i < n {
+    for i in 0..n {
         if two_descriptors(s, p, l, t, q, k, first, mates, own, i, top) {
             return i;
         }
         top = raised(top, pointer(own[i]));
-        i += 1;
     }
-    i
+    n
 }

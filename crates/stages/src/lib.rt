@@ -1,5 +1,5 @@
-// What the first stages of a link tell of two files' rows: tables filled from the files, and 23.
-// The files are s and t, their pools p and q, and their layouts l and k.
+//! What the first stages of a link tell of two files' rows: tables filled from the files, and 23.
+//! The files are s and t, their pools p and q, and their layouts l and k.
 #![tactic(auto)]
 
 ghost use Rattle.std.specs.Prelude.{◌≡◌, ◌+◌, length};
@@ -13,7 +13,7 @@ use reader::Layout;
 
 pub mod descriptors;
 
-// The rows of two files by their keys: those whose key stood nowhere earlier, and how many; and for each the first of its key.
+/// The rows of two files by their keys: those whose key stood nowhere earlier, and how many; and for each the first of its key.
 pub fn sort_files(
     s: &[u8],
     p: &[u8],
@@ -36,7 +36,7 @@ pub fn sort_files(
     sorting::sort_keys(p, q, n, &spaces, &names, total, keys, first)
 }
 
-// The IIDs of their rows.
+/// The IIDs of their rows.
 pub fn note_numbers(
     s: &[u8],
     p: &[u8],
@@ -55,7 +55,7 @@ pub fn note_numbers(
     rows::note_iids(t, k, n, high, low);
 }
 
-// The pool pointers of their descriptors.
+/// The pool pointers of their descriptors.
 pub fn note_descriptors(
     s: &[u8],
     p: &[u8],

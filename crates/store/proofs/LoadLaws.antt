@@ -1,5 +1,6 @@
 -- What stands before a part of the store that is read into, and a file that was read behind its name.
 -- Assumes nothing.
+use Rattle.std.specs.Prelude.{Err, Ok}
 use mathlib.Core.Path.{◌≡◌, refl, sym, ap, ◌∙◌, subst}
 use mathlib.Core.Bool.{Bool, true, false}
 use mathlib.Core.List.{List, ◌++◌}
@@ -13,7 +14,6 @@ use Rattle.number.specs.Part.{part}
 use Rattle.number.proofs.Scans.{clash}
 use Rattle.words.specs.declared.Span.{Span}
 use Rattle.paths.specs.Path.{path_limit}
-use Rattle.input.specs.declared.Came.TheVariants.{To, Failed}
 use Rattle.number.specs.Limits.{file_most}
 use Rattle.input.specs.File.{StandsBehind, FirstBytes}
 use Rattle.input.proofs.FileLaws.{full_first}
@@ -48,21 +48,21 @@ module _ (name store ys : List ℕ) (from : ℕ) (room : from ≤ length store) 
       ∙ take-append-le n ys rest h
 
   module _ (whole : length ys ≡ file_most) where
-    pub read_whole : (n : ℕ) → n < length ys → FirstBytes name (length ys) (take n ys) → ReadBehind name store from (To (from + n)) text
+    pub read_whole : (n : ℕ) → n < length ys → FirstBytes name (length ys) (take n ys) → ReadBehind name store from (Ok (from + n)) text
     read_whole n h f = record {
       ends = (omega arith, omega arith);
       before = take_put from k store ys room;
       bytes = subst (FirstBytes name file_most) (sym (part_read n (omega arith))) (subst (λ (r : ℕ). FirstBytes name r (take n ys)) whole f);
     }
 
-    pub read_full : (fd : ℤ) → StandsBehind name fd ys → ReadBehind name store from (To (from + file_most)) text
+    pub read_full : (fd : ℤ) → StandsBehind name fd ys → ReadBehind name store from (Ok (from + file_most)) text
     read_full fd s = record {
       ends = (omega arith, omega arith);
       before = take_put from k store ys room;
       bytes = subst (FirstBytes name file_most) (sym (part_read file_most (omega arith) ∙ take_all file_most ys (omega arith))) (subst (λ (r : ℕ). FirstBytes name r ys) whole (full_first name fd ys s));
     }
 
-  pub read_none : (e : ℤ) → ReadBehind name store from (Failed e) text
+  pub read_none : (e : ℤ) → ReadBehind name store from (Err e) text
   read_none e = record { ends = tt; before = take_put from k store ys room; bytes = tt }
 
 -- ---- nothing more is kept

@@ -1,10 +1,8 @@
 -- A file is asked for by its name.
 -- Assumes nothing.
-use Rattle.std.specs.Prelude.{◌≡◌, Bool, true, false, List, ℕ, ◌+◌, ◌≤◌, take}
+use Rattle.std.specs.Prelude.{◌≡◌, Bool, true, false, List, ℕ, ◌+◌, ◌≤◌, take, Err, Ok, Result, ℤ}
 use Rattle.number.specs.Choice.{when◌then◌else◌}
 use Rattle.number.specs.Part.{part}
-use Rattle.input.specs.declared.Came.{Came}
-use Rattle.input.specs.declared.Came.TheVariants as came
 use Rattle.input.specs.Came.{CameIn}
 use Rattle.number.specs.Limits.{file_most}
 use Rattle.input.specs.File.{is_input, FirstBytes}
@@ -21,12 +19,12 @@ unfoldable pub is_barred : Bool → List ℕ → Bool
 is_barred batch name = when batch then is_input name else false
 
 -- what stands in the store from `from` on is the file's
-abbrev pub StandsFrom : List ℕ → ℕ → Came → List ℕ → Type 0
-StandsFrom name from (came.To end) text = FirstBytes name file_most (part text from end)
-StandsFrom name from (came.Failed e) text = Unit {0}
+abbrev pub StandsFrom : List ℕ → ℕ → Result ℕ ℤ → List ℕ → Type 0
+StandsFrom name from (Ok end) text = FirstBytes name file_most (part text from end)
+StandsFrom name from (Err e) text = Unit {0}
 
 -- the file of this name was read behind the bytes before `from`, which are as they were
-pub record ReadBehind (name store : List ℕ) (from : ℕ) (r : Came) (text : List ℕ) : Type 0 where
+pub record ReadBehind (name store : List ℕ) (from : ℕ) (r : Result ℕ ℤ) (text : List ℕ) : Type 0 where
   pub ends : CameIn from (from + file_most) r
   pub before : take from text ≡ take from store
   pub bytes : StandsFrom name from r text

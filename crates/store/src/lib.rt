@@ -1,4 +1,4 @@
-// Files by name, read where they are not kept from an earlier command of the batch (crate `kept`).
+//! Files by name, read where they are not kept from an earlier command of the batch (crate `kept`).
 #![tactic(auto)]
 
 ghost use Rattle.std.specs.Prelude.{◌≡◌, false, ◌+◌, ◌≤◌, ◌<◌, length};
@@ -10,40 +10,39 @@ ghost use Rattle.kept.specs.Room.{Roomy};
 ghost use Rattle.kept.specs.Files.{is_found};
 ghost use Rattle.store.specs.Loading.{is_barred, ReadBehind, Loads};
 
-use input::{Begun, Came};
+use input::Begun;
 use kept::{Kept, STORE_ROOM};
 use number::FILE_MOST;
 use std::rt::Files;
 use words::Span;
 
-// A file is kept under its name; standard input is the batch's own; or errno's number.
-#[derive(Clone, Copy)]
+/// A file is kept under its name; standard input is the batch's own; or errno's number.
+#[derive(Clone, Copy, Debug, PartialEq, Eq)]
 pub enum Loaded {
     Kept,
     InBatch,
     Failed(i32),
 }
 
-// What was asked for, and what is kept now.
-#[derive(Clone, Copy)]
+/// What was asked for, and what is kept now.
+#[derive(Clone, Copy, Debug, PartialEq, Eq)]
 pub struct Asked {
     pub kept: Kept,
     pub file: Loaded,
 }
 
 // The file's bytes into the store from `from` on.
-fn read_from(rt: &HostRuntime, name: &[u8], from: usize, store: &mut [u8]) -> Came
+fn read_from(rt: &HostRuntime, name: &[u8], from: usize, store: &mut [u8]) -> Result<usize, i32>
     requires { from + file_most ≤ length store.old }
     ensures { ReadBehind name.now store.old from result store.new }
 {
     let most = from + FILE_MOST;
-    match input::begin(rt, name, &mut store[from..most]) {
-        Begun::Failed(error) => Came::Failed(error),
+    match input::begin(rt, name, &mut store[from..most])? {
         Begun::Full(source) => {
             input::close(source);
-            Came::To(most)
+            Ok(most)
         }
-        Begun::Whole(n) => Came::To(from + n),
+        Begun::Whole(n) => Ok(from + n),
     }
 }
 
@@ -54,17 +53,12 @@ fn state_of(rt: &HostRuntime, name: &[u8]) -> usize
     if input::is_input(name) {
         return kept::PLAIN;
     }
-    match paths::text_of(name) {
-        Err(_) => kept::PLAIN,
-        Ok(text) => match rt.symlink_metadata(text) {
-            Err(_) => kept::PLAIN,
-            Ok(told) => {
-                if told.is_symlink() {
-                    return kept::LINK;
-                }
-                kept::PLAIN
-            }
-        },
+    let Ok(text) = paths::text_of(name) else {
+        return kept::PLAIN;
+    };
+    match rt.symlink_metadata(text) {
+        Ok(told) if told.is_symlink() => kept::LINK,
+        _ => kept::PLAIN,
     }
 }
 
@@ -81,11 +75,11 @@ fn read_in(
 {
     let from = text::put_bytes(store, kept.used, name);
     match read_from(rt, name, from, store) {
-        Came::Failed(error) => Asked {
+        Err(error) => Asked {
             kept,
             file: Loaded::Failed(error),
         },
-        Came::To(end) => Asked {
+        Ok(end) => Asked {
             kept: kept::add(state_of(rt, name), Span { from, end }, kept, rows),
             file: Loaded::Kept,
         },
@@ -93,16 +87,14 @@ fn read_in(
 }
 
 // Standard input, where its lines are the batch's.
+#[tactic(auto, using(number::proofs::Choice::tests), unfolding(crate::specs::Loading::is_barred))]
 fn is_barred(in_batch: bool, name: &[u8]) -> bool
     ensures { result ≡ is_barred in_batch name.now }
 {
-    if in_batch {
-        return input::is_input(name);
-    }
-    false
+    in_batch && input::is_input(name)
 }
 
-// The file of this name. There is room for it: see `kept::with_room`.
+/// The file of this name. There is room for it: see `kept::with_room`.
 pub fn load(
     rt: &HostRuntime,
     name: &[u8],

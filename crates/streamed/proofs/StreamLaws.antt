@@ -1,5 +1,6 @@
 -- Answers that begin, and buffers of what is left.
 -- Assumes nothing.
+use Rattle.std.specs.Prelude.{None, Option, Some}
 use mathlib.Core.Path.{◌≡◌, refl, sym, ap, ◌∙◌}
 use mathlib.Core.Bool.{Bool, true, false}
 use mathlib.Core.Logic.{inr}
@@ -27,8 +28,6 @@ use Rattle.rdb_told.specs.Told.{part_text, say_part, Small}
 use Rattle.rdb_told.specs.Fills.{buffer_room, Fills}
 use Rattle.rdb_path.specs.Reached.{Checked}
 use Rattle.rdb_lines.specs.declared.Cursor.{Cursor}
-use Rattle.rdb_lines.specs.declared.Rest as paths
-use Rattle.rdb_lines.specs.declared.Rest.TheVariants.{Over, At}
 use Rattle.rdb_lines.specs.declared.Filled as wrote
 use Rattle.rdb_lines.specs.Rest as lines
 use Rattle.streamed.specs.declared.Telling.{Telling}
@@ -111,15 +110,15 @@ module _ (b : Bool) (s before : List ℕ) (x : Telling) (f : Filled) (z : Stream
 
 -- ---- paths
 
-paths_left : (b : Bool) (s : List ℕ) → Checked s → (r : paths.Rest) → lines.Near r → LeftOf b s (after_paths b r) (shown b (lines.left_in s r) ++ closing b)
+paths_left : (b : Bool) (s : List ℕ) → Checked s → (r : Option Cursor) → lines.Near r → LeftOf b s (after_paths b r) (shown b (lines.left_in s r) ++ closing b)
 unfolding after_paths lines.left_in
-paths_left b s h Over n = rest_Left b s (record { count = 0; directory = 0; pool = 0 }) (omega arith) Done [] refl
-paths_left b s h (At c) n = record { begun = record { checked = h; near = n }; whole = refl }
+paths_left b s h None n = rest_Left b s (record { count = 0; directory = 0; pool = 0 }) (omega arith) Done [] refl
+paths_left b s h (Some c) n = record { begun = record { checked = h; near = n }; whole = refl }
 
-paths_fewer : (b : Bool) (s : List ℕ) (c : Cursor) (r : paths.Rest) → lines.buffers s r < lines.buffers s (At c) → buffers s (after_paths b r) < buffers s (Paths c)
+paths_fewer : (b : Bool) (s : List ℕ) (c : Cursor) (r : Option Cursor) → lines.buffers s r < lines.buffers s (Some c) → buffers s (after_paths b r) < buffers s (Paths c)
 unfolding after_paths buffers lines.buffers turns
-paths_fewer b s c Over h = omega (arith, rest_few b (record { count = 0; directory = 0; pool = 0 }) Done)
-paths_fewer b s c (At d) h = omega arith
+paths_fewer b s c None h = omega (arith, rest_few b (record { count = 0; directory = 0; pool = 0 }) Done)
+paths_fewer b s c (Some d) h = omega arith
 
 -- a buffer was filled from a cursor on, and shown
 pub paths-Turned : (b : Bool) (s before mid : List ℕ) (c : Cursor) (f : wrote.Filled) (z : Stream) (after : List ℕ) → lines.Begun s c → lines.Fills s c before f mid → after ≡ shown b (take f.length mid) ++ drop f.length mid → z ≡ after_paths b f.rest

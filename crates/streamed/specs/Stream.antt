@@ -1,6 +1,6 @@
 -- What is left of an answer, what it begins with, and what each buffer after that gives.
 -- Assumes nothing.
-use Rattle.std.specs.Prelude.{◌≡◌, Bool, true, false, ◌⊎◌, List, ◌++◌, ℕ, ◌+◌, ◌-◌, ◌≤◌, ◌<◌, length, drop}
+use Rattle.std.specs.Prelude.{◌≡◌, Bool, true, false, ◌⊎◌, List, ◌++◌, ℕ, ◌+◌, ◌-◌, ◌≤◌, ◌<◌, length, drop, None, Option, Some}
 use Rattle.lines.specs.declared.Cursor.TheVariants.{Done}
 use Rattle.said.specs.declared.Said.{Said}
 use Rattle.said.specs.declared.Why.TheVariants.{Answered}
@@ -11,8 +11,6 @@ use Rattle.listed.specs.Rest as rest
 use Rattle.rdb_parts.specs.declared.PartAnswer.{PartAnswer}
 use Rattle.rdb_told.specs.Told.{part_text, part_why, Small}
 use Rattle.rdb_lines.specs.declared.Cursor.{Cursor}
-use Rattle.rdb_lines.specs.declared.Rest.{Rest}
-use Rattle.rdb_lines.specs.declared.Rest.TheVariants.{Over, At}
 use Rattle.rdb_lines.specs.Rest as lines
 use Rattle.streamed.specs.declared.Telling.{Telling}
 use Rattle.streamed.specs.declared.Stream.{Stream}
@@ -51,9 +49,9 @@ after_part a place true = no_rest
 after_part a place false = Part (record { answer = a; place = place })
 
 -- the rest of paths: after the last, in a batch, their line is closed
-unfoldable pub after_paths : Bool → Rest → Stream
-after_paths in_batch (At c) = Paths c
-after_paths in_batch Over = Lines (rest.rest_of (record { count = 0; directory = 0; pool = 0 }) in_batch Done)
+unfoldable pub after_paths : Bool → Option Cursor → Stream
+after_paths in_batch (Some c) = Paths c
+after_paths in_batch None = Lines (rest.rest_of (record { count = 0; directory = 0; pool = 0 }) in_batch Done)
 
 -- the line about a part of the file s, from a place on
 pub record Tells (s : List ℕ) (x : Telling) (text : List ℕ) : Type 0 where
@@ -75,7 +73,7 @@ LeftOf in_batch s (Paths c) text = Shows in_batch s c text
 unfoldable pub buffers : List ℕ → Stream → ℕ
 buffers s (Lines r) = rest.buffers r
 buffers s (Part x) = 1 + (length (part_text s x.answer) - x.place)
-buffers s (Paths c) = 2 + lines.buffers s (At c)
+buffers s (Paths c) = 2 + lines.buffers s (Some c)
 
 -- the answer x begins at the front of the buffer, nothing else was changed, and the rest is left
 abbrev pub Opens : Bool → Saying → List ℕ → List ℕ → Begun → List ℕ → Type 0

@@ -1,4 +1,4 @@
-// An answer that may be longer than a buffer: what it begins with, and what is left of it, buffer by buffer.
+//! An answer that may be longer than a buffer: what it begins with, and what is left of it, buffer by buffer.
 #![tactic(auto)]
 
 ghost use Rattle.std.specs.Prelude.{◌≡◌, List, ℕ};
@@ -11,14 +11,14 @@ use rdb_parts::PartAnswer;
 use reader::Layout;
 use said::{Said, Why};
 
-// The line about a part of a types.rdb, from byte `place` of it on.
+/// The line about a part of a types.rdb, from byte `place` of it on.
 #[derive(Clone, Copy)]
 pub struct Telling {
     pub answer: PartAnswer,
     pub place: usize,
 }
 
-// What is left: of a listing or a table of a typelib, of the line about a part of a types.rdb, or of all its paths.
+/// What is left: of a listing or a table of a typelib, of the line about a part of a types.rdb, or of all its paths.
 #[derive(Clone, Copy)]
 pub enum Stream {
     Lines(Rest),
@@ -26,28 +26,28 @@ pub enum Stream {
     Paths(rdb_lines::Cursor),
 }
 
-// What was put at the front of the text and why, and what is left after it.
+/// What was put at the front of the text and why, and what is left after it.
 #[derive(Drop)]
 pub struct Begun {
     pub said: Said,
     pub rest: Stream,
 }
 
-// How many bytes of the buffer were filled, and what is left after them.
+/// How many bytes of the buffer were filled, and what is left after them.
 #[derive(Drop)]
 pub struct Turn {
     pub length: usize,
     pub rest: Stream,
 }
 
-// Nothing is left.
+/// Nothing is left.
 pub fn no_rest() -> Stream
     ensures { result ≡ no_rest }
 {
     Stream::Lines(listed::no_rest())
 }
 
-// Whether nothing is left.
+/// Whether nothing is left.
 pub fn is_over(x: Stream) -> bool
     ensures { result ≡ is_over x }
 {
@@ -58,7 +58,7 @@ pub fn is_over(x: Stream) -> bool
     }
 }
 
-// A line that is all of the answer.
+/// A line that is all of the answer.
 pub fn said(said: Said) -> Begun
     ensures { result ≡ spoken said }
 {
@@ -68,7 +68,7 @@ pub fn said(said: Said) -> Begun
     }
 }
 
-// What a listing or a table begins with.
+/// What a listing or a table begins with.
 pub fn listing(begun: listed::Opened) -> Begun
     ensures { result ≡ listing begun }
 {
@@ -80,7 +80,7 @@ pub fn listing(begun: listed::Opened) -> Begun
     }
 }
 
-// The line about a part, which is all left.
+/// The line about a part, which is all left.
 pub fn tell(answer: PartAnswer) -> Begun
     ensures { result ≡ telling answer }
 {
@@ -93,7 +93,7 @@ pub fn tell(answer: PartAnswer) -> Begun
     }
 }
 
-// The paths of a types.rdb, which are all left.
+/// The paths of a types.rdb, which are all left.
 pub fn paths() -> Begun
     ensures { result ≡ paths }
 {
@@ -117,12 +117,12 @@ fn after_part(answer: PartAnswer, place: usize, ends: bool) -> Stream
 }
 
 // What is left of paths, and behind the last of them.
-fn after_paths(rest: rdb_lines::Rest, in_batch: bool) -> Stream
+fn after_paths(rest: Option<rdb_lines::Cursor>, in_batch: bool) -> Stream
     ensures { result ≡ after_paths in_batch rest }
 {
     match rest {
-        rdb_lines::Rest::At(c) => Stream::Paths(c),
-        rdb_lines::Rest::Over => Stream::Lines(listed::rest_of(
+        Some(c) => Stream::Paths(c),
+        None => Stream::Lines(listed::rest_of(
             Layout {
                 count: 0,
                 directory: 0,
@@ -177,7 +177,7 @@ fn go_on_paths(file: &[u8], c: rdb_lines::Cursor, in_batch: bool, out: &mut [u8;
     }
 }
 
-// The next bytes of the answer.
+/// The next bytes of the answer.
 pub fn go_on(file: &[u8], x: Stream, in_batch: bool, out: &mut [u8; 65536]) -> Turn
     requires { (text : List ℕ) × LeftOf in_batch file.now x text }
     ensures { Turned in_batch file.now x out.old result out.new }

@@ -1,5 +1,6 @@
 -- The first line of a table, and what is left after it.
 -- Assumes nothing.
+use Rattle.std.specs.Prelude.{Err, None, Ok, Option as Maybe, Result, Some, ℕ}
 use mathlib.Core.Path.{◌≡◌, refl, sym, ap, ◌∙◌}
 use mathlib.Core.Bool.{Bool, true, false}
 use mathlib.Core.List.{List, [], ◌++◌, append_assoc}
@@ -10,7 +11,6 @@ use lib.ListN.{length, take, drop}
 use Rattle.number.proofs.Choice.{both}
 use Rattle.reading.specs.Got.{got}
 use Rattle.reading.specs.declared.Refusal.{Refusal}
-use Rattle.reading.specs.declared.Verdict.TheVariants as verdict
 use Rattle.decimal.proofs.Stores.{length_kept}
 use Rattle.reader.specs.declared.Layout.{Layout}
 use Rattle.reader.specs.Values.{Typelib, entries_in, Entry}
@@ -19,8 +19,6 @@ use Rattle.reader.specs.Reader.{decode, check_of}
 use Rattle.reader.specs.Reader.Laws.{refused_decodes}
 use Rattle.reader.specs.Layout.{LaidOut}
 use Rattle.lookup.specs.declared.Slot.TheVariants.{Known, Undetermined}
-use Rattle.lookup.specs.declared.InterfaceAnswer.{InterfaceAnswer}
-use Rattle.lookup.specs.declared.InterfaceAnswer.TheVariants.{Found, None, Refused}
 use Rattle.lookup.specs.Chain.{root, unresolved, Chain, chain, ending, chain_of}
 use Rattle.lookup.specs.Method.{slot_of, total_of}
 use Rattle.lookup.specs.Question.{bad_space, bad_name, malformed, refusal, has_key, interface_where, interface_as, key_answer, slot_as}
@@ -78,7 +76,7 @@ module _ (b : Bool) (s : List ℕ) (l : Layout) (es : List (Entry ℕ)) (laid : 
       ∙ append_assoc (shown b line) (shown b rows) (closing b)
 
   -- a complete chain: the rows alone
-  pub Opens-known : (n : ℕ) → t.slot ≡ Known n → Opens b (keyed_saying b es (Found i)) s text (record { said = record { length = 0; why = Answered }; rest = r }) text
+  pub Opens-known : (n : ℕ) → t.slot ≡ Known n → Opens b (keyed_saying b es (Ok (Some i))) s text (record { said = record { length = 0; why = Answered }; rest = r }) text
   unfolding keyed_saying
   Opens-known n k = record {
     bytes = [];
@@ -93,7 +91,7 @@ module _ (b : Bool) (s : List ℕ) (l : Layout) (es : List (Entry ℕ)) (laid : 
 
   -- an incomplete one: first the line of the ancestor that is unresolved
   pub Opens-unknown : (q : ℕ) → t.slot ≡ Undetermined q → (said : Said) (mid after : List ℕ) → answer_room ≡ length mid → Says (saying (numbered undetermined q) Answered) text said mid
-      → after ≡ shown b (take said.length mid) ++ drop said.length mid → Opens b (keyed_saying b es (Found i)) s text (record { said = said; rest = r }) after
+      → after ≡ shown b (take said.length mid) ++ drop said.length mid → Opens b (keyed_saying b es (Ok (Some i))) s text (record { said = said; rest = r }) after
   unfolding keyed_saying
   Opens-unknown q k said mid after room h a = record {
     bytes = shown b (numbered undetermined q);
@@ -108,33 +106,33 @@ module _ (b : Bool) (s : List ℕ) (l : Layout) (es : List (Entry ℕ)) (laid : 
 
 -- ---- the interface of a key
 
-pub key_in_lem : (es : List (Entry ℕ)) (v w : List ℕ) (i : ℕ) → Found i ≡ key_answer es v w → InDirectory (length es) i
+pub key_in_lem : (es : List (Entry ℕ)) (v w : List ℕ) (i : ℕ) → Ok (Some i) ≡ key_answer es v w → InDirectory (length es) i
 unfolding key_answer interface_as
 key_in_lem es v w i =
-    both (λ (a : InterfaceAnswer). Found i ≡ a → InDirectory (length es) i) (bad_space v) (Refused malformed) _
+    both (λ (a : Result (Maybe ℕ) Refusal). Ok (Some i) ≡ a → InDirectory (length es) i) (bad_space v) (Err malformed) _
     (λ _ e. absurd (let z : ◌≡◌ {A = ℕ} 0 1 = cc in omega arith))
-    (λ _. both (λ (a : InterfaceAnswer). Found i ≡ a → InDirectory (length es) i) (bad_name w) (Refused malformed) _
+    (λ _. both (λ (a : Result (Maybe ℕ) Refusal). Ok (Some i) ≡ a → InDirectory (length es) i) (bad_name w) (Err malformed) _
     (λ _ e. absurd (let z : ◌≡◌ {A = ℕ} 0 1 = cc in omega arith))
     (λ _ e. go (interface_where (has_key v w) es) refl e))
   where
-    go : (o : Option ℕ) → interface_where (has_key v w) es ≡ o → Found i ≡ interface_as o → InDirectory (length es) i
+    go : (o : Option ℕ) → interface_where (has_key v w) es ≡ o → Ok (Some i) ≡ interface_as o → InDirectory (length es) i
     go none q e = absurd (let z : ◌≡◌ {A = ℕ} 0 1 = cc in omega arith)
     go (some j) q e = let z : j ≡ i = cc in rw (← z) (key_found v w es j q).0
 
 module _ (b : Bool) (s before : List ℕ) (said : Said) (rest : Rest) (after : List ℕ) where
   -- `none`, or a malformed key
-  pub Opens-none : (es : List (Entry ℕ)) (a : InterfaceAnswer) → None ≡ a → Says (say_interface None) before said after → rest ≡ no_rest → Opens b (keyed_saying b es a) s before (record { said = said; rest = rest }) after
+  pub Opens-none : (es : List (Entry ℕ)) (a : Result (Maybe ℕ) Refusal) → (Ok None) ≡ a → Says (say_interface (Ok None)) before said after → rest ≡ no_rest → Opens b (keyed_saying b es a) s before (record { said = said; rest = rest }) after
   unfolding keyed_saying
-  Opens-none es a e h k = rw (← e) (Says-Opens b (say_interface None) s before said rest after h k)
+  Opens-none es a e h k = rw (← e) (Says-Opens b (say_interface (Ok None)) s before said rest after h k)
 
-  pub Opens-malformed : (es : List (Entry ℕ)) (a : InterfaceAnswer) (x : Refusal) → Refused x ≡ a → Says (say_interface (Refused x)) before said after → rest ≡ no_rest → Opens b (keyed_saying b es a) s before (record { said = said; rest = rest }) after
+  pub Opens-malformed : (es : List (Entry ℕ)) (a : Result (Maybe ℕ) Refusal) (x : Refusal) → Err x ≡ a → Says (say_interface (Err x)) before said after → rest ≡ no_rest → Opens b (keyed_saying b es a) s before (record { said = said; rest = rest }) after
   unfolding keyed_saying
-  Opens-malformed es a x e h k = rw (← e) (Says-Opens b (say_interface (Refused x)) s before said rest after h k)
+  Opens-malformed es a x e h k = rw (← e) (Says-Opens b (say_interface (Err x)) s before said rest after h k)
 
   -- a file that is refused
-  pub Opens-refused : (v w : List ℕ) (x : Refusal) → check_of s ≡ verdict.Refused x → Says (say_interface (Refused x)) before said after → rest ≡ no_rest → Opens b (decoded_saying b (decode s) v w) s before (record { said = said; rest = rest }) after
+  pub Opens-refused : (v w : List ℕ) (x : Refusal) → check_of s ≡ Err x → Says (say_interface (Err x)) before said after → rest ≡ no_rest → Opens b (decoded_saying b (decode s) v w) s before (record { said = said; rest = rest }) after
   unfolding decoded_saying refusal
-  Opens-refused v w x e h k = rw (refused_decodes s e) (Says-Opens b (say_interface (Refused x)) s before said rest after h k)
+  Opens-refused v w x e h k = rw (refused_decodes s e) (Says-Opens b (say_interface (Err x)) s before said rest after h k)
 
 pub Opens-accepted : (b : Bool) (s before : List ℕ) (v w : List ℕ) (t : Typelib) (e : ℕ) (r : Opened) (after : List ℕ) → decode s ≡ got t e
     → Opens b (keyed_saying b (entries_in t) (key_answer (entries_in t) v w)) s before r after → Opens b (decoded_saying b (decode s) v w) s before r after

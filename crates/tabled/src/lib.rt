@@ -1,20 +1,18 @@
-// The table of an interface as an answer: its first line, where it has one, and what is left after it.
+//! The table of an interface as an answer: its first line, where it has one, and what is left after it.
 #![tactic(auto)]
 
-ghost use Rattle.std.specs.Prelude.{List, ℕ, ◌≤◌};
+ghost use Rattle.std.specs.Prelude.{List, ℕ, ◌≤◌, Ok, Some};
 ghost use Rattle.reader.specs.Values.{Entry};
 ghost use Rattle.reader.specs.Reader.{decode};
 ghost use Rattle.reader.specs.Layout.{LaidOut, Lies};
-ghost use Rattle.lookup.specs.declared.InterfaceAnswer.TheVariants.{Found};
 ghost use Rattle.lookup.specs.Question.{key_answer};
 ghost use Rattle.listed.specs.Rest.{Opens};
 ghost use Rattle.tabled.specs.Text.{keyed_saying, decoded_saying, table_saying};
 
 use lines::Cursor;
 use listed::Opened;
-use lookup::{InterfaceAnswer, Slot};
+use lookup::Slot;
 use reader::Layout;
-use reading::Verdict;
 use said::{ANSWER_ROOM, Said, Why};
 
 // The table of the interface of an index.
@@ -26,7 +24,7 @@ fn of_index(
     text: &mut [u8; ANSWER_ROOM],
 ) -> Opened
     requires { Lies file.now l × (1 ≤ index) × (index ≤ l.count) }
-    ensures { (es : List (Entry ℕ)) → LaidOut file.now l es → Opens in_batch (keyed_saying in_batch es (Found index)) file.now text.old result text.new }
+    ensures { (es : List (Entry ℕ)) → LaidOut file.now l es → Opens in_batch (keyed_saying in_batch es (Ok (Some index))) file.now text.old result text.new }
 {
     let table = slots::begin(file, l, index);
     let total = table.slot;
@@ -60,13 +58,13 @@ fn of_key(
     ensures { (es : List (Entry ℕ)) → LaidOut file.now l es → Opens in_batch (keyed_saying in_batch es (key_answer es space.now name.now)) file.now text.old result text.new }
 {
     match lookup::interfaces::by_key(file, l, space, name) {
-        InterfaceAnswer::Found(index) => of_index(file, l, index, in_batch, text),
-        InterfaceAnswer::None => Opened {
-            said: sayings::interface(InterfaceAnswer::None, text),
+        Ok(Some(index)) => of_index(file, l, index, in_batch, text),
+        Ok(None) => Opened {
+            said: sayings::interface(Ok(None), text),
             rest: listed::no_rest(),
         },
-        InterfaceAnswer::Refused(why) => Opened {
-            said: sayings::interface(InterfaceAnswer::Refused(why), text),
+        Err(why) => Opened {
+            said: sayings::interface(Err(why), text),
             rest: listed::no_rest(),
         },
     }
@@ -83,17 +81,15 @@ fn of_file(
     ensures { Opens in_batch (decoded_saying in_batch (decode file.now) space.now name.now) file.now text.old result text.new }
 {
     match reader::check(file) {
-        Verdict::Accepted(_) => {
-            of_key(file, reader::layout_of(file), space, name, in_batch, text)
-        }
-        Verdict::Refused(why) => Opened {
-            said: sayings::interface(InterfaceAnswer::Refused(why), text),
+        Ok(_) => { of_key(file, reader::layout_of(file), space, name, in_batch, text) }
+        Err(why) => Opened {
+            said: sayings::interface(Err(why), text),
             rest: listed::no_rest(),
         },
     }
 }
 
-// The table of the interface that two words name; `-` is the default namespace, and so is an empty word.
+/// The table of the interface that two words name; `-` is the default namespace, and so is an empty word.
 pub fn open(
     file: &[u8],
     space: &[u8],

@@ -1,8 +1,8 @@
 -- What the tables of a link hold.
 -- Assumes nothing.
+use Rattle.std.specs.declared.cmp.Ordering.TheVariants.{Less}
 use Rattle.std.specs.Prelude.{◌≡◌, ◌⊎◌, List, ℕ, suc, ◌+◌, ◌≤◌, ◌<◌, length, get_or}
 use Rattle.number.specs.Limits.{entry_limit}
-use Rattle.key.specs.declared.Order.TheVariants.{Before}
 use Rattle.key.specs.Key.{Key, compare_keys}
 use Rattle.key.specs.First.{first_same}
 
@@ -25,7 +25,7 @@ pub record Mates (K : ℕ → Key) (n N : ℕ) (m : ℕ → ℕ) : Type 0 where
 
 -- row i stands before row j: by number, among equal numbers by key
 abbrev pub Precedes : (ℕ → Key) → (ℕ → ℕ) → ℕ → ℕ → Type 0
-Precedes K g i j = (g i < g j) ⊎ ((g i ≡ g j) × (compare_keys (K i) (K j) ≡ Before))
+Precedes K g i j = (g i < g j) ⊎ ((g i ≡ g j) × (compare_keys (K i) (K j) ≡ Less))
 
 -- the first c of t are the rows whose key stood nowhere earlier, in this order
 pub record Ordered (K : ℕ → Key) (g : ℕ → ℕ) (N : ℕ) (t : List ℕ) (c : ℕ) : Type 0 where

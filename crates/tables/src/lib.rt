@@ -1,4 +1,4 @@
-// Tables of the rows of two files: those of the first, then those of the second.
+//! Tables of the rows of two files: those of the first, then those of the second.
 #![tactic(auto)]
 
 pub mod chains;

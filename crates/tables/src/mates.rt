@@ -1,4 +1,4 @@
-// Rows of the two files that have one key, and which of them has what g tells.
+//! Rows of the two files that have one key, and which of them has what g tells.
 ghost use Rattle.std.specs.Prelude.{◌≡◌, ℕ, ◌+◌, ◌≤◌, ◌<◌, length};
 ghost use Rattle.number.specs.Limits.{entry_limit, row_limit};
 ghost use Rattle.key.specs.Key.{Key};
@@ -22,15 +22,13 @@ fn note_mate(first: &[u16; ROW_LIMIT], n: usize, j: usize, mates: &mut [u16; ENT
     }
 }
 
-// The mates of the first file's rows, from the first row of each key.
+/// The mates of the first file's rows, from the first row of each key.
 pub fn note_mates(first: &[u16; ROW_LIMIT], n: usize, total: usize, mates: &mut [u16; ENTRY_LIMIT])
     requires { (n ≤ entry_limit) × (n ≤ total) × (total ≤ row_limit) × (row_limit ≡ length first.now) × (entry_limit ≡ length mates.old) × Filled mates.old n nothing }
     ensures { ((K : ℕ → Key) → Filled first.now total (first_same K) → TwoFiles K n total → Mates K n total (cell mates.new)) × (entry_limit ≡ length mates.new) × Past n mates.old mates.new }
 {
-    let mut j = n;
-    while j < total {
+    for j in n..total {
         note_mate(first, n, j, mates);
-        j += 1;
     }
 }
 
@@ -55,7 +53,7 @@ fn holder_of(own: &[u32; ROW_LIMIT], mates: &[u16; ENTRY_LIMIT], n: usize, i: us
     0
 }
 
-// The same of every row.
+/// The same of every row.
 pub fn note_holders(
     own: &[u32; ROW_LIMIT],
     mates: &[u16; ENTRY_LIMIT],
@@ -66,9 +64,7 @@ pub fn note_holders(
     requires { (n ≤ entry_limit) × (total ≤ row_limit) × (row_limit ≡ length own.now) × (entry_limit ≡ length mates.now) × AtMost mates.now n row_limit × (row_limit ≡ length holders.old) }
     ensures { Filled holders.new total (holder (cell own.now) (cell mates.now) n) × (row_limit ≡ length holders.new) × Past total holders.old holders.new }
 {
-    let mut i: usize = 0;
-    while i < total {
+    for i in 0..total {
         holders[i] = holder_of(own, mates, n, i);
-        i += 1;
     }
 }

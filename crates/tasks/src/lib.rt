@@ -1,5 +1,5 @@
-// What a line asks for: a command with its words, or a mistake. Words are parted by a separator, which is a space in a batch and a zero byte between
-// arguments.
+//! What a line asks for: a command with its words, or a mistake. Words are parted by a separator, which is a space in a batch and a zero byte between
+//! arguments.
 #![tactic(auto)]
 
 ghost use Rattle.std.specs.Prelude.{◌≡◌, ◌+◌, ◌≤◌};
@@ -18,9 +18,9 @@ use said::{ANSWER_ROOM, Said};
 use verbs::{Question, Verb};
 use words::Span;
 
-// What is wrong with a line; `Words` has the command whose words are not as many as it takes, or none that there is, and `TypesWords` a question about a
-// types.rdb.
-#[derive(Drop)]
+/// What is wrong with a line; `Words` has the command whose words are not as many as it takes, or none that there is, and `TypesWords` a question about a
+/// types.rdb.
+#[derive(Clone, Copy)]
 pub enum Mistake {
     Blank,
     CarriageReturn,
@@ -30,8 +30,8 @@ pub enum Mistake {
     TypesWords(SetCount, Asked),
 }
 
-// A command, a link of so many files, where they are more than two, or a question about a types.rdb, with how that is read.
-#[derive(Drop)]
+/// A command, a link of so many files, where they are more than two, or a question about a types.rdb, with how that is read.
+#[derive(Clone, Copy)]
 pub enum Task {
     Mistaken(Mistake),
     Run(Verb),
@@ -39,7 +39,7 @@ pub enum Task {
     Types(SetCount, Asked),
 }
 
-// Whether the separator is that of a batch.
+/// Whether the separator is that of a batch.
 pub fn in_batch(separator: u8) -> bool
     ensures { result ≡ in_batch separator }
 {
@@ -50,14 +50,11 @@ fn writes_file(verb: Verb) -> bool
     ensures { result ≡ writes_file verb }
 {
     match verb {
-        Verb::Ask(_) => false,
-        Verb::List => false,
-        Verb::Table => false,
         Verb::Normal => true,
         Verb::Adopt => true,
         Verb::Link => true,
         Verb::Salvage => true,
-        Verb::Unknown => false,
+        _ => false,
     }
 }
 
@@ -66,9 +63,7 @@ fn verb_in(line: &[u8], separator: u8) -> Verb
     ensures { result ≡ verb_of (word_in 0 (words_of separator line.now)) }
 {
     let first = words::word(line, separator, 0);
-    let from = first.from;
-    let end = first.end;
-    verbs::verb_of(&line[from..end])
+    verbs::verb_of(&line[first.from..first.end])
 }
 
 // Whether the line asks about a types.rdb.
@@ -76,20 +71,16 @@ fn asks_types(line: &[u8], separator: u8) -> bool
     ensures { result ≡ is_types (word_in 0 (words_of separator line.now)) }
 {
     let first = words::word(line, separator, 0);
-    let from = first.from;
-    let end = first.end;
-    rdb_tasks::is_types(&line[from..end])
+    rdb_tasks::is_types(&line[first.from..first.end])
 }
 
-// Whether `-f` stands before the files of a command that writes one.
+/// Whether `-f` stands before the files of a command that writes one.
 pub fn is_forced(line: &[u8], separator: u8) -> bool
     ensures { result ≡ is_forced (words_of separator line.now) }
 {
     if writes_file(verb_in(line, separator)) {
         let second = words::word(line, separator, 1);
-        let from = second.from;
-        let end = second.end;
-        return words::is_same(&line[from..end], b"-f");
+        return words::is_same(&line[second.from..second.end], b"-f");
     }
     false
 }
@@ -107,7 +98,7 @@ fn shift(line: &[u8], separator: u8) -> usize
     0
 }
 
-// The k-th word of the command, from 1; those before the first file are not counted.
+/// The k-th word of the command, from 1; those before the first file are not counted.
 pub fn argument(line: &[u8], separator: u8, k: usize) -> Span
     requires { k ≤ 257 }
     ensures { Spans line.now separator (k + shift (words_of separator line.now)) result }
@@ -136,14 +127,8 @@ fn other_task(verb: Verb, n: usize, more: usize) -> Task
     ensures { result ≡ other_task verb n more }
 {
     match verb {
-        Verb::Ask(question) => Task::Mistaken(Mistake::Words(Verb::Ask(question))),
-        Verb::List => Task::Mistaken(Mistake::Words(Verb::List)),
-        Verb::Table => Task::Mistaken(Mistake::Words(Verb::Table)),
-        Verb::Normal => Task::Mistaken(Mistake::Words(Verb::Normal)),
-        Verb::Adopt => Task::Mistaken(Mistake::Words(Verb::Adopt)),
         Verb::Link => pile_task(n, more),
-        Verb::Salvage => Task::Mistaken(Mistake::Words(Verb::Salvage)),
-        Verb::Unknown => Task::Mistaken(Mistake::Words(Verb::Unknown)),
+        _ => Task::Mistaken(Mistake::Words(verb)),
     }
 }
 
@@ -165,11 +150,7 @@ fn asked_in(line: &[u8], separator: u8) -> Asked
 {
     let second = words::word(line, separator, 1);
     let which = words::word(line, separator, 4);
-    let a = second.from;
-    let b = second.end;
-    let c = which.from;
-    let d = which.end;
-    rdb_tasks::asked_of(&line[a..b], &line[c..d])
+    rdb_tasks::asked_of(&line[second.from..second.end], &line[which.from..which.end])
 }
 
 // A question about a types.rdb.
@@ -177,9 +158,7 @@ fn types_task(line: &[u8], separator: u8) -> Task
     ensures { result ≡ types_task (words_of separator line.now) }
 {
     let first = words::word(line, separator, 0);
-    let from = first.from;
-    let end = first.end;
-    let m = rdb_tasks::reading_of(&line[from..end]);
+    let m = rdb_tasks::reading_of(&line[first.from..first.end]);
     let asked = asked_in(line, separator);
     if rdb_tasks::has_words(asked, words::word_count(line, separator)) {
         return Task::Types(m, asked);
@@ -203,7 +182,7 @@ fn line_task(line: &[u8]) -> Task
     if n == 0 {
         return Task::Mistaken(Mistake::Blank);
     }
-    if line[n - 1] == 13 {
+    if line[n - 1] == b'\r' {
         return Task::Mistaken(Mistake::CarriageReturn);
     }
     if verbs::has_empty_word(line, b' ') {
@@ -212,7 +191,7 @@ fn line_task(line: &[u8]) -> Task
     words_task(line, b' ')
 }
 
-// What the line asks for.
+/// What the line asks for.
 pub fn task_of(line: &[u8], separator: u8) -> Task
     ensures { result ≡ task_of separator line.now }
 {
@@ -226,18 +205,13 @@ fn files_read(verb: Verb) -> usize
     ensures { result ≡ files_read verb }
 {
     match verb {
-        Verb::Ask(_) => 1,
-        Verb::List => 1,
-        Verb::Table => 1,
-        Verb::Normal => 1,
-        Verb::Adopt => 1,
         Verb::Link => 2,
-        Verb::Salvage => 1,
         Verb::Unknown => 0,
+        _ => 1,
     }
 }
 
-// How many files it reads.
+/// How many files it reads.
 pub fn files_of(task: Task) -> usize
     ensures { result ≡ files_of task }
 {
@@ -249,7 +223,7 @@ pub fn files_of(task: Task) -> usize
     }
 }
 
-// Whether it writes a file.
+/// Whether it writes a file.
 pub fn is_writing(task: Task) -> bool
     ensures { result ≡ is_writing task }
 {
@@ -261,7 +235,7 @@ pub fn is_writing(task: Task) -> bool
     }
 }
 
-// The name of the file that the line writes, which comes after those that it reads.
+/// The name of the file that the line writes, which comes after those that it reads.
 pub fn output(line: &[u8], separator: u8) -> Span
     ensures { Spans line.now separator ((files_of (task_of separator line.now) + 1) + shift (words_of separator line.now)) result }
 {
@@ -306,7 +280,7 @@ fn usage(verb: Verb, text: &mut [u8; ANSWER_ROOM]) -> Said
     }
 }
 
-// The line that tells a mistake.
+/// The line that tells a mistake.
 pub fn tell(what: Mistake, text: &mut [u8; ANSWER_ROOM]) -> Said
     ensures { Says (mistaken (mistake_text what)) text.old result text.new }
 {

@@ -1,9 +1,8 @@
 -- What is printed of a verdict, as ASCII codes: `accepted` and the number of interfaces, or `refused`, the refusal's number and its place; then a newline. And the marks that lines of every kind are put together with.
 -- Assumes nothing.
-use Rattle.std.specs.Prelude.{List, [], ◌∷◌, ◌++◌, ℕ}
+use Rattle.reading.specs.declared.Refusal.{Refusal}
+use Rattle.std.specs.Prelude.{List, [], ◌∷◌, ◌++◌, ℕ, Err, Ok, Result}
 use Rattle.decimal.specs.Digits.{digits_of}
-use Rattle.reading.specs.declared.Verdict.{Verdict}
-use Rattle.reading.specs.declared.Verdict.TheVariants.{Accepted, Refused}
 
 -- `accepted `, with its space
 abbrev pub accepted : List ℕ
@@ -23,6 +22,6 @@ hyphen = 45 ∷ []
 abbrev pub newline : List ℕ
 newline = 10 ∷ []
 
-unfoldable pub line_of : Verdict → List ℕ
-line_of (Accepted n) = (accepted ++ digits_of n) ++ newline
-line_of (Refused why) = ((refused ++ digits_of why.no) ++ (space ++ digits_of why.place)) ++ newline
+unfoldable pub line_of : Result ℕ Refusal → List ℕ
+line_of (Ok n) = (accepted ++ digits_of n) ++ newline
+line_of (Err why) = ((refused ++ digits_of why.no) ++ (space ++ digits_of why.place)) ++ newline

@@ -1,4 +1,4 @@
-// An answer on standard output: the line that it begins with, and what is left of it.
+//! An answer on standard output: the line that it begins with, and what is left of it.
 ghost use Rattle.std.specs.Prelude.{List, ℕ, ◌≤◌};
 ghost use Rattle.said.specs.Saying.{answer_room};
 ghost use Rattle.streamed.specs.Stream.{LeftOf};
@@ -7,7 +7,7 @@ ghost use Rattle.streams.specs.Printed.{Front, Prints};
 use said::ANSWER_ROOM;
 use streamed::Stream;
 
-// The line at the front of the buffer.
+/// The line at the front of the buffer.
 pub fn put(head: &[u8; ANSWER_ROOM], n: usize) -> bool
     requires { n ≤ answer_room }
     ensures { (line : List ℕ) → Front line n head.now → Prints line result }

@@ -1,4 +1,4 @@
-// What standard output gets of a command, each line in one write, and what is said of it on standard error.
+//! What standard output gets of a command, each line in one write, and what is said of it on standard error.
 #![tactic(auto)]
 
 pub mod answer;
@@ -17,10 +17,10 @@ use failures::ROOM;
 use kept::Kept;
 use number::FILE_LIMIT;
 use said::ANSWER_ROOM;
-use saving::Saved;
+use saving::{Saved, Unsaved};
 use store::Loaded;
 
-// What standard output got: an answer, a line for a mistake in the words, or nothing any more.
+/// What standard output got: an answer, a line for a mistake in the words, or nothing any more.
 #[derive(Drop)]
 pub enum Told {
     Answer,
@@ -28,7 +28,7 @@ pub enum Told {
     Closed,
 }
 
-// What is kept after a command, and what standard output got.
+/// What is kept after a command, and what standard output got.
 #[derive(Drop)]
 pub struct Ran {
     pub kept: Kept,
@@ -44,7 +44,7 @@ fn answered(is_open: bool) -> Told
     Told::Closed
 }
 
-// Standard input has the commands.
+/// Standard input has the commands.
 pub fn say_input(text: &mut [u8; ROOM]) -> Told
     ensures { Tells (Printed input_in_batch_text) result }
 {
@@ -52,7 +52,7 @@ pub fn say_input(text: &mut [u8; ROOM]) -> Told
     answered(streams::put_error(text, n))
 }
 
-// The k-th file could not be read.
+/// The k-th file could not be read.
 pub fn say_unread(line: &[u8], separator: u8, k: usize, error: i32, text: &mut [u8; ROOM]) -> Told
     requires { (k ≤ pile_limit) × (length line.now ≤ word_limit) }
     ensures { Tells (Printed (unread_text (argument k (words_of separator line.now)) error)) result }
@@ -64,7 +64,7 @@ pub fn say_unread(line: &[u8], separator: u8, k: usize, error: i32, text: &mut [
     answered(streams::put_error(text, n))
 }
 
-// Why the k-th file is wanting.
+/// Why the k-th file is wanting.
 pub fn say_wanting(
     line: &[u8],
     separator: u8,
@@ -81,7 +81,7 @@ pub fn say_wanting(
     }
 }
 
-// What a mistake says, which stands at the front of `head`, on standard error too: of the line, or of a question about a file.
+/// What a mistake says, which stands at the front of `head`, on standard error too: of the line, or of a question about a file.
 pub fn say_mistake(
     line: &[u8],
     separator: u8,
@@ -104,7 +104,7 @@ pub fn say_mistake(
     Told::Answer
 }
 
-// The first n bytes of the output to the file that the line names.
+/// The first n bytes of the output to the file that the line names.
 pub fn save_output(
     rt: &HostRuntime,
     line: &[u8],
@@ -123,29 +123,28 @@ pub fn save_output(
 }
 
 // The line for a file that was not written.
-fn put_unsaved(saved: Saved, name: &[u8], text: &mut [u8; ROOM]) -> usize
+fn put_unsaved(why: Unsaved, name: &[u8], text: &mut [u8; ROOM]) -> usize
     requires { length name.now ≤ word_limit }
     ensures { result ≤ room }
 {
-    match saved {
-        Saved::Done => 0,
-        Saved::Taken => failures::taken(name, text),
-        Saved::NoFile => failures::no_file(name, text),
-        Saved::Failed(error) => failures::unwritten(name, error, text),
+    match why {
+        Unsaved::Taken => failures::taken(name, text),
+        Unsaved::NoFile => failures::no_file(name, text),
+        Unsaved::Failed(error) => failures::unwritten(name, error, text),
     }
 }
 
-fn say_unsaved(line: &[u8], separator: u8, saved: Saved, text: &mut [u8; ROOM]) -> Told
+fn say_unsaved(line: &[u8], separator: u8, why: Unsaved, text: &mut [u8; ROOM]) -> Told
     requires { length line.now ≤ word_limit }
 {
     let name = tasks::output(line, separator);
     let from = name.from;
     let end = name.end;
-    let n = put_unsaved(saved, &line[from..end], text);
+    let n = put_unsaved(why, &line[from..end], text);
     answered(streams::put_error(text, n))
 }
 
-// The line at the front of `head`, once its file was written.
+/// The line at the front of `head`, once its file was written.
 pub fn say_saved(
     line: &[u8],
     separator: u8,
@@ -156,13 +155,13 @@ pub fn say_saved(
 ) -> Told
     requires { (length line.now ≤ word_limit) × (n ≤ answer_room) }
 {
-    if let Saved::Done = saved {
-        return answered(answer::put(head, n));
+    match saved {
+        Ok(()) => answered(answer::put(head, n)),
+        Err(why) => say_unsaved(line, separator, why, text),
     }
-    say_unsaved(line, separator, saved, text)
 }
 
-// The line of a batch that was too long.
+/// The line of a batch that was too long.
 pub fn say_too_long(text: &mut [u8; ROOM]) -> Told
     ensures { Tells (Printed line_too_long_text) result }
 {

@@ -1,21 +1,17 @@
 -- A whole file, in the order of document 01: 1 to 8, with 29 and 30 for 6; annotations; the directory; descriptors; 18; 19.
 -- Assumes nothing.
-use Rattle.std.specs.Prelude.{◌≡◌, List, ℕ, length, drop}
+use Rattle.reading.specs.declared.Refusal.{Refusal}
+use Rattle.std.specs.Prelude.{◌≡◌, List, ℕ, length, drop, Err, Ok, Result}
 use Rattle.std.proofs.Math.Option.{Option}
 use Rattle.reading.specs.Got.{Got, got, bad, next, many}
 use Rattle.reading.specs.declared.Context.{Context}
 use Rattle.head.specs.declared.Header.{Header}
-use Rattle.head.specs.declared.Head.{Head}
-use Rattle.head.specs.declared.Head.TheVariants as head
-use Rattle.head.specs.declared.Head.TheVariants.{Read}
 use Rattle.head.specs.Header.{read_header}
 use Rattle.head.specs.Annotation.{Annotation, read_annotations, annotation_limit}
 use Rattle.directory.specs.Directory.{Row, read_directory}
 use Rattle.descriptor.specs.Descriptor.{Descriptor}
 use Rattle.typelib.specs.Entry.{Entry, read_own, entries_of, keys_in}
 use Rattle.typelib.specs.Across.{above_in, read_across}
-use Rattle.reading.specs.declared.Verdict.{Verdict}
-use Rattle.reading.specs.declared.Verdict.TheVariants.{Accepted, Refused}
 
 -- what is read before the descriptors
 pub data Front : Type 0 where
@@ -70,26 +66,26 @@ read_typelib s =
     read_behind s f e
 
 -- the answer of the check, with document 01's number and place for a refusal, n for an accepted file
-unfoldable pub verdict_of : Got Typelib → Verdict
-verdict_of (got t e) = Accepted (header_of t).count
-verdict_of (bad n q) = Refused (record { no = n; place = q })
+unfoldable pub verdict_of : Got Typelib → Result ℕ Refusal
+verdict_of (got t e) = Ok (header_of t).count
+verdict_of (bad n q) = Err (record { no = n; place = q })
 
 -- ---- the answers of parts of the code
 
 -- the header h, or the refusal of what was read
-unfoldable pub keep_head : {X : Type 0} → Header → Got X → Head
-keep_head h (got x e) = Read h
-keep_head h (bad n q) = head.Refused (record { no = n; place = q })
+unfoldable pub keep_head : {X : Type 0} → Header → Got X → Result Header Refusal
+keep_head h (got x e) = Ok h
+keep_head h (bad n q) = Err (record { no = n; place = q })
 
 -- the header that was read
-unfoldable pub front_of : Got Front → Head
-front_of (got (front h notes rows) e) = Read h
-front_of (bad n q) = head.Refused (record { no = n; place = q })
+unfoldable pub front_of : Got Front → Result Header Refusal
+front_of (got (front h notes rows) e) = Ok h
+front_of (bad n q) = Err (record { no = n; place = q })
 
 -- the number that was read
-unfoldable pub count_of : Got ℕ → Verdict
-count_of (got n e) = Accepted n
-count_of (bad n q) = Refused (record { no = n; place = q })
+unfoldable pub count_of : Got ℕ → Result ℕ Refusal
+count_of (got n e) = Ok n
+count_of (bad n q) = Err (record { no = n; place = q })
 
 -- the file s has the header h, and what stands before its descriptors was accepted
 pub record Fronted (s : List ℕ) (h : Header) : Type 0 where

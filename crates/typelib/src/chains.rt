@@ -25,10 +25,8 @@ fn note_parents(file: &[u8], pool: &[u8], n: usize, d: usize, up: &mut [u16; ROW
     requires { Lies file.now n d × Rooted file.now pool.now n d × (row_limit ≡ length up.old) }
     ensures { Filled up.new n (above_on file.now pool.now d) × (row_limit ≡ length up.new) }
 {
-    let mut k: usize = 0;
-    while k < n {
+    for k in 0..n {
         up[k] = above_entry(file, pool, n, d, k);
-        k += 1;
     }
 }
 

@@ -20,11 +20,9 @@ fn note_pointers(
     requires { Lies file.now n d × (entry_limit ≡ length spaces.old) × (entry_limit ≡ length names.old) }
     ensures { Filled spaces.new n (space_pointer file.now d) × Filled names.new n (name_pointer file.now d) × (entry_limit ≡ length spaces.new) × (entry_limit ≡ length names.new) }
 {
-    let mut k: usize = 0;
-    while k < n {
+    for k in 0..n {
         names[k] = number::u32_at(file, d + ENTRY_WIDTH * k + 16);
         spaces[k] = number::u32_at(file, d + ENTRY_WIDTH * k + 20);
-        k += 1;
     }
 }
 
@@ -39,14 +37,12 @@ fn first_lower(first: &[u16; ENTRY_LIMIT], n: usize) -> usize
     requires { (n ≤ entry_limit) × (entry_limit ≡ length first.now) }
     ensures { result ≡ scan (lower first.now) n 0 }
 {
-    let mut i: usize = 0;
-    while i < n {
+    for i in 0..n {
         if wide(first[i]) < i {
             return i;
         }
-        i += 1;
     }
-    i
+    n
 }
 
 // The lowest of n entries whose key stood earlier, or n.

@@ -10,20 +10,17 @@ ghost use Rattle.typelib.specs.Directory.{Lies, points_to};
 
 use method::BLOCK_COUNT;
 use number::{ENTRY_WIDTH, OWN_LIMIT};
-use reading::{Context, Refusal, Step};
+use reading::{Context, Refusal, Rule};
 
 // What is left of n when m is taken from it.
 fn rest(n: usize, m: usize) -> usize {
-    if n < m {
-        return 0;
-    }
-    n - m
+    n.saturating_sub(m)
 }
 
 // The verdict on an entry's descriptor, and how many bytes of the pool were read for it.
-#[derive(Drop)]
+#[derive(Clone, Copy, Debug, PartialEq, Eq)]
 struct Own {
-    step: Step,
+    step: Result<usize, Refusal>,
     size: usize,
 }
 
@@ -43,38 +40,40 @@ fn check_with(
     let q = number::u32_at(file, p + 24) as usize;
     if q == 0 {
         return Own {
-            step: Step::End(p + ENTRY_WIDTH),
+            step: Ok(p + ENTRY_WIDTH),
             size: 0,
         };
     }
     if pool.len() < q {
         return Own {
-            step: Step::Refused(Refusal {
-                no: 13,
-                place: p + 24,
-            }),
+            step: Err(Rule::Outside.at(p + 24)),
             size: 0,
         };
     }
     let r = descriptor::read_with(pool, c, q - 1, flags, names, seen);
-    let Step::End(e) = r else {
+    let Ok(e) = r else {
         return Own { step: r, size: 0 };
     };
     Own {
-        step: Step::End(p + ENTRY_WIDTH),
+        step: Ok(p + ENTRY_WIDTH),
         size: rest(e, q - 1),
     }
 }
 
 // The verdict alone, with tables of its own for the methods.
-pub fn check_again(file: &[u8], pool: &[u8], c: Context, p: usize, seen: &mut [u32]) -> Step
+pub fn check_again(
+    file: &[u8],
+    pool: &[u8],
+    c: Context,
+    p: usize,
+    seen: &mut [u32],
+) -> Result<usize, Refusal>
     requires { (p + entry_width ≤ length file.now) × (length file.now ≤ file_limit) × (c.base + length pool.now ≤ file_limit) × Remembered c pool.now seen.old }
     ensures { (result ≡ step_of (read_own c file.now pool.now p)) × Remembered c pool.now seen.new }
 {
     let mut flags = [0u8; OWN_LIMIT];
     let mut names = [0u32; OWN_LIMIT];
-    let r = check_with(file, pool, c, p, &mut flags, &mut names, seen);
-    r.step
+    check_with(file, pool, c, p, &mut flags, &mut names, seen).step
 }
 
 // Whether entry j has the descriptor pointer q.
@@ -90,14 +89,12 @@ pub fn first_pointing(file: &[u8], n: usize, d: usize, k: usize, q: u32) -> usiz
     requires { Lies file.now n d × (k ≤ n) }
     ensures { result ≡ scan (points_to file.now d q) k 0 }
 {
-    let mut j: usize = 0;
-    while j < k {
+    for j in 0..k {
         if points_to(file, n, d, j, q) {
             return j;
         }
-        j += 1;
     }
-    j
+    k
 }
 
 // Whether one of the first k entries has the pointer q, none of which points past `top`. It is sound whatever `top` is: a pointer above it is only not looked for.
@@ -130,7 +127,7 @@ fn check_once(
     let q = number::u32_at(file, p + 24);
     if stood_earlier(file, 1 + k, d, k, q, top) {
         return Own {
-            step: Step::End(p + ENTRY_WIDTH),
+            step: Ok(p + ENTRY_WIDTH),
             size: 0,
         };
     }
@@ -142,11 +139,7 @@ fn raised(file: &[u8], n: usize, d: usize, k: usize, top: u32) -> u32
     requires { Lies file.now n d × (k < n) }
     ensures { top ≤ result }
 {
-    let q = number::u32_at(file, d + ENTRY_WIDTH * k + 24);
-    if top < q {
-        return q;
-    }
-    top
+    top.max(number::u32_at(file, d + ENTRY_WIDTH * k + 24))
 }
 
 // The descriptors of n entries, which overlap: methods that were accepted are remembered.
@@ -158,23 +151,18 @@ fn check_shared(
     d: usize,
     flags: &mut [u8; OWN_LIMIT],
     names: &mut [u32; OWN_LIMIT],
-) -> Step
+) -> Result<usize, Refusal>
     requires { Lies file.now n d × (c.base + length pool.now ≤ file_limit) × (own_limit ≡ length flags.old) × (own_limit ≡ length names.old) }
     ensures { result ≡ step_of (many (read_own c file.now pool.now) n d) }
 {
     let mut seen = [0u32; BLOCK_COUNT];
-    let mut k: usize = 0;
     let mut top: u32 = 0;
-    while k < n {
-        let r = check_once(file, pool, c, d, k, top, flags, names, &mut seen);
-        let step = r.step;
-        let Step::End(e) = step else {
-            return step;
-        };
+    for k in 0..n {
+        let own = check_once(file, pool, c, d, k, top, flags, names, &mut seen);
+        own.step?;
         top = raised(file, n, d, k, top);
-        k += 1;
     }
-    Step::End(d + ENTRY_WIDTH * n)
+    Ok(d + ENTRY_WIDTH * n)
 }
 
 // The descriptors of n entries, with tables that serve each in its turn. As soon as more bytes were read than the pool has, they overlap.
@@ -186,37 +174,38 @@ fn check_each(
     d: usize,
     flags: &mut [u8; OWN_LIMIT],
     names: &mut [u32; OWN_LIMIT],
-) -> Step
+) -> Result<usize, Refusal>
     requires { Lies file.now n d × (c.base + length pool.now ≤ file_limit) × (own_limit ≡ length flags.old) × (own_limit ≡ length names.old) }
     ensures { result ≡ step_of (many (read_own c file.now pool.now) n d) }
 {
     let mut none = [0u32; 0];
-    let mut k: usize = 0;
     let mut top: u32 = 0;
     let mut left = pool.len();
-    while k < n {
+    for k in 0..n {
         if left == 0 {
             return check_shared(file, pool, c, n - k, d + ENTRY_WIDTH * k, flags, names);
         }
-        let r = check_once(file, pool, c, d, k, top, flags, names, &mut none);
-        let step = r.step;
-        let Step::End(e) = step else {
-            return step;
-        };
+        let own = check_once(file, pool, c, d, k, top, flags, names, &mut none);
+        own.step?;
         top = raised(file, n, d, k, top);
-        left = rest(left, r.size);
-        k += 1;
+        left = rest(left, own.size);
     }
-    Step::End(d + ENTRY_WIDTH * n)
+    Ok(d + ENTRY_WIDTH * n)
 }
 
 // The descriptors of n entries.
-pub fn check_descriptors(file: &[u8], pool: &[u8], c: Context, n: usize, d: usize) -> Step
+pub fn check_descriptors(
+    file: &[u8],
+    pool: &[u8],
+    c: Context,
+    n: usize,
+    d: usize,
+) -> Result<usize, Refusal>
     requires { Lies file.now n d × (c.base + length pool.now ≤ file_limit) }
     ensures { result ≡ step_of (many (read_own c file.now pool.now) n d) }
 {
     if n == 0 {
-        return Step::End(d);
+        return Ok(d);
     }
     let mut flags = [0u8; OWN_LIMIT];
     let mut names = [0u32; OWN_LIMIT];

@@ -1,41 +1,40 @@
-// Reads a type. Positions are in the pool; places are in the file.
+//! Reads a type. Positions are in the pool; places are in the file.
 #![tactic(auto)]
 
-ghost use Rattle.std.specs.Prelude.{true, ◌≡◌, ◌+◌, ◌≤◌, ◌<◌, length, get_or};
+ghost use Rattle.std.specs.Prelude.{true, ◌≡◌, ◌+◌, ◌≤◌, ◌<◌, length, get_or, IfOk, Ok};
 ghost use Rattle.number.specs.Limits.{file_limit};
 ghost use Rattle.reading.specs.Got.{step_of, byte};
 ghost use Rattle.reading.specs.declared.Context.{Context};
-ghost use Rattle.reading.specs.declared.Step.TheVariants.{End};
 ghost use Rattle.types.specs.Prefix.{pointer_bit, tag_of, array_tag};
 ghost use Rattle.types.specs.Types.{class_of, is_reserved, needs_pointer, lacks_pointer, read_index, read_rest, read_array, read_type};
 
-use reading::{Context, Refusal, Step};
+use reading::{Context, Refusal, Rule};
 
-// The bits of a prefix; its tag is what lies below the reference bit.
+/// The bits of a prefix; its tag is what lies below the reference bit.
 pub const POINTER: u8 = 0x80;
 
 pub const REFERENCE: u8 = 0x20;
 
-// Tags that rules between fields name.
+/// Tags that rules between fields name.
 pub const UINT32: u8 = 6;
 
 pub const VOID: u8 = 13;
 
 pub const IID: u8 = 14;
 
-// The tag of an array.
+/// The tag of an array.
 pub const ARRAY: u8 = 20;
 
-// The first and the last of the three more strings.
+/// The first and the last of the three more strings.
 pub const UTF8STRING: u8 = 23;
 
 pub const FURTHER_ASTRING: u8 = 25;
 
-// The minor version that brought them.
+/// The minor version that brought them.
 pub const STRINGS_MINOR: u8 = 2;
 
-// What a tag stands for.
-#[derive(Clone, Copy)]
+/// What a tag stands for.
+#[derive(Clone, Copy, Debug, PartialEq, Eq)]
 pub enum Class {
     Reserved,
     Plain,
@@ -46,177 +45,120 @@ pub enum Class {
     Sized,
 }
 
-// What a tag stands for under a minor version.
+/// What a tag stands for under a minor version.
+#[tactic(auto, using(number::proofs::Choice::tests), unfolding(crate::specs::Types::class_of))]
 pub fn tag_class(minor: usize, tag: u8) -> Class
     ensures { result ≡ class_of minor tag }
 {
     match tag {
         0..=14 => Class::Plain,
-        15 => {
-            if minor == 0 {
-                return Class::Reserved;
-            }
-            Class::Plain
-        }
+        15 if minor == 0 => Class::Reserved,
+        15 => Class::Plain,
         16..=17 => Class::Text,
         18 => Class::Interface,
         19 => Class::InterfaceIs,
         ARRAY => Class::Array,
         21..=22 => Class::Sized,
-        UTF8STRING..=FURTHER_ASTRING => {
-            if minor < STRINGS_MINOR as usize {
-                return Class::Reserved;
-            }
-            Class::Text
-        }
+        UTF8STRING..=FURTHER_ASTRING if usize::from(STRINGS_MINOR) <= minor => Class::Text,
         _ => Class::Reserved,
     }
 }
 
-// Whether a tag is reserved.
+/// Whether a tag is reserved.
+#[tactic(auto, using(number::proofs::Choice::tests), unfolding(crate::specs::Types::is_reserved))]
 pub fn is_reserved(k: Class) -> bool
     ensures { result ≡ is_reserved k }
 {
     match k {
         Class::Reserved => true,
-        Class::Plain => false,
-        Class::Text => false,
-        Class::Interface => false,
-        Class::InterfaceIs => false,
-        Class::Array => false,
-        Class::Sized => false,
+        _ => false,
     }
 }
 
-// Whether a tag needs the pointer bit.
+/// Whether a tag needs the pointer bit.
+#[tactic(auto, using(number::proofs::Choice::tests), unfolding(crate::specs::Types::needs_pointer))]
 pub fn needs_pointer(k: Class) -> bool
     ensures { result ≡ needs_pointer k }
 {
     match k {
-        Class::Reserved => false,
-        Class::Plain => false,
-        Class::Text => true,
-        Class::Interface => true,
-        Class::InterfaceIs => true,
-        Class::Array => true,
-        Class::Sized => true,
+        Class::Reserved | Class::Plain => false,
+        _ => true,
     }
 }
 
-// Whether a prefix lacks the pointer bit that its tag, or its unique or reference bit, needs.
+/// Whether a prefix lacks the pointer bit that its tag, or its unique or reference bit, needs.
+#[tactic(auto, using(number::proofs::Choice::tests), unfolding(crate::specs::Types::lacks_pointer))]
 pub fn lacks_pointer(k: Class, b: u8) -> bool
     ensures { result ≡ lacks_pointer k b }
 {
-    if POINTER <= b {
-        return false;
-    }
-    if REFERENCE <= b {
-        return true;
-    }
-    needs_pointer(k)
+    b < POINTER && (REFERENCE <= b || needs_pointer(k))
 }
 
-// An index of the directory.
-pub fn read_index(pool: &[u8], c: Context, at: usize) -> Step
+/// An index of the directory.
+#[tactic(auto, using(reading::proofs::Steps::walks, number::proofs::Choice::tests), unfolding(crate::specs::Types::read_index, reading::specs::Got::next))]
+pub fn read_index(pool: &[u8], c: Context, at: usize) -> Result<usize, Refusal>
     requires { (at ≤ length pool.now) × (c.base + length pool.now ≤ file_limit) }
     ensures { result ≡ step_of (read_index c pool.now at) }
 {
-    let base = c.base;
-    let count = c.count;
     if pool.len() < at + 2 {
-        return Step::Refused(Refusal {
-            no: 13,
-            place: base + at,
-        });
+        return Err(Rule::Outside.at(c.base + at));
     }
-    let i = number::u16_at(pool, at) as usize;
-    if i == 0 {
-        return Step::Refused(Refusal {
-            no: 15,
-            place: base + at,
-        });
+    let i = usize::from(number::u16_at(pool, at));
+    if i == 0 || c.count < i {
+        return Err(Rule::Index.at(c.base + at));
     }
-    if count < i {
-        return Step::Refused(Refusal {
-            no: 15,
-            place: base + at,
-        });
-    }
-    Step::End(at + 2)
+    Ok(at + 2)
 }
 
-// An argument number.
-fn read_number(pool: &[u8], c: Context, at: usize) -> Step
+/// An argument number.
+#[tactic(auto, using(reading::proofs::Steps::walks, number::proofs::Choice::tests), unfolding(reading::specs::Got::byte, reading::specs::Got::next))]
+fn read_number(pool: &[u8], c: Context, at: usize) -> Result<usize, Refusal>
     requires { (at ≤ length pool.now) × (c.base + length pool.now ≤ file_limit) }
-    ensures { result ≡ step_of (byte c pool.now at) }
+    ensures reads { result ≡ step_of (byte c pool.now at) }
+    ensures within { IfOk result (λ e. (e ≡ at + 1) × (e ≤ length pool.now)) }
 {
-    let base = c.base;
     if pool.len() <= at {
-        return Step::Refused(Refusal {
-            no: 13,
-            place: base + at,
-        });
+        return Err(Rule::Outside.at(c.base + at));
     }
-    Step::End(at + 1)
+    Ok(at + 1)
 }
 
-// What follows the prefix at `at`, which is of class k. No array is left here: an array is refused.
-fn read_plain(pool: &[u8], c: Context, k: Class, at: usize) -> Step
+/// What follows the prefix at `at`, which is of class k. No array is left here: an array is refused.
+#[tactic(auto, using(reading::proofs::Steps::walks, crate::proofs::Laws::rest_is), unfolding(crate::specs::Types::read_rest, crate::specs::Types::read_array, reading::specs::Got::next))]
+fn read_plain(pool: &[u8], c: Context, k: Class, at: usize) -> Result<usize, Refusal>
     requires { (at < length pool.now) × (c.base + length pool.now ≤ file_limit) }
     ensures { result ≡ step_of (read_rest (read_array 0 c pool.now) c pool.now k at (get_or pool.now at 0) (at + 1)) }
 {
-    let base = c.base;
     let e = at + 1;
     match k {
-        Class::Reserved => Step::Refused(Refusal {
-            no: 14,
-            place: base + at,
-        }),
-        Class::Plain => Step::End(e),
-        Class::Text => Step::End(e),
+        Class::Reserved => Err(Rule::Reserved.at(c.base + at)),
+        Class::Plain | Class::Text => Ok(e),
         Class::Interface => read_index(pool, c, e),
         Class::InterfaceIs => read_number(pool, c, e),
-        Class::Array => Step::Refused(Refusal {
-            no: 17,
-            place: base + at,
-        }),
+        Class::Array => Err(Rule::TooMany.at(c.base + at)),
         Class::Sized => {
-            let r = read_number(pool, c, e);
-            let Step::End(f) = r else {
-                return r;
-            };
+            let f = read_number(pool, c, e)?;
             read_number(pool, c, f)
         }
     }
 }
 
-// A type, with `left` arrays allowed one inside another.
+/// A type, with `left` arrays allowed one inside another.
 #[cycle(read_array_read_type)]
-pub fn read_type(pool: &[u8], c: Context, left: usize, at: usize) -> Step
+pub fn read_type(pool: &[u8], c: Context, left: usize, at: usize) -> Result<usize, Refusal>
     requires { (at ≤ length pool.now) × (c.base + length pool.now ≤ file_limit) × (left ≤ 8) }
     ensures { result ≡ step_of (read_type left c pool.now at) }
 {
-    let base = c.base;
-    let minor = c.minor;
     if pool.len() <= at {
-        return Step::Refused(Refusal {
-            no: 13,
-            place: base + at,
-        });
+        return Err(Rule::Outside.at(c.base + at));
     }
     let b = pool[at];
-    let k = tag_class(minor, b % REFERENCE);
+    let k = tag_class(c.minor, b % REFERENCE);
     if is_reserved(k) {
-        return Step::Refused(Refusal {
-            no: 14,
-            place: base + at,
-        });
+        return Err(Rule::Reserved.at(c.base + at));
     }
     if lacks_pointer(k, b) {
-        return Step::Refused(Refusal {
-            no: 16,
-            place: base + at,
-        });
+        return Err(Rule::Between.at(c.base + at));
     }
     match k {
         Class::Array => read_array(pool, c, left, at),
@@ -224,62 +166,38 @@ pub fn read_type(pool: &[u8], c: Context, left: usize, at: usize) -> Step
     }
 }
 
-// What follows an array's prefix at `at`: two argument numbers, and the element's type.
+/// What follows an array's prefix at `at`: two argument numbers, and the element's type.
 #[cycle(read_array_read_type)]
-fn read_array(pool: &[u8], c: Context, left: usize, at: usize) -> Step
+fn read_array(pool: &[u8], c: Context, left: usize, at: usize) -> Result<usize, Refusal>
     requires { (at < length pool.now) × (c.base + length pool.now ≤ file_limit) × (left ≤ 8) }
     ensures { result ≡ step_of (read_array left c pool.now at (get_or pool.now at 0) (at + 1)) }
 {
-    let base = c.base;
     if left == 0 {
-        return Step::Refused(Refusal {
-            no: 17,
-            place: base + at,
-        });
+        return Err(Rule::TooMany.at(c.base + at));
     }
-    let e = at + 1;
-    if pool.len() <= e {
-        return Step::Refused(Refusal {
-            no: 13,
-            place: base + e,
-        });
-    }
-    let f = e + 1;
-    if pool.len() <= f {
-        return Step::Refused(Refusal {
-            no: 13,
-            place: base + f,
-        });
-    }
-    let element = read_type(pool, c, left - 1, f + 1);
-    let Step::End(end) = element else {
-        return element;
-    };
-    Step::End(end)
+    let e = read_number(pool, c, at + 1)?;
+    let f = read_number(pool, c, e)?;
+    read_type(pool, c, left - 1, f)
 }
 
-// Whether an index of a directory of `count` entries stands at `at`.
+/// Whether an index of a directory of `count` entries stands at `at`.
+#[tactic(auto, using(reading::proofs::Steps::walks, number::proofs::Choice::tests), unfolding(crate::specs::Types::read_index, reading::specs::Got::next))]
 fn is_index(pool: &[u8], count: usize, at: usize) -> bool
     requires { at ≤ length pool.now × (length pool.now ≤ file_limit) }
-    ensures { result ≡ true → (c : Context) → c.count ≡ count → End (at + 2) ≡ step_of (read_index c pool.now at) }
+    ensures { result ≡ true → (c : Context) → c.count ≡ count → Ok (at + 2) ≡ step_of (read_index c pool.now at) }
 {
     if pool.len() < at + 2 {
         return false;
     }
-    let i = number::u16_at(pool, at) as usize;
-    if i == 0 {
-        return false;
-    }
-    if count < i {
-        return false;
-    }
-    true
+    let i = usize::from(number::u16_at(pool, at));
+    i != 0 && i <= count
 }
 
-// Where a type that is no array ends, or 0: `read_type` tells why.
+/// Where a type that is no array ends, or 0: `read_type` tells why.
+#[tactic(auto, using(reading::proofs::Steps::walks, number::proofs::Choice::tests), unfolding(reading::specs::Got::next))]
 fn plain_end(pool: &[u8], minor: usize, count: usize, left: usize, at: usize) -> usize
     requires { (at < length pool.now) × (length pool.now ≤ file_limit) }
-    ensures { (c : Context) → c.minor ≡ minor → c.count ≡ count → 0 < result → End result ≡ step_of (read_type left c pool.now at) }
+    ensures { (c : Context) → c.minor ≡ minor → c.count ≡ count → 0 < result → Ok result ≡ step_of (read_type left c pool.now at) }
 {
     let b = pool[at];
     let k = tag_class(minor, b % REFERENCE);
@@ -311,11 +229,12 @@ fn plain_end(pool: &[u8], minor: usize, count: usize, left: usize, at: usize) ->
     }
 }
 
-// Where a type ends, with `left` arrays allowed one inside another, or 0: `read_type` tells why. Numbers are handed on in registers, a context and a step are not.
+/// Where a type ends, with `left` arrays allowed one inside another, or 0: `read_type` tells why. Numbers are handed on
+/// in registers, a context and a refusal are not; with an Option the check of a file of nested arrays takes a sixth longer.
 #[cycle(array_end_type_end)]
 fn type_end(pool: &[u8], minor: usize, count: usize, left: usize, at: usize) -> usize
     requires { (at ≤ length pool.now) × (length pool.now ≤ file_limit) × (left ≤ 8) }
-    ensures { (c : Context) → c.minor ≡ minor → c.count ≡ count → 0 < result → End result ≡ step_of (read_type left c pool.now at) }
+    ensures { (c : Context) → c.minor ≡ minor → c.count ≡ count → 0 < result → Ok result ≡ step_of (read_type left c pool.now at) }
 {
     if pool.len() <= at {
         return 0;
@@ -328,11 +247,11 @@ fn type_end(pool: &[u8], minor: usize, count: usize, left: usize, at: usize) -> 
     plain_end(pool, minor, count, left, at)
 }
 
-// Where the array at `at` ends, or 0: past its two argument numbers its element is a type.
+/// Where the array at `at` ends, or 0: past its two argument numbers its element is a type.
 #[cycle(array_end_type_end)]
 fn array_end(pool: &[u8], minor: usize, count: usize, left: usize, at: usize) -> usize
     requires { (at < length pool.now) × (length pool.now ≤ file_limit) × (left ≤ 8) × (tag_of (get_or pool.now at 0) ≡ array_tag) × (pointer_bit ≤ get_or pool.now at 0) }
-    ensures { (c : Context) → c.minor ≡ minor → c.count ≡ count → 0 < result → End result ≡ step_of (read_type left c pool.now at) }
+    ensures { (c : Context) → c.minor ≡ minor → c.count ≡ count → 0 < result → Ok result ≡ step_of (read_type left c pool.now at) }
 {
     if left == 0 {
         return 0;
@@ -343,8 +262,8 @@ fn array_end(pool: &[u8], minor: usize, count: usize, left: usize, at: usize) ->
     type_end(pool, minor, count, left - 1, at + 3)
 }
 
-// A type that may hold eight arrays one inside another. The common ones are told here, where no function calls itself.
-pub fn read_outer(pool: &[u8], c: Context, at: usize) -> Step
+/// A type that may hold eight arrays one inside another. The common ones are told here, where no function calls itself.
+pub fn read_outer(pool: &[u8], c: Context, at: usize) -> Result<usize, Refusal>
     requires { (at ≤ length pool.now) × (c.base + length pool.now ≤ file_limit) }
     ensures { result ≡ step_of (read_type 8 c pool.now at) }
 {
@@ -359,15 +278,15 @@ pub fn read_outer(pool: &[u8], c: Context, at: usize) -> Step
         return read_type(pool, c, 8, at);
     }
     match k {
-        Class::Plain => Step::End(at + 1),
-        Class::Text => Step::End(at + 1),
+        Class::Plain => Ok(at + 1),
+        Class::Text => Ok(at + 1),
         Class::Interface => read_index(pool, c, at + 1),
         _ => {
             let e = type_end(pool, minor, count, 8, at);
             if e == 0 {
                 return read_type(pool, c, 8, at);
             }
-            Step::End(e)
+            Ok(e)
         }
     }
 }

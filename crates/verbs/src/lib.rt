@@ -1,4 +1,4 @@
-// The commands of the program `xpt` by name, how many words each has, and lines with an empty word.
+//! The commands of the program `xpt` by name, how many words each has, and lines with an empty word.
 #![tactic(auto)]
 
 ghost use Rattle.std.specs.Prelude.{◌≡◌};
@@ -7,8 +7,8 @@ ghost use Rattle.verbs.specs.Verbs.{member_of, question_of, verb_of, words_in};
 ghost use Rattle.verbs.specs.Empty.{has_empty};
 ghost use Rattle.verbs.specs.declared.Verb.TheVariants.{Ask};
 
-// A command that is answered from one file.
-#[derive(Clone, Copy)]
+/// A command that is answered from one file.
+#[derive(Clone, Copy, Debug, PartialEq, Eq)]
 pub enum Question {
     Check,
     Iid,
@@ -19,8 +19,8 @@ pub enum Question {
     Constant,
 }
 
-// What the first word of a command asks for.
-#[derive(Clone, Copy)]
+/// What the first word of a command asks for.
+#[derive(Clone, Copy, Debug, PartialEq, Eq)]
 pub enum Verb {
     Ask(Question),
     List,
@@ -33,6 +33,7 @@ pub enum Verb {
 }
 
 // `method`, `slot` and `const`.
+#[tactic(auto, using(number::proofs::Choice::tests), unfolding(crate::specs::Verbs::member_of))]
 fn member_of(word: &[u8]) -> Verb
     ensures { result ≡ member_of word.now }
 {
@@ -49,6 +50,7 @@ fn member_of(word: &[u8]) -> Verb
 }
 
 // Those and `check`, `iid`, `looks`, `key`.
+#[tactic(auto, using(number::proofs::Choice::tests), unfolding(crate::specs::Verbs::question_of))]
 fn question_of(word: &[u8]) -> Verb
     ensures { result ≡ question_of word.now }
 {
@@ -67,7 +69,8 @@ fn question_of(word: &[u8]) -> Verb
     member_of(word)
 }
 
-// The command of a first word.
+/// The command of a first word.
+#[tactic(auto, using(number::proofs::Choice::tests), unfolding(crate::specs::Verbs::verb_of))]
 pub fn verb_of(word: &[u8]) -> Verb
     ensures { result ≡ verb_of word.now }
 {
@@ -92,6 +95,7 @@ pub fn verb_of(word: &[u8]) -> Verb
     question_of(word)
 }
 
+#[tactic(auto, unfolding(crate::specs::Verbs::words_in))]
 fn words_asked(question: Question) -> usize
     ensures { result ≡ words_in (Ask question) }
 {
@@ -106,7 +110,8 @@ fn words_asked(question: Question) -> usize
     }
 }
 
-// How many words the command has, its own among them; 0 for an unknown one.
+/// How many words the command has, its own among them; 0 for an unknown one.
+#[tactic(auto, unfolding(crate::specs::Verbs::words_in))]
 pub fn words_of(verb: Verb) -> usize
     ensures { result ≡ words_in verb }
 {
@@ -122,19 +127,18 @@ pub fn words_of(verb: Verb) -> usize
     }
 }
 
-// Whether a word of the line is empty: a separator at an end, or two in a row; the empty line has one empty word.
+/// Whether a word of the line is empty: a separator at an end, or two in a row; the empty line has one empty word.
+#[tactic(auto, using(crate::proofs::EmptyLaws::seeking))]
 pub fn has_empty_word(line: &[u8], separator: u8) -> bool
     ensures { result ≡ has_empty (words_of separator line.now) }
 {
     let mut is_empty = true;
-    let mut i: usize = 0;
-    while i < line.len() {
-        let is_end = line[i] == separator;
+    for &byte in line {
+        let is_end = byte == separator;
         if is_end && is_empty {
             return true;
         }
         is_empty = is_end;
-        i += 1;
     }
     is_empty // the last word, which no separator ends
 }

@@ -1,5 +1,5 @@
-// A part of a long text into a lent buffer. The text is passed from its first byte on; what lies in the buffer's part of it is stored. Each function
-// answers the place after what it passed.
+//! A part of a long text into a lent buffer. The text is passed from its first byte on; what lies in the buffer's part
+//! of it is stored. Each function answers the place after what it passed.
 #![tactic(auto)]
 
 ghost use Rattle.std.specs.Prelude.{◌+◌, ◌≤◌, ◌<◌, ◌≡◌, ◌++◌, length, get_or};
@@ -19,17 +19,15 @@ fn put_byte(out: &mut [u8], from: usize, place: usize, b: u8)
     }
 }
 
-// Bytes from byte `place` on.
+/// Bytes from byte `place` on.
 pub fn put_bytes(out: &mut [u8], from: usize, place: usize, bytes: &[u8]) -> usize
     requires { place + length bytes.now ≤ text_limit }
     ensures { Passed from place bytes.now out.old result out.new }
 {
-    let mut i: usize = 0;
-    while i < bytes.len() {
+    for i in 0..bytes.len() {
         put_byte(out, from, place + i, bytes[i]);
-        i += 1;
     }
-    place + i
+    place + bytes.len()
 }
 
 // A label, and n in decimal after it, through a line of their own.
@@ -49,7 +47,7 @@ fn put_line(
     put_bytes(out, from, place, &all[..k])
 }
 
-// A label, and n in decimal after it.
+/// A label, and n in decimal after it.
 pub fn put_labelled(out: &mut [u8], from: usize, place: usize, label: &[u8], n: u64) -> usize
     requires { (length label.now ≤ 20) × (place + 40 ≤ text_limit) }
     ensures { Passed from place (label.now ++ digits_of n) out.old result out.new }
@@ -81,7 +79,7 @@ fn put_escaped(out: &mut [u8], from: usize, place: usize, bytes: &[u8], i: usize
     put_bytes(out, from, place, &four)
 }
 
-// Byte i as it is printed.
+/// Byte i as it is printed.
 pub fn put_shown_byte(out: &mut [u8], from: usize, place: usize, bytes: &[u8], i: usize) -> usize
     requires { (i < length bytes.now) × (place + length (byte_shown (get_or bytes.now i 0)) ≤ text_limit) }
     ensures { Passed from place (byte_shown (get_or bytes.now i 0)) out.old result out.new }
@@ -94,16 +92,14 @@ pub fn put_shown_byte(out: &mut [u8], from: usize, place: usize, bytes: &[u8], i
     put_escaped(out, from, place, bytes, i)
 }
 
-// Bytes as they are printed.
+/// Bytes as they are printed.
 pub fn put_shown(out: &mut [u8], from: usize, place: usize, bytes: &[u8]) -> usize
     requires { place + length (bytes_shown bytes.now) ≤ text_limit }
     ensures { Passed from place (bytes_shown bytes.now) out.old result out.new }
 {
-    let mut i: usize = 0;
     let mut at = place;
-    while i < bytes.len() {
+    for i in 0..bytes.len() {
         at = put_shown_byte(out, from, at, bytes, i);
-        i += 1;
     }
     at
 }

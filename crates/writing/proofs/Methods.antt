@@ -12,12 +12,12 @@ use Rattle.reader.specs.Values.{Param, Method, method, signature, argument_count
 use Rattle.reader.specs.Records.{Bytes, ShowsParam, ShowsMethod, ShowsConstant}
 use Rattle.reader.specs.Layout.{Ends, Tells, Rows}
 use Rattle.meaning.specs.Refs.{ParamRefs}
-use Rattle.normal.specs.BigEndian.{bytes_of}
-use Rattle.normal.specs.Size.{sum, param_size, method_size, value_width, constant_size}
-use Rattle.normal.specs.Record.{run, param_bytes, method_bytes, constant_bytes}
-use Rattle.stock.specs.Form.{run_from, methods_with, constants_with}
-use Rattle.normal.proofs.Lengths.{length_bytes, length-run, length_param, length_method, length_constant}
-use Rattle.normal.proofs.Numbers.{Bytes-read}
+use Rattle.meaning.specs.Normal.BigEndian.{bytes_of}
+use Rattle.meaning.specs.Normal.Size.{sum, param_size, method_size, value_width, constant_size}
+use Rattle.meaning.specs.Normal.Record.{run, param_bytes, method_bytes, constant_bytes}
+use Rattle.meaning.specs.Stock.Form.{run_from, methods_with, constants_with}
+use Rattle.meaning.proofs.Normal.Lengths.{length_bytes, length-run, length_param, length_method, length_constant}
+use Rattle.meaning.proofs.Normal.Numbers.{Bytes-read}
 use Rattle.writing.specs.Source.{Known, MethodFit, InTable}
 use Rattle.writing.specs.Wrote.{Room, Wrote}
 use Rattle.decimal.proofs.Stores.{chain}

@@ -8,9 +8,9 @@ use native.Mathlib.Omega.{arith}
 use lib.ListN.{set}
 use lib.Seq.{sets}
 use Rattle.decimal.proofs.Stores.{chain}
-use Rattle.normal.specs.BigEndian.{bytes_of}
-use Rattle.normal.proofs.Lengths.{length_bytes}
-use Rattle.normal.proofs.Numbers.{bytes_add}
+use Rattle.meaning.specs.Normal.BigEndian.{bytes_of}
+use Rattle.meaning.proofs.Normal.Lengths.{length_bytes}
+use Rattle.meaning.proofs.Normal.Numbers.{bytes_add}
 
 pub two_stored : (l : List ℕ) (at v : ℕ) → v < 65536 → set (set l at (v / 256)) (at + 1) (v % 256) ≡ sets l at (bytes_of 2 v)
 unfolding bytes_of

@@ -1,13 +1,13 @@
 -- A record that is shown has as many bytes in the pool as in normal form.
 -- Assumes nothing.
-pub use Rattle.normal.proofs.Ranges.{Stored-width}
+pub use Rattle.meaning.proofs.Normal.Ranges.{Stored-width}
 use mathlib.Core.Path.{◌≡◌}
 use mathlib.Core.List.{List, [], ◌∷◌}
 use Prim.Native.Nat.{ℕ, ◌+◌}
 use native.Mathlib.Omega.{arith}
 use Rattle.reader.specs.Values.{Ty, simple, interface, interface_is, array, sized, Param, param, Method, method, signature, Constant, constant, Descriptor, descriptor}
 use Rattle.reader.specs.Records.{Run, ShowsType, ShowsParam, ShowsMethod, ShowsConstant, ShowsDescriptor}
-use Rattle.normal.specs.Size.{sum, type_size, param_size, method_size, constant_size, descriptor_size}
+use Rattle.meaning.specs.Normal.Size.{sum, type_size, param_size, method_size, constant_size, descriptor_size}
 
 pub run_end : {X : Type 0} (P : ℕ → X → ℕ → Type 0) (size : X → ℕ) → ((p : ℕ) (x : X) (e : ℕ) → P p x e → e ≡ p + size x) → (p : ℕ) (xs : List X) (e : ℕ) → Run P p xs e → e ≡ p + sum size xs
 unfolding sum

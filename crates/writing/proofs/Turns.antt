@@ -7,7 +7,7 @@ use native.Mathlib.Omega.{arith}
 use lib.ListN.{length, length-append}
 use lib.Seq.{sets, length-sets}
 use Rattle.reader.specs.Layout.{Rows}
-use Rattle.normal.specs.Size.{sum}
+use Rattle.meaning.specs.Normal.Size.{sum}
 use Rattle.writing.specs.Wrote.{Room, Wrote}
 use Rattle.writing.proofs.Lent.{rest, back, lent, lent_after, length-rest}
 

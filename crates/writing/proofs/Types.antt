@@ -16,10 +16,10 @@ use Rattle.reader.specs.declared.record.Form.TheVariants.{Simple, Interface, Int
 use Rattle.reader.specs.Form.{type_form, form_of}
 use Rattle.reader.proofs.Shown.{by_form, of_form}
 use Rattle.meaning.specs.Refs.{TypeRefs, ParamRefs}
-use Rattle.normal.specs.BigEndian.{bytes_of}
-use Rattle.normal.specs.Size.{type_size, param_size}
-use Rattle.normal.specs.Record.{run, type_bytes, param_bytes}
-use Rattle.normal.proofs.Lengths.{length_bytes, length_param}
+use Rattle.meaning.specs.Normal.BigEndian.{bytes_of}
+use Rattle.meaning.specs.Normal.Size.{type_size, param_size}
+use Rattle.meaning.specs.Normal.Record.{run, type_bytes, param_bytes}
+use Rattle.meaning.proofs.Normal.Lengths.{length_bytes, length_param}
 use Rattle.writing.specs.Source.{Known, InTable}
 use Rattle.writing.specs.Wrote.{Room, Wrote}
 use Rattle.writing.proofs.Copies.{one_byte, two_bytes, three_bytes}

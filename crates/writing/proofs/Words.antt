@@ -10,8 +10,8 @@ use Rattle.number.specs.Part.{part}
 use Rattle.key.specs.Word.{Leads, word_end, word_at}
 use Rattle.key.proofs.Ends.{word_from, end_next, end_is, length_word}
 use Rattle.decimal.proofs.Stores.{snoc}
-use Rattle.normal.specs.Size.{name_size}
-use Rattle.normal.specs.Record.{name_bytes}
+use Rattle.meaning.specs.Normal.Size.{name_size}
+use Rattle.meaning.specs.Normal.Record.{name_bytes}
 
 -- a walk from p to i has met no zero byte
 pub record Walk (s : List ℕ) (p i : ℕ) : Type 0 where

@@ -1,13 +1,13 @@
-// Methods.
+//! Methods.
 ghost use Rattle.std.specs.Prelude.{◌≡◌, ◌+◌, ◌≤◌, length};
 ghost use Rattle.number.specs.Limits.{file_limit, row_limit};
 ghost use Rattle.iids.specs.Cells.{cell};
 ghost use Rattle.names.specs.Uses.{use_limit};
 ghost use Rattle.reader.specs.Records.{ShowsMethod};
 ghost use Rattle.reader.specs.Layout.{Rows};
-ghost use Rattle.normal.specs.Size.{sum, method_size};
-ghost use Rattle.normal.specs.Record.{method_bytes};
-ghost use Rattle.stock.specs.Form.{methods_with};
+ghost use Rattle.meaning.specs.Normal.Size.{sum, method_size};
+ghost use Rattle.meaning.specs.Normal.Record.{method_bytes};
+ghost use Rattle.meaning.specs.Stock.Form.{methods_with};
 ghost use Rattle.writing.specs.Source.{Known, MethodFit, renumber};
 ghost use Rattle.writing.specs.Wrote.{Room, Wrote};
 
@@ -16,7 +16,7 @@ use crate::param::{put_param, put_params};
 use names::USE_LIMIT;
 use number::ROW_LIMIT;
 
-// The method at `at`, whose name is to lie at the pool pointer q: flags, name pointer, argument count, arguments, result.
+/// The method at `at`, whose name is to lie at the pool pointer q: flags, name pointer, argument count, arguments, result.
 pub fn put_method(
     pool: &[u8],
     at: usize,
@@ -36,7 +36,7 @@ pub fn put_method(
     w + put_param(pool, at + w, place, shift, &mut out[w..])
 }
 
-// n methods from `at` on; the name of the first is use u.
+/// n methods from `at` on; the name of the first is use u.
 pub fn put_methods(
     pool: &[u8],
     n: usize,
@@ -50,12 +50,10 @@ pub fn put_methods(
     requires { Room (Rows (Known (ShowsMethod pool.now) (MethodFit shift)) n at) (sum method_size) (length out.old) × ((u + n ≤ use_limit) × ((length pool.now ≤ file_limit) × (row_limit ≡ length place.now))) }
     ensures { Wrote (Rows (Known (ShowsMethod pool.now) (MethodFit shift)) n at) (methods_with (renumber place.now shift) (cell places.now) u) out.old result out.new }
 {
-    let mut k: usize = 0;
     let mut w: usize = 0;
-    while k < n {
+    for k in 0..n {
         let q = places[u + k];
         w += put_method(pool, at + w, q, place, shift, &mut out[w..]);
-        k += 1;
     }
     w
 }

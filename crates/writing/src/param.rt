@@ -1,4 +1,4 @@
-// Types and parameters.
+//! Types and parameters.
 ghost use Rattle.std.specs.Prelude.{◌≡◌, ◌∷◌, ◌+◌, ◌≤◌, length, get_or};
 ghost use Rattle.std.proofs.lemmas.List.Edits.{sets};
 ghost use Rattle.number.specs.Limits.{file_limit, row_limit};
@@ -6,9 +6,9 @@ ghost use Rattle.number.specs.Number.{be};
 ghost use Rattle.reader.specs.Records.{ShowsType, ShowsParam};
 ghost use Rattle.reader.specs.Layout.{Rows};
 ghost use Rattle.meaning.specs.Refs.{TypeRefs, ParamRefs};
-ghost use Rattle.normal.specs.BigEndian.{bytes_of};
-ghost use Rattle.normal.specs.Size.{sum, type_size, param_size};
-ghost use Rattle.normal.specs.Record.{run, type_bytes, param_bytes};
+ghost use Rattle.meaning.specs.Normal.BigEndian.{bytes_of};
+ghost use Rattle.meaning.specs.Normal.Size.{sum, type_size, param_size};
+ghost use Rattle.meaning.specs.Normal.Record.{run, type_bytes, param_bytes};
 ghost use Rattle.writing.specs.Source.{Known, renumber, InTable};
 ghost use Rattle.writing.specs.Wrote.{Room, Wrote};
 
@@ -34,7 +34,7 @@ fn put_interface(
     3
 }
 
-// The type at `at`. An array is three bytes, and then its element.
+/// The type at `at`. An array is three bytes, and then its element.
 pub fn put_type(
     pool: &[u8],
     at: usize,
@@ -58,7 +58,7 @@ pub fn put_type(
     }
 }
 
-// The parameter at `at`: flags, type.
+/// The parameter at `at`: flags, type.
 pub fn put_param(
     pool: &[u8],
     at: usize,
@@ -73,7 +73,7 @@ pub fn put_param(
     n + put_type(pool, at + 1, place, shift, &mut out[n..])
 }
 
-// n parameters from `at` on. They have as many bytes in the pool as here.
+/// n parameters from `at` on. They have as many bytes in the pool as here.
 pub fn put_params(
     pool: &[u8],
     n: usize,
@@ -85,11 +85,9 @@ pub fn put_params(
     requires { Room (Rows (Known (ShowsParam pool.now) (ParamRefs (InTable shift))) n at) (sum param_size) (length out.old) × ((length pool.now ≤ file_limit) × (row_limit ≡ length place.now)) }
     ensures { Wrote (Rows (Known (ShowsParam pool.now) (ParamRefs (InTable shift))) n at) (run (param_bytes (renumber place.now shift))) out.old result out.new }
 {
-    let mut k: usize = 0;
     let mut w: usize = 0;
-    while k < n {
+    for _ in 0..n {
         w += put_param(pool, at + w, place, shift, &mut out[w..]);
-        k += 1;
     }
     w
 }

@@ -1,4 +1,4 @@
-// The workbench's commands on files: what the arguments ask for (crate `asking`) is run with its buffers.
+//! The workbench's commands on files: what the arguments ask for (crate `asking`) is run with its buffers.
 #![tactic(auto)]
 
 mod sessions;

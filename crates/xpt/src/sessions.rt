@@ -1,4 +1,4 @@
-// Runs of commands, with their buffers: one command, or the lines of a batch.
+//! Runs of commands, with their buffers: one command, or the lines of a batch.
 ghost use Rattle.std.specs.Prelude.{◌≡◌, true, false, ◌≤◌, length, take};
 ghost use Rattle.tasks.specs.Tasks.{task_of};
 ghost use Rattle.asks.specs.Asked.{is_asked, TookIf};
@@ -6,7 +6,6 @@ ghost use Rattle.feed.specs.Lines.{input_room};
 ghost use Rattle.feed.specs.Input.{Fed};
 ghost use Rattle.kept.specs.Table.{Tidy};
 
-use asks::Answered;
 use failures::ROOM;
 use feed::{Coming, Feed, INPUT_ROOM, Taken};
 use kept::{Kept, STORE_ROOM};
@@ -249,11 +248,11 @@ fn ask_one(rt: &HostRuntime, input: &[u8; INPUT_ROOM], n: usize, text: &mut [u8;
 {
     let all: &[u8] = input;
     match asks::run(rt, &all[..n], text) {
-        Answered::Here(told) => {
+        Some(told) => {
             finish(told, text);
             true
         }
-        Answered::Elsewhere => false,
+        None => false,
     }
 }
 
@@ -274,7 +273,7 @@ fn is_answered(
     ask_one(rt, input, n, text)
 }
 
-// A batch, or a command: a question needs no session. There is one call of `serve_all`, with no number known to the compiler, which would make two of `hold`.
+/// A batch, or a command: a question needs no session. There is one call of `serve_all`, with no number known to the compiler, which would make two of `hold`.
 pub fn serve(
     rt: &HostRuntime,
     input: &mut [u8; INPUT_ROOM],

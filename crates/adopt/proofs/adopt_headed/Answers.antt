@@ -12,12 +12,12 @@ returns-then-n-eq0 c =
 pub returns-then-field-le33 : goal.returns-then-field-le33
 returns-then-field-le33 c =
     let a = c.args in
-    answers.stops 8 24 a.out.now _ (answers.moved_low a.file.now c.u16_at-n.result c.u32_at-field.result c.u32_at-pool.result c.u16_at-n.ensures c.u32_at-field.ensures c.u32_at-pool.ensures (λ e. omega arith) (omega arith))
+    rw c.at.ensures (answers.stops 8 24 a.out.now _ (answers.moved_low a.file.now c.u16_at-n.result c.u32_at-field.result c.u32_at-pool.result c.u16_at-n.ensures c.u32_at-field.ensures c.u32_at-pool.ensures (λ e. omega arith) (omega arith)))
 
 pub returns-then-pool-start : goal.returns-then-pool-start
 returns-then-pool-start c =
     let a = c.args in
-    answers.stops 8 24 a.out.now _ (answers.moved_past a.file.now c.u16_at-n.result c.u32_at-field.result c.u32_at-pool.result c.u16_at-n.ensures c.u32_at-field.ensures c.u32_at-pool.ensures (λ e. omega arith) (omega arith) (omega arith))
+    rw c.at-then-pool-start.ensures (answers.stops 8 24 a.out.now _ (answers.moved_past a.file.now c.u16_at-n.result c.u32_at-field.result c.u32_at-pool.result c.u16_at-n.ensures c.u32_at-field.ensures c.u32_at-pool.ensures (λ e. omega arith) (omega arith) (omega arith)))
 
 pub returns : goal.returns
 returns c =

@@ -12,14 +12,14 @@ returns-then-size-gt-FILE_LIMIT c =
     let a = c.args in
     let bytes = moved_bytes a.file.now a.cut a.z a.directory in
     let e : length bytes ≡ length a.file.now + a.z = length_moved a.file.now a.z a.directory (omega arith) a.cut (omega arith) (omega arith) in
-    answers.too_long_lem bytes (length a.file.now + a.z) e a.out.now (omega arith)
+    rw c.at.ensures (answers.too_long_lem bytes (length a.file.now + a.z) e a.out.now (omega arith))
 
 pub returns-then-out-size : goal.returns-then-out-size
 returns-then-out-size c =
     let a = c.args in
     let bytes = moved_bytes a.file.now a.cut a.z a.directory in
     let e : length bytes ≡ length a.file.now + a.z = length_moved a.file.now a.z a.directory (omega arith) a.cut (omega arith) (omega arith) in
-    answers.no_room bytes (length a.file.now + a.z) e a.out.now (omega arith) (omega arith)
+    rw c.at-then-out-size.ensures (answers.no_room bytes (length a.file.now + a.z) e a.out.now (omega arith) (omega arith))
 
 pub returns : goal.returns
 returns c =

@@ -11,16 +11,16 @@ use Rattle.asks.proofs.answer_long.Goals as goal
 pub say_unread-requires : goal.say_unread-requires
 say_unread-requires c =
     let name = name_in c.args.line.now in
-    let e = to_z-of_z {w = w32} {z = c.in-Failed.error} (record { sfits = omega arith }) in
-    (c.requires.0, subst (Unread name) (sym e) (c.in-Failed.ensures name c.requires.1.1.0))
+    let e = to_z-of_z {w = w32} {z = c.in-Err.error} (record { sfits = omega arith }) in
+    (c.requires.0, subst (Unread name) (sym e) (c.in-Err.ensures name c.requires.1.1.0))
 
 pub slice_bounds-say_answer-end : goal.slice_bounds-say_answer-end
 slice_bounds-say_answer-end c =
-    let r = c.in-To.ensures (name_in c.args.line.now) c.requires.1.1.0 in
-    sym (length-take-le c.in-To.end c.go_on.new.buf r.0)
+    let r = c.in-Ok.ensures (name_in c.args.line.now) c.requires.1.1.0 in
+    sym (length-take-le c.in-Ok.end c.go_on.new.buf r.0)
 
 pub say_answer-requires : goal.say_answer-requires
 say_answer-requires c =
     let name = name_in c.args.line.now in
-    let r = c.in-To.ensures name c.requires.1.1.0 in
-    (c.requires.0, (c.requires.1.0, subst (λ (i : ℕ). FirstBytes name i (take c.in-To.end c.go_on.new.buf)) (omega (arith, c.told-long)) r.1))
+    let r = c.in-Ok.ensures name c.requires.1.1.0 in
+    (c.requires.0, (c.requires.1.0, subst (λ (i : ℕ). FirstBytes name i (take c.in-Ok.end c.go_on.new.buf)) (omega (arith, c.told-long)) r.1))

@@ -75,9 +75,6 @@ slice_bounds-put_entry-start c = omega (arith, c.requires.room, c.loop-q.invaria
 pub put_entry-requires : goal.put_entry-requires
 put_entry-requires c = rw (length-rest _ _) (omega (arith, c.requires.room, c.loop-q.invariant.same))
 
-pub overflow_add-q : goal.overflow_add-q
-overflow_add-q c = omega (arith, c.requires.listed.few)
-
 pub loop-q-preserved : goal.loop-q-preserved
 unfolding cell
 loop-q-preserved c = laws.file_next _ _ _ _ _ _ _ _ _ c.loop-q-test.true _ _ _ c.index-r.ensures c.pointer-u.ensures c.pointer.ensures _ c.space_place-space.ensures _ _ c.put_entry.new.out c.requires c.loop-q.invariant c.put_entry.ensures

@@ -2,7 +2,7 @@
 -- Assumes nothing.
 use lib.ListN.{length-set}
 use Rattle.number.proofs.Tools.{arith}
-use Rattle.normal.specs.Normal.{note_bytes}
+use Rattle.meaning.specs.Normal.Normal.{note_bytes}
 use Rattle.front.proofs.Fields as laws
 use Rattle.front.proofs.put_front.Goals as goal
 

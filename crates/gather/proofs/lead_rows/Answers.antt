@@ -7,7 +7,7 @@ use Rattle.gather.proofs.Leads as laws
 use Rattle.gather.proofs.lead_rows.Goals as goal
 
 pub loop-q-init : goal.loop-q-init
-loop-q-init c = (omega arith, (refl, fill_none _ _))
+loop-q-init c = (refl, fill_none _ _)
 
 pub offset_bounds-t-q : goal.offset_bounds-t-q
 offset_bounds-t-q c = omega (arith, c.requires.0.few)
@@ -31,16 +31,13 @@ pub offset_bounds-led-q : goal.offset_bounds-led-q
 offset_bounds-led-q c = omega (arith, c.requires.0.few)
 
 pub bounds-led-q : goal.bounds-led-q
-bounds-led-q c = omega (arith, c.requires.0.few, c.loop-q.invariant.1.0)
-
-pub overflow_add-q : goal.overflow_add-q
-overflow_add-q c = omega (arith, c.requires.0.few)
+bounds-led-q c = omega (arith, c.requires.0.few, c.loop-q.invariant.0)
 
 pub loop-q-preserved : goal.loop-q-preserved
 loop-q-preserved c =
     let i = c.loop-q.invariant in
     let a = c.args in
-    (omega arith, (simp length-set i.1.0, fill_more _ _ _ _ (omega (arith, i.1.0, c.requires.0.few)) (c.lead.ensures ∙ laws.led_row_lem a.pointers.now a.t.now a.c c.loop-q.q _ (omega arith) c.index-r.ensures a.n) i.1.1))
+    (simp length-set i.0, fill_more _ _ _ _ (omega (arith, i.0, c.requires.0.few)) (c.lead.ensures ∙ laws.led_row_lem a.pointers.now a.t.now a.c c.loop-q.q _ (omega arith) c.index-r.ensures a.n) i.1)
 
 pub returns : goal.returns
-returns c = (fill_to _ _ _ _ (omega arith) c.loop-q.invariant.1.1, omega (arith, c.loop-q.invariant.1.0))
+returns c = (fill_to _ _ _ _ (omega arith) c.loop-q.invariant.1, omega (arith, c.loop-q.invariant.0))

@@ -84,9 +84,6 @@ overflow_add-total-in-loop-q c =
 pub returns-then-total-gt-FILE_LIMIT : goal.returns-then-total-gt-FILE_LIMIT
 returns-then-total-gt-FILE_LIMIT c = (λ n us l. turns.over _ _ _ _ _ _ _ _ _ _ _ _ _ _ c.loop-q.invariant (omega arith) c.requires.0 _ _ _ _ _ c.pointer.ensures c.note_key-e.ensures c.note_body-x.ensures n us l (omega arith), simp length-set c.loop-q.invariant.sizes_long)
 
-pub overflow_add-q : goal.overflow_add-q
-overflow_add-q c = omega (arith, c.loop-q.invariant.rows)
-
 pub loop-q-preserved : goal.loop-q-preserved
 loop-q-preserved c = turns.Gone-next _ _ _ _ _ _ _ _ _ _ _ _ _ _ c.loop-q.invariant (omega arith) c.requires.0 _ _ _ _ _ c.pointer.ensures c.note_key-e.ensures c.note_body-x.ensures (omega arith)
 

@@ -5,7 +5,7 @@ use Rattle.link.proofs.Faces as faces
 use Rattle.link.proofs.link_second.Goals as goal
 
 pub link_accepted-requires : goal.link_accepted-requires
-link_accepted-requires c = (c.requires, faces.accepted _ (sym c.check.ensures.value ∙ c.in-Accepted.is))
+link_accepted-requires c = (c.requires, faces.accepted _ (sym c.check.ensures.value ∙ c.in-Ok.is))
 
-pub returns-in-Refused : goal.returns-in-Refused
-returns-in-Refused c = faces.second_refused _ (sym c.check.ensures.value ∙ c.in-Refused.is) _ c.requires _
+pub returns-in-Err : goal.returns-in-Err
+returns-in-Err c = faces.second_refused _ (sym c.check.ensures.value ∙ c.in-Err.is) _ c.requires _

@@ -9,10 +9,10 @@ use Rattle.listing.proofs.run.Goals as goal
 
 pub slice_bounds-report-end : goal.slice_bounds-report-end
 slice_bounds-report-end c =
-    let r = c.in-To.ensures (ascii "-") (same_word_lem (ascii "-") (ascii "-") refl) in
-    sym (length-take-le c.in-To.n c.read_input.new.buf r.0)
+    let r = c.in-Ok.ensures (ascii "-") (same_word_lem (ascii "-") (ascii "-") refl) in
+    sym (length-take-le c.in-Ok.n c.read_input.new.buf r.0)
 
 pub report-requires : goal.report-requires
 report-requires c =
-    let r = c.in-To.ensures (ascii "-") (same_word_lem (ascii "-") (ascii "-") refl) in
-    (subst (λ (i : ℕ). FirstBytes (ascii "-") i (take c.in-To.n c.read_input.new.buf)) (omega (arith, c.told-buf)) r.1, omega (arith, c.told-buf))
+    let r = c.in-Ok.ensures (ascii "-") (same_word_lem (ascii "-") (ascii "-") refl) in
+    (subst (λ (i : ℕ). FirstBytes (ascii "-") i (take c.in-Ok.n c.read_input.new.buf)) (omega (arith, c.told-buf)) r.1, omega (arith, c.told-buf))

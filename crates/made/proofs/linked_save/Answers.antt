@@ -4,10 +4,10 @@ use Rattle.number.proofs.Tools.{refl}
 use Rattle.made.specs.Made.{linked_save}
 use Rattle.made.proofs.linked_save.Goals as goal
 
-pub returns-in-Written : goal.returns-in-Written
+pub returns-in-Ok : goal.returns-in-Ok
 unfolding linked_save
-returns-in-Written c = rw c.in-Written.is refl
+returns-in-Ok c = rw c.in-Ok.is refl
 
-pub returns-in-Refused : goal.returns-in-Refused
+pub returns-in-Err : goal.returns-in-Err
 unfolding linked_save
-returns-in-Refused c = rw c.in-Refused.is refl
+returns-in-Err c = rw c.in-Err.is refl

@@ -47,9 +47,6 @@ returns-then-row_newer c =
     let j = rows.read_holder _ _ _ _ v.1 _ _ i.1 c.index.ensures in
     laws.look_hit _ _ _ _ _ c.loop-q.invariant m _ _ i.0 j.0 _ c.row_newer.ensures c.if-row_newer.true
 
-pub overflow_add-q : goal.overflow_add-q
-overflow_add-q c = omega (arith, c.requires.1.few)
-
 pub loop-q-preserved : goal.loop-q-preserved
 loop-q-preserved c =
     let v = c.requires in

@@ -1,6 +1,5 @@
 -- `minor::view_minor` meets its contract.
 -- Assumes nothing.
-use Rattle.std.specs.Prelude.{◌-◌}
 use Rattle.iids.specs.Cells.{cell}
 use Rattle.rows.specs.Files.{HoldBoth}
 use Rattle.minor.proofs.Minors as laws
@@ -8,6 +7,3 @@ use Rattle.minor.proofs.view_minor.Given as goal
 
 abbrev pub invariant-loop-q : goal.invariant-loop-q
 invariant-loop-q l = laws.Looked (HoldBoth l.a l.pool l.l l.b l.pool2 l.l2) (cell l.holders) l.t l.c l.q
-
-abbrev pub decreases-loop-q : goal.decreases-loop-q
-decreases-loop-q l = l.c - l.q

@@ -3,10 +3,10 @@
 use Rattle.outcomes.specs.Lines.{linked_text, say_linked, linked_why}
 use Rattle.outcomes.proofs.linked.Goals as goal
 
-pub returns-in-Written : goal.returns-in-Written
+pub returns-in-Ok : goal.returns-in-Ok
 unfolding say_linked linked_text linked_why
-returns-in-Written c = rw c.in-Written.is c.numbered.ensures
+returns-in-Ok c = rw c.in-Ok.is c.numbered.ensures
 
-pub returns-in-Refused : goal.returns-in-Refused
+pub returns-in-Err : goal.returns-in-Err
 unfolding say_linked linked_text linked_why
-returns-in-Refused c = rw c.in-Refused.is c.link_refused.ensures
+returns-in-Err c = rw c.in-Err.is c.link_refused.ensures

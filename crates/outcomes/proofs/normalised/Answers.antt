@@ -3,10 +3,10 @@
 use Rattle.outcomes.specs.Lines.{normalised_text, say_normalised, normalised_why}
 use Rattle.outcomes.proofs.normalised.Goals as goal
 
-pub returns-in-Written : goal.returns-in-Written
+pub returns-in-Ok : goal.returns-in-Ok
 unfolding say_normalised normalised_text normalised_why
-returns-in-Written c = rw c.in-Written.is c.numbered.ensures
+returns-in-Ok c = rw c.in-Ok.is c.numbered.ensures
 
-pub returns-in-Refused : goal.returns-in-Refused
+pub returns-in-Err : goal.returns-in-Err
 unfolding say_normalised normalised_text normalised_why
-returns-in-Refused c = rw c.in-Refused.is c.refused.ensures
+returns-in-Err c = rw c.in-Err.is c.refused.ensures

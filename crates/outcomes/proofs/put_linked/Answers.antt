@@ -8,10 +8,10 @@ use Rattle.outcomes.proofs.put_linked.Goals as goal
 pub bounds-answer-1 : goal.bounds-answer-1
 bounds-answer-1 c = simp length-set (omega arith)
 
-pub returns-in-Written : goal.returns-in-Written
+pub returns-in-Ok : goal.returns-in-Ok
 unfolding link_numbers
-returns-in-Written c = rw c.in-Written.is refl
+returns-in-Ok c = rw c.in-Ok.is refl
 
-pub returns-in-Refused : goal.returns-in-Refused
+pub returns-in-Err : goal.returns-in-Err
 unfolding link_numbers
-returns-in-Refused c = rw c.in-Refused.is c.put_link_refusal.ensures
+returns-in-Err c = rw c.in-Err.is c.put_link_refusal.ensures

@@ -3,8 +3,8 @@
 use Rattle.pile.proofs.Faces.{grown_written, grown_refused}
 use Rattle.pile.proofs.grow.Goals as goal
 
-pub returns-in-Written : goal.returns-in-Written
-returns-in-Written c = grown_written _ _ _ c.in-Written.is
+pub returns-in-Ok : goal.returns-in-Ok
+returns-in-Ok c = grown_written _ _ _ c.in-Ok.is
 
-pub returns-in-Refused : goal.returns-in-Refused
-returns-in-Refused c = grown_refused _ _ _ _ c.in-Refused.is c.next_step-step.ensures
+pub returns-in-Err : goal.returns-in-Err
+returns-in-Err c = grown_refused _ _ _ _ c.in-Err.is c.next_step-step.ensures

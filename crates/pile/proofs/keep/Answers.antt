@@ -6,7 +6,7 @@ use Rattle.pile.proofs.Faces as faces
 use Rattle.pile.proofs.keep.Goals as goal
 
 pub keep_accepted-requires : goal.keep_accepted-requires
-keep_accepted-requires c = accepted _ (sym c.check.ensures.value ∙ c.in-Accepted.is)
+keep_accepted-requires c = accepted _ (sym c.check.ensures.value ∙ c.in-Ok.is)
 
-pub returns-in-Refused : goal.returns-in-Refused
-returns-in-Refused c = faces.whole_refused _ (sym c.check.ensures.value ∙ c.in-Refused.is) _
+pub returns-in-Err : goal.returns-in-Err
+returns-in-Err c = faces.whole_refused _ (sym c.check.ensures.value ∙ c.in-Err.is) _

@@ -79,9 +79,6 @@ overflow_add-w-in-loop-q-3 c =
     let n = laws.own_done _ _ _ _ _ _ _ _ _ _ _ c.requires.0 m _ c.pointer-b.ensures _ c.pointed.ensures c.put_own-w.new.out _ c.put_own-w.ensures in
     omega (arith, (laws.store_within _ _ _ _ _ _ _ _ _ _ _ c.requires.0 n).1)
 
-pub overflow_add-q : goal.overflow_add-q
-overflow_add-q c = omega (arith, c.requires.0.tabled.few)
-
 pub loop-q-preserved : goal.loop-q-preserved
 loop-q-preserved c =
     let m = laws.uses_done _ _ _ _ _ _ _ _ _ _ _ c.requires.0 c.loop-q.invariant c.loop-q-test.true _ c.pointer-e.ensures c.put_uses-w.new.out _ c.put_uses-w.ensures in

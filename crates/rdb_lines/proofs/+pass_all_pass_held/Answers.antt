@@ -63,12 +63,6 @@ pass_all-pass_held-q-requires t c =
     let e = c.pointer-o.ensures ∙ c.le32_at.ensures in
     (omega arith, (Ready-longer a.file.now a.places a.depth a.at c.loop-i.i c.longer-path.ensures w.0 (omega (arith, w.1)) w.2.1.holds.keyed c.loop-i-test.true c.pass_line-line.ensures.1, omega (arith, w.1), (w.2.0, entity_Visited w.2.0 a.file.now a.at a.n c.loop-i.i w.2.1 c.loop-i-test.true e)))
 
-pub pass_all-overflow_add-i : goal.pass_all-overflow_add-i
-pass_all-overflow_add-i t c = omega (arith, c.loop-i-test.true, c.ranges.n)
-
-pub pass_all-loop-i-smaller : goal.pass_all-loop-i-smaller
-pass_all-loop-i-smaller t c = omega (arith, c.loop-i-test.true)
-
 pub pass_all-loop-i-preserved : goal.pass_all-loop-i-preserved
 pass_all-loop-i-preserved t c =
     let a = c.args in

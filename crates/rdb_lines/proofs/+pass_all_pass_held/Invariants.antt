@@ -14,8 +14,5 @@ decreases-pass_all l = l.left + l.left + 1
 abbrev pub invariant-pass_all-loop-i : goal.invariant-pass_all-loop-i
 invariant-pass_all-loop-i l = (l.i ≤ l.n) × Fit l.from l.q × Going l.from (entity_lines (held_lines l.left l.file) l.file (words_at l.file l.places l.depth) l.at l.n 0) l.initial.q l.initial.out (entity_lines (held_lines l.left l.file) l.file (words_at l.file l.places l.depth) l.at (l.n - l.i) l.i) l.q l.out
 
-abbrev pub decreases-pass_all-loop-i : goal.decreases-pass_all-loop-i
-decreases-pass_all-loop-i l = l.n - l.i
-
 abbrev pub decreases-pass_held : goal.decreases-pass_held
 decreases-pass_held l = l.left + l.left

@@ -1,4 +1,4 @@
--- `rdb_lines::pass_constants` meets its contract. The loop's invariant: the lines from entry i on are left. The measure is how many they are.
+-- `rdb_lines::pass_constants` meets its contract. The loop's invariant: the lines from entry i on are left.
 -- Assumes nothing.
 use Rattle.std.specs.Prelude.{◌≡◌, ◌-◌}
 use Rattle.number.proofs.Tools.{ap, ◌∙◌, ℕ, arith}

@@ -16,4 +16,4 @@ returns-in-1 c = second_reading _ _ _ (omega arith) c.check-in-1.ensures
 
 pub returns-in_default : goal.returns-in_default
 unfolding check_by malformed refusal
-returns-in_default c = no_reading _ _ _ (λ e. omega arith) (λ e. omega arith) refl
+returns-in_default c = no_reading _ _ _ (λ e. omega arith) (λ e. omega arith) (rw c.at.ensures refl)

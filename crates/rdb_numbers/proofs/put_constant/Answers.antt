@@ -16,4 +16,4 @@ returns-in-1 c = then_numbers _ constant_numbers _ _ c.put_asked-in-1.ensures (s
 
 pub returns-in_default : goal.returns-in_default
 unfolding constant_by malformed refusal
-returns-in_default c = refused_numbers _ _ _ c.put_refusal.ensures (no_reading _ _ _ (λ e. omega arith) (λ e. omega arith) refl)
+returns-in_default c = refused_numbers _ _ _ c.put_refusal.ensures (no_reading _ _ _ (λ e. omega arith) (λ e. omega arith) (rw c.at.ensures refl))

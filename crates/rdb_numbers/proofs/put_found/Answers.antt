@@ -8,12 +8,12 @@ use Rattle.rdb_numbers.proofs.put_found.Goals as goal
 
 pub put_stored-requires : goal.put_stored-requires
 unfolding constant_numbers
-put_stored-requires c = (omega arith, constant_stands _ _ c.constant_at.ensures c.requires.1 c.in-At.is)
+put_stored-requires c = (omega arith, constant_stands _ _ c.constant_at.ensures c.requires.1 c.in-Some.is)
 
-pub returns-in-At : goal.returns-in-At
+pub returns-in-Some : goal.returns-in-Some
 unfolding constant_numbers
-returns-in-At c = then_numbers _ constant_numbers _ _ c.put_stored.ensures (constant_there _ _ c.constant_at.ensures c.in-At.is refl)
+returns-in-Some c = then_numbers _ constant_numbers _ _ c.put_stored.ensures (constant_there _ _ c.constant_at.ensures c.in-Some.is refl)
 
-pub returns-in-Nowhere : goal.returns-in-Nowhere
+pub returns-in-None : goal.returns-in-None
 unfolding constant_numbers
-returns-in-Nowhere c = rw (← constant_absent _ _ c.constant_at.ensures c.in-Nowhere.is) refl
+returns-in-None c = rw (← constant_absent _ _ c.constant_at.ensures c.in-None.is) refl

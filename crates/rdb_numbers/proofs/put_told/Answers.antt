@@ -1,5 +1,6 @@
 -- `rdb_numbers::put_told` meets its contract.
 -- Assumes nothing.
+use Rattle.std.specs.Prelude.{◌≡◌, Some, None}
 use lib.ListN.{length-set}
 use Rattle.number.proofs.Tools.{arith, refl}
 use Rattle.rdb_numbers.specs.Numbers.{entity_numbers}
@@ -13,14 +14,18 @@ pub bounds-answer-2 : goal.bounds-answer-2
 unfolding entity_numbers
 bounds-answer-2 c = simp length-set (omega arith)
 
-pub returns-in-Found : goal.returns-in-Found
+pub returns-in-Ok-Some : goal.returns-in-Ok-Some
 unfolding entity_numbers
-returns-in-Found c = rw c.in-Found.is refl
+returns-in-Ok-Some c =
+    let e : c.in-Ok-Some.field-0 ≡ Some c.in-Ok-Some.x = rw c.in-Ok-Some.is at c.in-Ok-Some.field-0-is in
+    rw (c.in-Ok-Some.is, e) refl
 
-pub returns-in-None : goal.returns-in-None
+pub returns-in-Ok-None : goal.returns-in-Ok-None
 unfolding entity_numbers
-returns-in-None c = rw c.in-None.is refl
+returns-in-Ok-None c =
+    let e : c.in-Ok-None.field-0 ≡ None = rw c.in-Ok-None.is at c.in-Ok-None.field-0-is in
+    rw (c.in-Ok-None.is, e) refl
 
-pub returns-in-Refused : goal.returns-in-Refused
+pub returns-in-Err : goal.returns-in-Err
 unfolding entity_numbers
-returns-in-Refused c = rw c.in-Refused.is c.put_refusal.ensures
+returns-in-Err c = rw c.in-Err.is c.put_refusal.ensures

@@ -5,10 +5,10 @@ use Rattle.said.specs.Saying.{say_verdict, verdict_why}
 use Rattle.rdb_said.specs.Sayings.{check_saying}
 use Rattle.rdb_said.proofs.check.Goals as goal
 
-pub returns-in-Accepted : goal.returns-in-Accepted
+pub returns-in-Ok : goal.returns-in-Ok
 unfolding check_saying say_verdict verdict_why line_of
-returns-in-Accepted c = rw (← c.check.ensures, c.in-Accepted.is) c.numbered.ensures
+returns-in-Ok c = rw (← c.check.ensures, c.in-Ok.is) c.numbered.ensures
 
-pub returns-in-Refused : goal.returns-in-Refused
+pub returns-in-Err : goal.returns-in-Err
 unfolding check_saying say_verdict verdict_why
-returns-in-Refused c = rw (← c.check.ensures, c.in-Refused.is) c.refused.ensures
+returns-in-Err c = rw (← c.check.ensures, c.in-Err.is) c.refused.ensures

@@ -1,6 +1,7 @@
 -- Document 01, "Marked cases" P1 to P11, the second file of P13, and P3 with minor 2, as one table, proved by one claim.
 -- Assumes nothing.
-use Rattle.std.specs.Prelude.{◌≡◌, refl, List, [], ◌∷◌, ◌++◌, map, ℕ, get_or, take, set}
+use Rattle.reading.specs.declared.Refusal.{Refusal}
+use Rattle.std.specs.Prelude.{◌≡◌, refl, List, [], ◌∷◌, ◌++◌, map, ℕ, get_or, take, set, Err, Ok, Result}
 use Rattle.std.proofs.Common.{ap}
 use Rattle.std.proofs.Math.Option.{none, some}
 use Rattle.number.specs.Choice.{when◌then◌else◌, ◌<?◌, ◌≤?◌, ◌=?◌, ◌≠?◌}
@@ -25,8 +26,6 @@ use Rattle.descriptor.specs.Descriptor.{descriptor, parent_of, indexed, read_par
 use Rattle.typelib.specs.Entry.{entry, entry_key, entry_descriptor, read_own, entries_of, no_entry, keys_in, descriptor_in}
 use Rattle.typelib.specs.Across.{repeated, first_repeated, parent_index, above, above_in, chain_ends, circles, first_circling, read_across}
 use Rattle.typelib.specs.Typelib.{Typelib, typelib, pool_of, context_of, read_listed, read_front, read_descriptors, header_of, read_behind, read_typelib, verdict_of}
-use Rattle.reading.specs.declared.Verdict.{Verdict}
-use Rattle.reading.specs.declared.Verdict.TheVariants.{Accepted, Refused}
 use Rattle.reader.specs.Reader.{decode, check_of}
 
 -- ---- the files
@@ -175,11 +174,11 @@ unfolding table
 decodes3newer = decodes_to 12
 
 -- the same as answers of the check
-abbrev refused : ℕ → ℕ → Verdict
-refused n q = Refused (record { no = n; place = q })
+abbrev refused : ℕ → ℕ → Result ℕ Refusal
+refused n q = Err (record { no = n; place = q })
 
-unfoldable pub verdicts : List Verdict
-verdicts = Accepted 0 ∷ Accepted 1 ∷ Accepted 1 ∷ refused 29 20 ∷ refused 5 17 ∷ refused 1 31 ∷ refused 19 36 ∷ refused 15 66 ∷ refused 16 76 ∷ refused 14 79 ∷ refused 12 60 ∷ Accepted 1 ∷ Accepted 1 ∷ []
+unfoldable pub verdicts : List (Result ℕ Refusal)
+verdicts = Ok 0 ∷ Ok 1 ∷ Ok 1 ∷ refused 29 20 ∷ refused 5 17 ∷ refused 1 31 ∷ refused 19 36 ∷ refused 15 66 ∷ refused 16 76 ∷ refused 14 79 ∷ refused 12 60 ∷ Ok 1 ∷ Ok 1 ∷ []
 
 pub answers : map (λ (c : Case). check_of c.file) table ≡ verdicts
 unfolding table verdicts says1 says2 says3 says13 says3newer check_of verdict_of header_of

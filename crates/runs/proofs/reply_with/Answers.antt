@@ -12,7 +12,7 @@ say_reply-requires c =
     ((p.0, o.fits), (p.1.0, (o.rest, o.left)))
 
 pub save_output-saved-requires : goal.save_output-saved-requires
-save_output-saved-requires c = subst (SavedIn file_limit) c.in-FirstBytes.is c.answer_kept-reply.ensures.0
+save_output-saved-requires c = subst (SavedIn file_limit) c.in-Some.is c.answer_kept-reply.ensures.0
 
 pub say_saved-told-requires : goal.say_saved-told-requires
 say_saved-told-requires c = (c.requires.0, c.answer_kept-reply.ensures.1.opens.fits)

@@ -5,7 +5,7 @@ use Rattle.typelib.proofs.FrontLaws.{fronted, front_bad}
 use Rattle.salvage.proofs.salvage_in.Goals as goal
 
 pub salvage_front-requires : goal.salvage_front-requires
-salvage_front-requires c = (fronted _ c.check_front.ensures _ c.in-Read.is, c.requires)
+salvage_front-requires c = (fronted _ c.check_front.ensures _ c.in-Ok.is, c.requires)
 
-pub returns-in-Refused : goal.returns-in-Refused
-returns-in-Refused c = refuses _ _ _ (front_refused _ _ _ (front_bad _ c.check_front.ensures _ c.in-Refused.is))
+pub returns-in-Err : goal.returns-in-Err
+returns-in-Err c = refuses _ _ _ (front_refused _ _ _ (front_bad _ c.check_front.ensures _ c.in-Err.is))

@@ -4,10 +4,10 @@ use Rattle.number.proofs.Tools.{refl}
 use Rattle.streamed.specs.Stream.{after_paths}
 use Rattle.streamed.proofs.after_paths.Goals as goal
 
-pub returns-in-At : goal.returns-in-At
+pub returns-in-Some : goal.returns-in-Some
 unfolding after_paths
-returns-in-At c = rw c.in-At.is refl
+returns-in-Some c = rw c.in-Some.is refl
 
-pub returns-in-Over : goal.returns-in-Over
+pub returns-in-None : goal.returns-in-None
 unfolding after_paths
-returns-in-Over c = rw (c.in-Over.is, c.rest_of.ensures) refl
+returns-in-None c = rw (c.in-None.is, c.rest_of.ensures) refl

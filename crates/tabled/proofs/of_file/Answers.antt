@@ -9,22 +9,22 @@ use Rattle.tabled.proofs.of_file.Goals as goal
 pub layout_of-requires : goal.layout_of-requires
 layout_of-requires c =
     let a = c.args in
-    let r = accepted_decodes a.file.now (sym c.check.ensures.value ∙ c.in-Accepted.is) in
+    let r = accepted_decodes a.file.now (sym c.check.ensures.value ∙ c.in-Ok.is) in
     (r.0, r.1, r.2)
 
 pub of_key-requires : goal.of_key-requires
 of_key-requires c =
     let a = c.args in
-    let r = accepted_decodes a.file.now (sym c.check.ensures.value ∙ c.in-Accepted.is) in
+    let r = accepted_decodes a.file.now (sym c.check.ensures.value ∙ c.in-Ok.is) in
     record { entries = entries_in r.0; laid = c.layout_of.ensures r.0 r.1 r.2 }
 
-pub returns-in-Accepted : goal.returns-in-Accepted
-returns-in-Accepted c =
+pub returns-in-Ok : goal.returns-in-Ok
+returns-in-Ok c =
     let a = c.args in
-    let r = accepted_decodes a.file.now (sym c.check.ensures.value ∙ c.in-Accepted.is) in
+    let r = accepted_decodes a.file.now (sym c.check.ensures.value ∙ c.in-Ok.is) in
     Opens-accepted a.in_batch a.file.now a.text.now a.space.now a.name.now r.0 r.1 c.of_key.result _ r.2 (c.of_key.ensures (entries_in r.0) (c.layout_of.ensures r.0 r.1 r.2))
 
-pub returns-in-Refused : goal.returns-in-Refused
-returns-in-Refused c =
+pub returns-in-Err : goal.returns-in-Err
+returns-in-Err c =
     let a = c.args in
-    Opens-refused a.in_batch a.file.now a.text.now c.interface.result c.no_rest.result _ a.space.now a.name.now c.in-Refused.why (sym c.check.ensures.value ∙ c.in-Refused.is) c.interface.ensures c.no_rest.ensures
+    Opens-refused a.in_batch a.file.now a.text.now c.interface.result c.no_rest.result _ a.space.now a.name.now c.in-Err.why (sym c.check.ensures.value ∙ c.in-Err.is) c.interface.ensures c.no_rest.ensures

@@ -6,7 +6,7 @@ use Rattle.number.proofs.Tools.{arith}
 use Rattle.joining.proofs.union.write_union.Goals as goal
 
 pub returns-then-c-gt-ENTRY_LIMIT : goal.returns-then-c-gt-ENTRY_LIMIT
-returns-then-c-gt-ENTRY_LIMIT c = stops 25 0 _ c.stop.ensures (writes.stop_25 _ _ _ _ _ _ _ _ _ _ _ _ c.requires.1 (omega arith))
+returns-then-c-gt-ENTRY_LIMIT c = stops 25 0 _ (cc) (writes.stop_25 _ _ _ _ _ _ _ _ _ _ _ _ c.requires.1 (omega arith))
 
 pub lead_view-requires : goal.lead_view-requires
 lead_view-requires c =
@@ -26,26 +26,26 @@ put_file-requires c =
     let m = c.view_minor-minor.ensures in
     (record { value = _; shown = writes.ready _ _ _ _ _ _ _ _ _ _ _ _ p.1 few _ _ _ _ l m p.0.value p.0.shown }, (c.lead_view.ensures.1.0, p.6))
 
-pub returns-in-Long : goal.returns-in-Long
-returns-in-Long c =
+pub returns-in-Err-Long : goal.returns-in-Err-Long
+returns-in-Err-Long c =
     let p = c.requires in
     let few = c.if-c-gt-ENTRY_LIMIT.false in
     let l = c.lead_view.ensures.0 in
     let m = c.view_minor-minor.ensures in
-    writes.ends_26 _ _ _ _ _ _ _ _ _ _ _ _ p.1 few _ _ c.put_file.result (λ x h. c.put_file.ensures _ (writes.ready _ _ _ _ _ _ _ _ _ _ _ _ p.1 few _ _ _ _ l m x h)) c.in-Long.is c.stop-in-Long.ensures
+    writes.ends_26 _ _ _ _ _ _ _ _ _ _ _ _ p.1 few _ _ c.put_file.result (λ x h. c.put_file.ensures _ (writes.ready _ _ _ _ _ _ _ _ _ _ _ _ p.1 few _ _ _ _ l m x h)) (cc) (cc)
 
-pub returns-in-Short : goal.returns-in-Short
-returns-in-Short c =
+pub returns-in-Err-Short : goal.returns-in-Err-Short
+returns-in-Err-Short c =
     let p = c.requires in
     let few = c.if-c-gt-ENTRY_LIMIT.false in
     let l = c.lead_view.ensures.0 in
     let m = c.view_minor-minor.ensures in
-    writes.ends_27 _ _ _ _ _ _ _ _ _ _ _ _ p.1 few _ _ c.put_file.result (λ x h. c.put_file.ensures _ (writes.ready _ _ _ _ _ _ _ _ _ _ _ _ p.1 few _ _ _ _ l m x h)) _ c.in-Short.is c.stop-in-Short.ensures
+    writes.ends_27 _ _ _ _ _ _ _ _ _ _ _ _ p.1 few _ _ c.put_file.result (λ x h. c.put_file.ensures _ (writes.ready _ _ _ _ _ _ _ _ _ _ _ _ p.1 few _ _ _ _ l m x h)) c.in-Err-Short.size (cc) (cc)
 
-pub returns-in-Done : goal.returns-in-Done
-returns-in-Done c =
+pub returns-in-Ok : goal.returns-in-Ok
+returns-in-Ok c =
     let p = c.requires in
     let few = c.if-c-gt-ENTRY_LIMIT.false in
     let l = c.lead_view.ensures.0 in
     let m = c.view_minor-minor.ensures in
-    writes.ends_written _ _ _ _ _ _ _ _ _ _ _ _ p.1 few _ _ c.put_file.result (λ x h. c.put_file.ensures _ (writes.ready _ _ _ _ _ _ _ _ _ _ _ _ p.1 few _ _ _ _ l m x h)) _ c.in-Done.is
+    writes.ends_written _ _ _ _ _ _ _ _ _ _ _ _ p.1 few _ _ c.put_file.result (λ x h. c.put_file.ensures _ (writes.ready _ _ _ _ _ _ _ _ _ _ _ _ p.1 few _ _ _ _ l m x h)) _ c.in-Ok.is

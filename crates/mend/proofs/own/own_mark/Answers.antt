@@ -7,16 +7,16 @@ use Rattle.number.proofs.Tools.{arith}
 use Rattle.mend.proofs.own.own_mark.Goals as goal
 
 pub parent_of-requires : goal.parent_of-requires
-parent_of-requires c = (c.requires.0, omega arith, accepted _ c.in-End.is c.check_again.ensures.0)
+parent_of-requires c = (c.requires.0, omega arith, accepted _ c.in-Ok.is c.check_again.ensures.0)
 
-pub returns-in-End : goal.returns-in-End
+pub returns-in-Ok : goal.returns-in-Ok
 unfolding own_mark own_up
-returns-in-End c =
+returns-in-Ok c =
     let own = c.check_again.ensures in
-    (mark_end _ (accepted _ c.in-End.is own.0) c.parent_of.ensures, own.1)
+    (mark_end _ (accepted _ c.in-Ok.is own.0) c.parent_of.ensures, own.1)
 
-pub returns-in-Refused : goal.returns-in-Refused
+pub returns-in-Err : goal.returns-in-Err
 unfolding own_mark
-returns-in-Refused c =
+returns-in-Err c =
     let own = c.check_again.ensures in
-    (mark_refused _ _ c.in-Refused.is own.0, own.1)
+    (mark_refused _ _ c.in-Err.is own.0, own.1)

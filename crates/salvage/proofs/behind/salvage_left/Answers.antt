@@ -12,8 +12,8 @@ normalise_accepted-requires c = let e = c.mend_copy.ensures in let l : Lent = re
 pub put_reports-changed-requires : goal.put_reports-changed-requires
 put_reports-changed-requires c = let e = c.mend_copy.ensures in let q = long_lists _ _ _ c.requires.4 in ((fronted_header _ _ c.requires.0).few, directory_low _ _ c.requires.0, e.2, e.3, e.4, judged_Parents _ _ c.requires.0 _ _ _ e.0, q.0, q.1, q.2)
 
-pub returns-in-Written : goal.returns-in-Written
-returns-in-Written c = let e = c.mend_copy.ensures in let l : Lent = record { indexes = c.args.indexes.now; numbers = c.args.numbers.now; places = c.args.places.now; out = c.args.out.now } in ends_written _ _ c.requires.0 _ c.requires.1 c.requires.3 l c.requires.4 (record { small = λ i. omega (arith, c.type_inv.file i) }) _ _ _ e.0 _ e.1 _ _ c.normalise_accepted.ensures.0 c.normalise_accepted.ensures.1 c.in-Written.is c.put_reports-changed.ensures.0 c.put_reports-changed.ensures.1 c.put_reports-changed.ensures.2 c.put_reports-changed.ensures.3
+pub returns-in-Ok : goal.returns-in-Ok
+returns-in-Ok c = let e = c.mend_copy.ensures in let l : Lent = record { indexes = c.args.indexes.now; numbers = c.args.numbers.now; places = c.args.places.now; out = c.args.out.now } in ends_written _ _ c.requires.0 _ c.requires.1 c.requires.3 l c.requires.4 (record { small = λ i. omega (arith, c.type_inv.file i) }) _ _ _ e.0 _ e.1 _ _ c.normalise_accepted.ensures.0 c.normalise_accepted.ensures.1 c.in-Ok.is c.put_reports-changed.ensures.0 c.put_reports-changed.ensures.1 c.put_reports-changed.ensures.2 c.put_reports-changed.ensures.3
 
-pub returns-in-Refused : goal.returns-in-Refused
-returns-in-Refused c = let e = c.mend_copy.ensures in let l : Lent = record { indexes = c.args.indexes.now; numbers = c.args.numbers.now; places = c.args.places.now; out = c.args.out.now } in ends_refused _ _ c.requires.0 _ c.requires.1 c.requires.3 l c.requires.4 (record { small = λ i. omega (arith, c.type_inv.file i) }) _ _ _ e.0 _ e.1 _ c.normalise_accepted.ensures.0 c.normalise_accepted.ensures.1 c.in-Refused.is
+pub returns-in-Err : goal.returns-in-Err
+returns-in-Err c = let e = c.mend_copy.ensures in let l : Lent = record { indexes = c.args.indexes.now; numbers = c.args.numbers.now; places = c.args.places.now; out = c.args.out.now } in ends_refused _ _ c.requires.0 _ c.requires.1 c.requires.3 l c.requires.4 (record { small = λ i. omega (arith, c.type_inv.file i) }) _ _ _ e.0 _ e.1 _ c.normalise_accepted.ensures.0 c.normalise_accepted.ensures.1 c.in-Err.is

@@ -1,17 +1,13 @@
 -- `writing::constant::put_constants` meets its contract.
 -- Assumes nothing.
-use Rattle.std.specs.Prelude.{◌-◌}
 use Rattle.number.proofs.Tools.{ℕ}
 use Rattle.iids.specs.Cells.{cell}
 use Rattle.reader.specs.Records.{ShowsConstant}
-use Rattle.normal.specs.Size.{constant_size}
-use Rattle.normal.specs.Record.{constant_bytes}
-use Rattle.stock.specs.Form.{constants_with}
+use Rattle.meaning.specs.Normal.Size.{constant_size}
+use Rattle.meaning.specs.Normal.Record.{constant_bytes}
+use Rattle.meaning.specs.Stock.Form.{constants_with}
 use Rattle.writing.proofs.Turns as turns
 use Rattle.writing.proofs.constant.put_constants.Given as goal
 
 abbrev pub invariant-loop-k : goal.invariant-loop-k
 invariant-loop-k l = turns.Writing (ShowsConstant l.pool) (λ (j : ℕ). constant_bytes (cell l.places j)) (constants_with (cell l.places)) constant_size l.n l.at l.u l.initial.out l.k l.w l.out
-
-abbrev pub decreases-loop-k : goal.decreases-loop-k
-decreases-loop-k l = l.n - l.k

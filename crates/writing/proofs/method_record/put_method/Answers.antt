@@ -4,7 +4,7 @@ use lib.ListN.{length-take, length-drop}
 use Rattle.std.specs.Prelude.{◌+◌}
 use Rattle.number.proofs.Tools.{arith, refl}
 use Rattle.number.specs.Part.{part}
-use Rattle.normal.proofs.Lengths.{length_param}
+use Rattle.meaning.proofs.Normal.Lengths.{length_param}
 use Rattle.writing.specs.Source.{renumber}
 use Rattle.writing.proofs.Turns as turns
 use Rattle.writing.proofs.Lent.{back, lent}

@@ -1,7 +1,7 @@
 -- `writing::param::put_type` meets its contract. The measure is the number of the pool's bytes from `at` on.
 -- Assumes nothing.
 use Rattle.number.proofs.Tools.{arith, sym, ◌∙◌}
-use Rattle.normal.proofs.Lengths.{length_type}
+use Rattle.meaning.proofs.Normal.Lengths.{length_type}
 use Rattle.reader.specs.declared.record.Form.TheVariants.{Simple, Interface, InterfaceIs, Array, Sized}
 use Rattle.writing.specs.Source.{renumber}
 use Rattle.writing.proofs.Sources.{Room-lent}

@@ -1,7 +1,7 @@
 -- `writing::param::put_param` meets its contract.
 -- Assumes nothing.
 use Rattle.number.proofs.Tools.{arith}
-use Rattle.normal.proofs.Lengths.{length_type}
+use Rattle.meaning.proofs.Normal.Lengths.{length_type}
 use Rattle.writing.specs.Source.{renumber}
 use Rattle.writing.proofs.Turns as turns
 use Rattle.writing.proofs.Sources.{Room-lent}

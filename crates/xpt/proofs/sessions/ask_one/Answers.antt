@@ -13,14 +13,14 @@ slice_bounds-run-end c = sym (length-take-le c.args.n c.args.input.now (omega ar
 pub run-requires : goal.run-requires
 run-requires c = rw (length-take-le c.args.n c.args.input.now (omega arith)) (omega arith)
 
-pub returns-in-Here : goal.returns-in-Here
-returns-in-Here c =
+pub returns-in-Some : goal.returns-in-Some
+returns-in-Some c =
     let a = c.args in
     let line = take a.n a.input.now in
-    Took-here line (is_asked (task_of 0 line)) c.run.result c.in-Here.told c.in-Here.is c.run.ensures
+    Took-here line (is_asked (task_of 0 line)) c.run.result c.in-Some.told c.in-Some.is c.run.ensures
 
-pub returns-in-Elsewhere : goal.returns-in-Elsewhere
-returns-in-Elsewhere c =
+pub returns-in-None : goal.returns-in-None
+returns-in-None c =
     let a = c.args in
     let line = take a.n a.input.now in
-    Took-elsewhere line (is_asked (task_of 0 line)) c.run.result c.in-Elsewhere.is c.run.ensures
+    Took-elsewhere line (is_asked (task_of 0 line)) c.run.result c.in-None.is c.run.ensures
