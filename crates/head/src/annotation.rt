@@ -7,7 +7,9 @@ ghost use Rattle.head.specs.Annotation.{read_char, read_text, read_body, read_an
 use super::Header;
 use reading::{Refusal, Rule};
 
-/// `n` characters of a text of the annotation at `place`.
+/// `n` characters of a text of the annotation at `place`. Inlined, as `read_text` is: the room of an answer that a call
+/// fills is cleared for each annotation, also for those without texts.
+#[inline(always)]
 #[tactic(auto, using(crate::proofs::TextLaws::chars))]
 fn read_chars(
     file: &[u8],
@@ -32,6 +34,7 @@ fn read_chars(
 }
 
 /// A text of the annotation at `place`.
+#[inline(always)]
 #[tactic(auto, using(reading::proofs::Steps::walks, crate::proofs::TextLaws::text_step), unfolding(crate::specs::Annotation::read_text))]
 fn read_text(file: &[u8], place: usize, limit: usize, at: usize) -> Result<usize, Refusal>
     requires { (at ≤ limit) × (limit ≤ length file.now) × (length file.now ≤ file_limit) }
