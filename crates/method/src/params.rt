@@ -58,7 +58,9 @@ pub fn read_param(pool: &[u8], c: Context, res: bool, at: usize) -> Result<usize
     if wrong_param(res, f) {
         return Err(Rule::Between.at(c.base + at));
     }
-    types::read_type(pool, c, 8, at + 1)
+    // answered anew: handed on, an answer is copied through memory
+    let end = types::read_type(pool, c, 8, at + 1)?;
+    Ok(end)
 }
 
 // The same, for one caller, in which it is inlined: what is refused is told by the function above.

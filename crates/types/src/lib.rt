@@ -45,21 +45,31 @@ pub enum Class {
     Sized,
 }
 
-/// What a tag stands for under a minor version.
+/// What a tag stands for under a minor version. The minor is tested inside its arms: guards would make a chain of tests
+/// of one jump by the tag, for each type that a link compares.
 #[tactic(auto, using(number::proofs::Choice::tests), unfolding(crate::specs::Types::class_of))]
 pub fn tag_class(minor: usize, tag: u8) -> Class
     ensures { result ≡ class_of minor tag }
 {
     match tag {
         0..=14 => Class::Plain,
-        15 if minor == 0 => Class::Reserved,
-        15 => Class::Plain,
+        15 => {
+            if minor == 0 {
+                return Class::Reserved;
+            }
+            Class::Plain
+        }
         16..=17 => Class::Text,
         18 => Class::Interface,
         19 => Class::InterfaceIs,
         ARRAY => Class::Array,
         21..=22 => Class::Sized,
-        UTF8STRING..=FURTHER_ASTRING if usize::from(STRINGS_MINOR) <= minor => Class::Text,
+        UTF8STRING..=FURTHER_ASTRING => {
+            if minor < usize::from(STRINGS_MINOR) {
+                return Class::Reserved;
+            }
+            Class::Text
+        }
         _ => Class::Reserved,
     }
 }
@@ -177,7 +187,9 @@ fn read_array(pool: &[u8], c: Context, left: usize, at: usize) -> Result<usize, 
     }
     let e = read_number(pool, c, at + 1)?;
     let f = read_number(pool, c, e)?;
-    read_type(pool, c, left - 1, f)
+    // answered anew: handed on, an answer is copied through memory
+    let end = read_type(pool, c, left - 1, f)?;
+    Ok(end)
 }
 
 /// Whether an index of a directory of `count` entries stands at `at`.
