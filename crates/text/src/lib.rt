@@ -10,14 +10,16 @@ ghost use Rattle.text.specs.Hex.{hex_digit, hex_of};
 
 use reading::Refusal;
 
-/// The bytes of s from `at` on.
+/// The bytes of s from `at` on. A loop: `copy_from_slice` becomes a call of memmove, a name that callers of the library
+/// for C would have to bring.
 pub fn put_bytes(out: &mut [u8], at: usize, s: &[u8]) -> usize
     requires { at + length s.now ≤ length out.old }
     ensures { (result ≡ at + length s.now) × (out.new ≡ sets out.old at s.now) }
 {
-    let end = at + s.len();
-    out[at..end].copy_from_slice(s);
-    end
+    for i in 0..s.len() {
+        out[at + i] = s[i];
+    }
+    at + s.len()
 }
 
 /// A label from `at` on, and n in decimal after it.
