@@ -1,7 +1,8 @@
 //! What stands at a path, by asking the system: lstat of the name, and of where a symbolic link leads.
 #![tactic(auto)]
 
-ghost use Rattle.std.specs.Prelude.{◌≤◌, ◌<◌, length};
+ghost use Rattle.std.specs.Prelude.{◌≡◌, ◌≤◌, ◌<◌, length, pos};
+ghost use Rattle.looking.specs.Reason.{reason_of};
 
 use standing::{Seen, Stands};
 use std::fs::OpenOptions;
@@ -11,7 +12,8 @@ use std::rt::Files;
 
 /// What an error of std's says, as errno's number; an error of the device where it says none.
 pub fn reason(number: Option<i32>) -> u32
-    ensures { result < 2147483648 }
+    ensures value { pos result ≡ reason_of number }
+    ensures within { result < 2147483648 }
 {
     let error = paths::errno(number);
     if error <= 0 {
