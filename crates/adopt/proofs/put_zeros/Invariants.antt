@@ -1,4 +1,4 @@
--- `adopt::put_zeros` meets its contract. The loop's invariant: i zero bytes are stored from `at` on. The measure is what is left of n.
+-- `adopt::put_zeros` meets its contract. The loop's invariant: i zero bytes are stored from `at` on.
 -- Assumes nothing.
 use lib.ListN.{replicate}
 use lib.Seq.{sets}
